@@ -1,0 +1,78 @@
+-- The example is a run.
+use Rattle.std.proofs.Common.{◌≡◌, ℕ, true≢false, refl, ap, [], ◌∷◌, Some, None, Ok, lit<, nat_cmp, ◌==◌}
+use Rattle.std.specs.FinMap.{get, insert, remove, empty, get-empty, get-insert, get-remove}
+use Rattle.std.specs.Cmp.{nat_cmp_total}
+use Rattle.event_manager.specs.Registrations.{Registrations}
+use Rattle.event_manager.specs.Exchange.{by_agreement, call_for}
+use Rattle.event_manager.specs.Iteration.{ManagerState}
+use Rattle.event_manager.specs.Trace.{HasEffect, new_state}
+use Rattle.event_manager.specs.declared.events.Request.TheVariants.{Add, Remove}
+use Rattle.event_manager.specs.Example.{three, joins, iterates, any_begins, any_serves, any_may}
+
+not_end : ¬ (◌≡◌ {A = ℕ} 3 9)
+not_end e = true≢false (ap (λ x. 3 == x) e)
+
+-- the registrations after a join, and after the exchanges
+abbrev joined : ManagerState ℕ
+joined = record {
+  registry = record { values = insert empty 1 0; next = 2; registrations = record { owner = insert empty 3 1; endpoint = 9; pending = [] } };
+  taken = 0;
+}
+
+pub example_joins : HasEffect any_begins any_serves any_may (new_state 9) joins joined
+example_joins = (
+  (
+    record { owner = insert empty 3 1; endpoint = 9; pending = [] },
+    lit< tt,
+    refl,
+    (call_for (Add three) (Ok tt) ∷ [], [], record { owner = insert empty 3 1; endpoint = 9; pending = [] }, refl, by_agreement (get-empty nat_cmp 3, not_end) refl refl refl, (refl, refl)),
+    tt,
+    refl,
+  ),
+  refl,
+)
+
+-- after the exchanges in the first event
+abbrev removed : Registrations
+removed = record { owner = remove (insert empty 3 1) 3; endpoint = 9; pending = [] }
+
+abbrev added : Registrations
+added = record { owner = insert (remove (insert empty 3 1) 3) 3 1; endpoint = 9; pending = [] }
+
+abbrev turned : ManagerState ℕ
+turned = record { registry = record { values = insert (insert empty 1 0) 1 1; next = 2; registrations = added }; taken = 0 }
+
+held : get joined.registry.registrations.owner 3 ≡ Some 1
+held = get-insert nat_cmp_total empty 3 1 3
+
+unregister_descriptor : get removed.owner 3 ≡ None
+unregister_descriptor = get-remove nat_cmp_total joined.registry.registrations.owner 3 3
+
+pub example_turns : HasEffect any_begins any_serves any_may joined iterates turned
+example_turns = (
+  turned.registry,
+  (
+    refl,
+    (
+      turned.registry,
+      (
+        0,
+        added,
+        (held, refl, get-insert nat_cmp_total empty 1 0 1),
+        tt,
+        (
+          call_for (Remove three) (Ok tt) ∷ [],
+          call_for (Add three) (Ok tt) ∷ [],
+          removed,
+          refl,
+          by_agreement held refl refl refl,
+          (call_for (Add three) (Ok tt) ∷ [], [], added, refl, by_agreement (unregister_descriptor, not_end) refl refl refl, (refl, refl)),
+        ),
+        refl,
+      ),
+      (turned.registry, ((λ i v for. true≢false for.1), refl), refl),
+    ),
+  ),
+  (λ all. refl),
+  refl,
+)

@@ -1,0 +1,152 @@
+-- What one id does leaves the others as they were; exchanges join; leaving frees exactly its own.
+use Rattle.std.proofs.Common.{◌≡◌, ◌≢◌, ℕ, ◌==◌, cond, Bool, true, false, not, refl, sym, ◌∙◌, ap, subst, Some, None, Option, inl, inr, nat_cmp, List, [], ◌∷◌, ◌++◌, filter, true≢false, if◌then◌else◌, eq-eqb, eqb-true, ◌↔◌, append_assoc, arith}
+use Rattle.std.specs.FinMap.{FinMap, get, insert, remove, get-insert, get-remove}
+use Rattle.std.specs.Ordering.{eq_by_cmp}
+use Rattle.std.specs.Cmp.{nat_cmp_total}
+use Rattle.std.proofs.lemmas.Bool.Decides.{eqb_tells, nat_tests}
+use Rattle.event_manager.specs.Event.{Event}
+use Rattle.event_manager.specs.Registrations.{Registrations, Owns, not_on}
+use Rattle.event_manager.specs.PollerCall.{PollerCall}
+use Rattle.event_manager.specs.Exchange.{Answer, Exchanges, Fits, by_manager, by_poller, by_agreement, ExchangesFit, ReachesPoller, registrations_after}
+use Rattle.event_manager.specs.Registry.{Registry, Step, Joined, NotJoined, Left, NotLeft, Replaced, NotReplaced, Requested, NotRequested, Steps, is_id, without_owner}
+use Rattle.event_manager.specs.Dispatch.{Position, To, IsOutcome, still_pending}
+use Rattle.event_manager.specs.Projection.{names}
+use Rattle.event_manager.specs.Guarantees.{pending_of, IsUntouched, FreesExactly}
+use Rattle.event_manager.specs.declared.events.Request.{Request}
+use Rattle.event_manager.specs.declared.events.Request.TheVariants.{Add, Modify, Remove}
+use Rattle.event_manager.proofs.FiniteMaps.{fd_tells, get-without_owner, nat_tied}
+
+-- exchanges join
+pub exchanges_join : (i : ℕ) (before mid after : Registrations) (exchanges more : Exchanges) (calls rest : List PollerCall) → ExchangesFit i before exchanges calls mid → ExchangesFit i mid more rest after → ExchangesFit i before (exchanges ++ more) (calls ++ rest) after
+exchanges_join i before mid after [] more calls rest h k =
+    subst (λ b. ExchangesFit i b more (calls ++ rest) after) h.1 (subst (λ xs. ExchangesFit i mid more (xs ++ rest) after) (sym h.0) k)
+exchanges_join i before mid after (exchange ∷ exchanges) more calls rest (first, then_asked, next, joined, fits, others) k =
+    (first, then_asked ++ rest, next, ap (λ xs. xs ++ rest) joined ∙ append_assoc first then_asked rest, fits, exchanges_join i next mid after exchanges more then_asked rest others k)
+
+-- leaving
+frees_answer : (i : ℕ) (o : Option ℕ) → cond (not (is_id i o)) o None ≡ (if is_id i o then None else o)
+frees_answer i None = refl
+frees_answer i (Some j) = elim (j == i) as (λ b. cond (not b) (Some j) None ≡ (if b then None else Some j)) [ true ↦ refl | false ↦ refl ]
+
+pub frees_exactly : (i : ℕ) (registrations : Registrations) → FreesExactly i registrations (record registrations { owner = without_owner i registrations.owner })
+frees_exactly i registrations fd = get-without_owner i registrations.owner fd ∙ frees_answer i (get registrations.owner fd)
+
+-- what j has of a registrations
+pub record IsKept (j : ℕ) (before after : Registrations) : Type 0 where
+  pub same : (fd : ℕ) → is_id j (get after.owner fd) ≡ is_id j (get before.owner fd)
+  pub same_pending : pending_of j after ≡ pending_of j before
+
+is_own : (j : ℕ) (o p : Option ℕ) → is_id j o ≡ is_id j p → o ≡ Some j → p ≡ Some j
+is_own j o None e h = absurd (true≢false (sym (ap (is_id j) h ∙ eq-eqb j j refl) ∙ e))
+is_own j o (Some k) e h = ap Some (eqb-true k j (sym e ∙ ap (is_id j) h ∙ eq-eqb j j refl))
+
+pub kept_owns : (j : ℕ) (before after : Registrations) → IsKept j before after → (fd : ℕ) → Owns j after fd ↔ Owns j before fd
+kept_owns j before after k fd = ((λ h. is_own j _ _ (k.same fd) h), λ h. is_own j _ _ (sym (k.same fd)) h)
+
+pub kept_refl : (j : ℕ) (registrations : Registrations) → IsKept j registrations registrations
+kept_refl j registrations = record { same = λ fd. refl; same_pending = refl }
+
+kept_trans : (j : ℕ) (a b c : Registrations) → IsKept j a b → IsKept j b c → IsKept j a c
+kept_trans j a b c h k = record { same = λ fd. k.same fd ∙ h.same fd; same_pending = k.same_pending ∙ h.same_pending }
+
+filter_same : (p q : Event → Bool) (events : List Event) → ((e : Event) → p e ≡ q e) → filter p events ≡ filter q events
+filter_same p q [] same = refl
+filter_same p q (e ∷ events) same = (λ k. cond (same e k) (e ∷ filter_same p q events same k) (filter_same p q events same k))
+
+-- events that j doesn't own go
+filter_not_on : (p : Event → Bool) (fd : ℕ) (events : List Event) → ((e : Event) → e.fd ≡ fd → p e ≡ false) → filter p (not_on fd events) ≡ filter p events
+filter_not_on p fd [] apart = refl
+filter_not_on p fd (e ∷ events) apart = elim (fd_tells e.fd fd) [
+  | inl t ↦ ap (λ b. filter p (cond (not b) (e ∷ not_on fd events) (not_on fd events))) t.2 ∙ filter_not_on p fd events apart ∙ sym (ap (λ b. cond b (e ∷ filter p events) (filter p events)) (apart e t.1))
+  | inr t ↦ ap (λ b. filter p (cond (not b) (e ∷ not_on fd events) (not_on fd events))) t.2 ∙ ap (λ es. cond (p e) (e ∷ es) es) (filter_not_on p fd events apart)
+]
+
+insert_unseen : (i j : ℕ) (owner : FinMap nat_cmp ℕ) (fd : ℕ) → j ≢ i → get owner fd ≡ None → (q : ℕ) → is_id j (get (insert owner fd i) q) ≡ is_id j (get owner q)
+insert_unseen i j owner fd differ unregister_descriptor q = elim (fd_tells q fd) [
+  | inl t ↦
+      let e : get (insert owner fd i) q ≡ Some i = get-insert nat_cmp_total owner fd i q ∙ ap (λ b. cond b (Some i) (get owner q)) t.0 in
+      let f : get owner q ≡ None = ap (get owner) t.1 ∙ unregister_descriptor in
+      ap (is_id j) e ∙ elim (eqb_tells i j) [ inl p ↦ absurd (differ (sym p.1)) | inr p ↦ p.0 ] ∙ sym (ap (is_id j) f)
+  | inr t ↦ ap (is_id j) (get-insert nat_cmp_total owner fd i q ∙ ap (λ b. cond b (Some i) (get owner q)) t.0)
+]
+
+remove_unseen : (i j : ℕ) (owner : FinMap nat_cmp ℕ) (fd : ℕ) → j ≢ i → get owner fd ≡ Some i → (q : ℕ) → is_id j (get (remove owner fd) q) ≡ is_id j (get owner q)
+remove_unseen i j owner fd differ held q = elim (fd_tells q fd) [
+  | inl t ↦
+      let e : get (remove owner fd) q ≡ None = get-remove nat_cmp_total owner fd q ∙ ap (λ b. cond b None (get owner q)) t.0 in
+      let f : get owner q ≡ Some i = ap (get owner) t.1 ∙ held in
+      ap (is_id j) e ∙ sym (ap (is_id j) f ∙ elim (eqb_tells i j) [ inl p ↦ absurd (differ (sym p.1)) | inr p ↦ p.0 ])
+  | inr t ↦ ap (is_id j) (get-remove nat_cmp_total owner fd q ∙ ap (λ b. cond b None (get owner q)) t.0)
+]
+
+kept_after : (i j : ℕ) (registrations : Registrations) (request : Request) → j ≢ i → ReachesPoller i registrations request → IsKept j registrations (registrations_after i request registrations)
+kept_after i j registrations (Add e) differ h =
+    let s = insert_unseen i j registrations.owner e.fd differ h.0 in
+    record { same = s; same_pending = filter_same _ _ registrations.pending (λ x. s x.fd) }
+kept_after i j registrations (Modify e) differ h = kept_refl j registrations
+kept_after i j registrations (Remove e) differ h =
+    let s = remove_unseen i j registrations.owner e.fd differ h in
+    record {
+      same = s;
+      same_pending = filter_same _ _ (not_on e.fd registrations.pending) (λ x. s x.fd)
+          ∙ filter_not_on (λ x. is_id j (get registrations.owner x.fd)) e.fd registrations.pending (λ x t. ap (λ q. is_id j (get registrations.owner q)) t ∙ ap (is_id j) h ∙ elim (eqb_tells i j) [ inl p ↦ absurd (differ (sym p.1)) | inr p ↦ p.0 ]);
+    }
+
+kept_fits : (i j : ℕ) (registrations : Registrations) (request : Request) (answer : Answer) (calls : List PollerCall) (after : Registrations) → j ≢ i → Fits i registrations request answer calls after → IsKept j registrations after
+kept_fits i j registrations request answer calls after differ (by_manager h a e) = subst (IsKept j registrations) (sym e) (kept_refl j registrations)
+kept_fits i j registrations request answer calls after differ (by_poller n h a r e) = subst (IsKept j registrations) (sym e) (kept_refl j registrations)
+kept_fits i j registrations request answer calls after differ (by_agreement h a r e) = subst (IsKept j registrations) (sym e) (kept_after i j registrations request differ h)
+
+pub kept_talk : (i j : ℕ) (registrations : Registrations) (exchanges : Exchanges) (calls : List PollerCall) (after : Registrations) → j ≢ i → ExchangesFit i registrations exchanges calls after → IsKept j registrations after
+kept_talk i j registrations [] calls after differ h = subst (IsKept j registrations) (sym h.1) (kept_refl j registrations)
+kept_talk i j registrations (exchange ∷ exchanges) calls after differ (first, rest, mid, joined, fits, more) =
+    kept_trans j registrations mid after (kept_fits i j registrations exchange.0 exchange.1 first mid differ fits) (kept_talk i j mid exchanges rest after differ more)
+
+other_left : (i j : ℕ) (o : Option ℕ) → j ≢ i → is_id j (cond (not (is_id i o)) o None) ≡ is_id j o
+other_left i j None differ = refl
+other_left i j (Some k) differ = grind (arith, nat_tests)
+
+kept_left : (i j : ℕ) (registrations : Registrations) → j ≢ i → IsKept j registrations (record registrations { owner = without_owner i registrations.owner })
+kept_left i j registrations differ =
+    let s : (fd : ℕ) → is_id j (get (without_owner i registrations.owner) fd) ≡ is_id j (get registrations.owner fd) = λ fd. ap (is_id j) (get-without_owner i registrations.owner fd) ∙ other_left i j (get registrations.owner fd) differ in
+    record { same = s; same_pending = filter_same _ _ registrations.pending (λ x. s x.fd) }
+
+-- values
+untied : (a b : ℕ) → a ≢ b → eq_by_cmp nat_cmp a b ≡ false
+untied a b differ = elim (eq_by_cmp nat_cmp a b) as (λ t. eq_by_cmp nat_cmp a b ≡ t → t ≡ false) [ true ↦ λ e. absurd (differ (nat_tied a b e)) | false ↦ λ e. refl ] refl
+
+pub insert_other_value : {V : Type 0} (i j : ℕ) (values : FinMap nat_cmp V) (v : V) → j ≢ i → get (insert values i v) j ≡ get values j
+insert_other_value i j values v differ = get-insert nat_cmp_total values i v j ∙ ap (λ b. cond b (Some v) (get values j)) (untied j i differ)
+
+pub remove_other_value : {V : Type 0} (i j : ℕ) (values : FinMap nat_cmp V) → j ≢ i → get (remove values i) j ≡ get values j
+remove_other_value i j values differ = get-remove nat_cmp_total values i j ∙ ap (λ b. cond b None (get values j)) (untied j i differ)
+
+unnamed : (i j : ℕ) → (i == j) ≡ false → j ≢ i
+unnamed i j e = λ s. true≢false (sym (eq-eqb i j (sym s)) ∙ e)
+
+module _ {V : Type 0} where
+  untouched : (j : ℕ) (before after : Registry V) → get after.values j ≡ get before.values j → IsKept j before.registrations after.registrations → IsUntouched j before after
+  untouched j before after v k = (v, kept_owns j before.registrations after.registrations k, k.same_pending)
+
+  untouched_at : (j : ℕ) (before made after : Registry V) → after ≡ made → get made.values j ≡ get before.values j → IsKept j before.registrations made.registrations → IsUntouched j before after
+  untouched_at j before made after e v k = subst (IsUntouched j before) (sym e) (untouched j before made v k)
+
+  pub isolated_step : (begins : V → Exchanges → V → Type 0) (before : Registry V) (step : Step V) (after : Registry V) → Steps begins before step after → (j : ℕ) → names j step ≡ false → IsUntouched j before after
+  isolated_step begins before (Joined value id exchanges calls held) after (registrations, capacity, is, fits, beg, e) j named =
+      untouched_at j before _ after e (insert_other_value id j before.values held (unnamed id j named)) (kept_talk id j before.registrations exchanges calls registrations (unnamed id j named) fits)
+  isolated_step begins before (NotJoined value error) after h j named = untouched_at j before _ after h.1 refl (kept_refl j before.registrations)
+  isolated_step begins before (Left id value calls) after (fds, has, is_owner, deletes, e) j named =
+      untouched_at j before _ after e (remove_other_value id j before.values (unnamed id j named)) (kept_left id j before.registrations (unnamed id j named))
+  isolated_step begins before (NotLeft id) after h j named = untouched_at j before _ after h.1 refl (kept_refl j before.registrations)
+  isolated_step begins before (Replaced id old new) after (has, e) j named = untouched_at j before _ after e (insert_other_value id j before.values new (unnamed id j named)) (kept_refl j before.registrations)
+  isolated_step begins before (NotReplaced id) after h j named = untouched_at j before _ after h.1 refl (kept_refl j before.registrations)
+  isolated_step begins before (Requested id exchanges calls) after (value, registrations, has, fits, e) j named = untouched_at j before _ after e refl (kept_talk id j before.registrations exchanges calls registrations (unnamed id j named) fits)
+  isolated_step begins before (NotRequested id) after h j named = untouched_at j before _ after h.1 refl (kept_refl j before.registrations)
+
+  -- a delivery to i, from the registrations in which its own event is no longer pending
+  pub isolated_delivery : (serves : V → Event → Exchanges → V → Type 0) (before : Registry V) (earlier : List (Position V)) (e : Event) (later : List Event) (i : ℕ) (exchanges : Exchanges) (calls : List PollerCall) (held : V) (after : Registry V) → IsOutcome serves before earlier e later (To i exchanges calls held) after → (j : ℕ) → j ≢ i → IsUntouched j (record before { registrations = record before.registrations { pending = still_pending earlier later } }) after
+  isolated_delivery serves before earlier e later i exchanges calls held after (value, registrations, for, serving, fits, is) j differ =
+      untouched_at j (record before { registrations = record before.registrations { pending = still_pending earlier later } }) _ after is (insert_other_value i j before.values held differ) (kept_talk i j (record before.registrations { pending = still_pending earlier later }) exchanges calls registrations differ fits)
+
+  pub left_frees : (begins : V → Exchanges → V → Type 0) (before after : Registry V) (i : ℕ) (value : V) (calls : List PollerCall) → Steps begins before (Left i value calls) after → FreesExactly i before.registrations after.registrations
+  left_frees begins before after i value calls (fds, has, is_owner, deletes, e) = subst (λ (r : Registry V). FreesExactly i before.registrations r.registrations) (sym e) (frees_exactly i before.registrations)

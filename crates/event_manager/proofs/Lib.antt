@@ -1,0 +1,15 @@
+pub mod Buffer
+pub mod DispatchSoFar
+pub mod ExampleHolds
+pub mod ExchangeLemmas
+pub mod FiniteMaps
+pub mod Isolation
+pub mod PendingAfter
+pub mod Positions
+pub mod ProjectedDispatch
+pub mod ProjectedExchanges
+pub mod ProjectedSteps
+pub mod ProjectedTrace
+pub mod ProjectionKept
+pub mod Soundness
+pub mod TreeMaps

@@ -1,0 +1,325 @@
+-- What holds of every state that a run reaches, and of the ids that it gives.
+use Rattle.std.proofs.Common.{◌≡◌, ◌≢◌, ℕ, ◌+◌, ◌<◌, ◌==◌, cond, Bool, true, false, not, refl, sym, ◌∙◌, ap, subst, Some, None, Option, ◌⊎◌, inl, inr, nat_cmp, List, [], ◌∷◌, ◌++◌, true≢false, eq-eqb, arith, Ok, Err, Result, append_assoc, lt_irrefl, is_eq, Equal}
+use Rattle.std.specs.FinMap.{FinMap, get, insert, remove, get-insert, get-remove, get-empty}
+use Rattle.std.specs.Cmp.{nat_cmp_total, nat_cmp_is}
+use Rattle.std.proofs.lemmas.Bool.Decides.{eqb_tells}
+use Rattle.event_manager.specs.Event.{Event}
+use Rattle.event_manager.specs.Registrations.{Registrations, Owns, IsFree}
+use Rattle.event_manager.specs.PollerCall.{PollerCall}
+use Rattle.event_manager.specs.Exchange.{Answer, Exchanges, Fits, by_manager, by_poller, by_agreement, ExchangesFit, ReachesPoller, registrations_after}
+use Rattle.event_manager.specs.Registry.{Registry, Step, Joined, NotJoined, Left, NotLeft, Replaced, NotReplaced, Requested, NotRequested, Steps, is_id, without_owner, HasId, LacksId}
+use Rattle.event_manager.specs.Dispatch.{Outcome, Nobody, To, Position, IsOutcome, AreDispatched, still_pending, events_of}
+use Rattle.event_manager.specs.Iteration.{ManagerState, JobRun, IsAfterWait, AreRun, AllSteps}
+use Rattle.event_manager.specs.Trace.{Effect, Stepped, Iterated, Entry, HasEffect, IsTrace, new_state}
+use Rattle.event_manager.specs.Guarantees.{IsSound, steps_of_jobs, steps_of_effect, steps_of, AreGiven, IsRefusedTo, AreRefusedTo, StaysGone, RemovedStayGone}
+use Rattle.vmm_sys.specs.declared.errno.Errno.{Errno}
+use Rattle.event_manager.specs.declared.events.Request.{Request}
+use Rattle.event_manager.specs.declared.events.Request.TheVariants.{Add, Modify, Remove}
+use Rattle.event_manager.proofs.FiniteMaps.{fd_tells, get-without_owner}
+use Rattle.event_manager.proofs.ProjectedSteps.{from_disowned}
+use Rattle.event_manager.proofs.Isolation.{insert_other_value, remove_other_value}
+
+-- what a exchanges of id i does to the owners
+record OwnersAfter (i : ℕ) (before after : Registrations) : Type 0 where
+  from : (fd : ℕ) (j : ℕ) → Owns j after fd → Owns j before fd ⊎ (j ≡ i)
+  endpoint_free : IsFree before before.endpoint → IsFree after after.endpoint
+
+owners_same : (i : ℕ) (registrations : Registrations) → OwnersAfter i registrations registrations
+owners_same i registrations = record { from = λ fd j h. inl h; endpoint_free = λ h. h }
+
+owners_then : (i : ℕ) (a b c : Registrations) → OwnersAfter i a b → OwnersAfter i b c → OwnersAfter i a c
+owners_then i a b c h k = record { from = λ fd j o. elim (k.from fd j o) [ inl p ↦ h.from fd j p | inr p ↦ inr p ]; endpoint_free = λ f. k.endpoint_free (h.endpoint_free f) }
+
+some_same : (i j : ℕ) → ◌≡◌ {A = Option ℕ} (Some i) (Some j) → j ≡ i
+some_same i j e = cc
+
+owners_after : (i : ℕ) (registrations : Registrations) (request : Request) → ReachesPoller i registrations request → OwnersAfter i registrations (registrations_after i request registrations)
+owners_after i registrations (Add e) h = record {
+  from = λ fd j o. elim (fd_tells fd e.fd) [
+    | inl t ↦ inr (some_same i j (sym (get-insert nat_cmp_total registrations.owner e.fd i fd ∙ ap (λ b. cond b (Some i) (get registrations.owner fd)) t.0) ∙ o))
+    | inr t ↦ inl (sym (get-insert nat_cmp_total registrations.owner e.fd i fd ∙ ap (λ b. cond b (Some i) (get registrations.owner fd)) t.0) ∙ o)
+  ];
+  endpoint_free = λ f. elim (fd_tells registrations.endpoint e.fd) [
+    | inl t ↦ absurd (h.1 (sym t.1))
+    | inr t ↦ get-insert nat_cmp_total registrations.owner e.fd i registrations.endpoint ∙ ap (λ b. cond b (Some i) (get registrations.owner registrations.endpoint)) t.0 ∙ f
+  ];
+}
+owners_after i registrations (Modify e) h = owners_same i registrations
+owners_after i registrations (Remove e) h = record {
+  from = λ fd j o. elim (fd_tells fd e.fd) [
+    | inl t ↦ let s : None ≡ Some j = sym (get-remove nat_cmp_total registrations.owner e.fd fd ∙ ap (λ b. cond b None (get registrations.owner fd)) t.0) ∙ o in cc
+    | inr t ↦ inl (sym (get-remove nat_cmp_total registrations.owner e.fd fd ∙ ap (λ b. cond b None (get registrations.owner fd)) t.0) ∙ o)
+  ];
+  endpoint_free = λ f. elim (fd_tells registrations.endpoint e.fd) [
+    | inl t ↦ get-remove nat_cmp_total registrations.owner e.fd registrations.endpoint ∙ ap (λ b. cond b None (get registrations.owner registrations.endpoint)) t.0
+    | inr t ↦ get-remove nat_cmp_total registrations.owner e.fd registrations.endpoint ∙ ap (λ b. cond b None (get registrations.owner registrations.endpoint)) t.0 ∙ f
+  ];
+}
+
+owners_fit : (i : ℕ) (registrations : Registrations) (request : Request) (answer : Answer) (calls : List PollerCall) (after : Registrations) → Fits i registrations request answer calls after → OwnersAfter i registrations after
+owners_fit i registrations request answer calls after (by_manager h a e) = subst (OwnersAfter i registrations) (sym e) (owners_same i registrations)
+owners_fit i registrations request answer calls after (by_poller n h a r e) = subst (OwnersAfter i registrations) (sym e) (owners_same i registrations)
+owners_fit i registrations request answer calls after (by_agreement h a r e) = subst (OwnersAfter i registrations) (sym e) (owners_after i registrations request h)
+
+owners_talk : (i : ℕ) (registrations : Registrations) (exchanges : Exchanges) (calls : List PollerCall) (after : Registrations) → ExchangesFit i registrations exchanges calls after → OwnersAfter i registrations after
+owners_talk i registrations [] calls after h = subst (OwnersAfter i registrations) (sym h.1) (owners_same i registrations)
+owners_talk i registrations (exchange ∷ exchanges) calls after (first, rest, mid, joined, fits, more) =
+    owners_then i registrations mid after (owners_fit i registrations exchange.0 exchange.1 first mid fits) (owners_talk i mid exchanges rest after more)
+
+gone_answer : (i : ℕ) (o : Option ℕ) → is_id i (cond (not (is_id i o)) o None) ≡ false
+gone_answer i None = refl
+gone_answer i (Some j) = elim (j == i) as (λ b. is_id i (cond (not b) (Some j) None) ≡ cond b false (j == i)) [ true ↦ refl | false ↦ refl ] ∙ ends (j == i)
+  where
+    ends : (b : Bool) → cond b false b ≡ false
+    ends true = refl
+    ends false = refl
+
+gone : (i : ℕ) (owner : FinMap nat_cmp ℕ) (fd : ℕ) → is_id i (get (without_owner i owner) fd) ≡ false
+gone i owner fd = ap (is_id i) (get-without_owner i owner fd) ∙ gone_answer i (get owner fd)
+
+still_free : (i : ℕ) (o : Option ℕ) → o ≡ None → cond (not (is_id i o)) o None ≡ None
+still_free i o e = rw e refl
+
+module _ {V : Type 0} where
+  -- values
+  inserted_value : (k : ℕ) (values : FinMap nat_cmp V) (v : V) → get (insert values k v) k ≡ Some v
+  inserted_value k values v = get-insert nat_cmp_total values k v k ∙ ap (λ r. cond (is_eq r) (Some v) (get values k)) (sym (nat_cmp_is k k Equal refl))
+
+  has_insert : (j k : ℕ) (values : FinMap nat_cmp V) (u v : V) → get values j ≡ Some u → (w : V) × (get (insert values k v) j ≡ Some w)
+  has_insert j k values u v h = elim (eqb_tells j k) [
+    | inl t ↦ (v, ap (get (insert values k v)) t.1 ∙ inserted_value k values v)
+    | inr t ↦ (u, insert_other_value k j values v t.1 ∙ h)
+  ]
+
+  from_insert : (j k : ℕ) (values : FinMap nat_cmp V) (u v : V) → get (insert values k v) j ≡ Some u → (j ≡ k) ⊎ (get values j ≡ Some u)
+  from_insert j k values u v h = elim (eqb_tells j k) [
+    | inl t ↦ inl t.1
+    | inr t ↦ inr (sym (insert_other_value k j values v t.1) ∙ h)
+  ]
+
+  lacks_insert : (j k : ℕ) (values : FinMap nat_cmp V) (v : V) → j ≢ k → get values j ≡ None → get (insert values k v) j ≡ None
+  lacks_insert j k values v differ h = insert_other_value k j values v differ ∙ h
+
+  removed_value : (k : ℕ) (values : FinMap nat_cmp V) → get (remove values k) k ≡ None
+  removed_value k values = get-remove nat_cmp_total values k k ∙ ap (λ r. cond (is_eq r) None (get values k)) (sym (nat_cmp_is k k Equal refl))
+
+  from_remove : (j k : ℕ) (values : FinMap nat_cmp V) (u : V) → get (remove values k) j ≡ Some u → get values j ≡ Some u
+  from_remove j k values u h = elim (eqb_tells j k) [
+    | inl t ↦ let s : None ≡ Some u = sym (ap (get (remove values k)) t.1 ∙ removed_value k values) ∙ h in cc
+    | inr t ↦ sym (remove_other_value k j values t.1) ∙ h
+  ]
+
+  lacks_remove : (j k : ℕ) (values : FinMap nat_cmp V) → get values j ≡ None → get (remove values k) j ≡ None
+  lacks_remove j k values h = elim (eqb_tells j k) [
+    | inl t ↦ ap (get (remove values k)) t.1 ∙ removed_value k values
+    | inr t ↦ remove_other_value k j values t.1 ∙ h
+  ]
+
+  -- soundness stays
+  sound_at : (before made : Registry V) → before ≡ made → IsSound made → IsSound before
+  sound_at before made e s = subst (λ (r : Registry V). IsSound r) (sym e) s
+
+  -- an id in the map exchanges, and holds a value after it
+  sound_talk : (before : Registry V) (i next : ℕ) (held : V) (exchanges : Exchanges) (calls : List PollerCall) (from registrations : Registrations) → IsSound before → from.owner ≡ before.registrations.owner → from.endpoint ≡ before.registrations.endpoint → (i < next) → (before.next < next + 1) → ExchangesFit i from exchanges calls registrations → IsSound (record { values = insert before.values i held; next = next; registrations = registrations })
+  sound_talk before i next held exchanges calls from registrations s same same_end below up fits =
+      let o = owners_talk i from exchanges calls registrations fits in
+      record {
+        owners = λ fd j h. elim (o.from fd j h) [
+          | inl p ↦ let v = s.owners fd j (ap (λ (w : FinMap nat_cmp ℕ). get w fd) (sym same) ∙ p) in has_insert j i before.values v.0 held v.1
+          | inr p ↦ (held, ap (get (insert before.values i held)) p ∙ inserted_value i before.values held)
+        ];
+        given = λ j v h. elim (from_insert j i before.values v held h) [
+          | inl p ↦ subst (λ k. k < next) (sym p) below
+          | inr p ↦ let b = s.given j v p in omega arith
+        ];
+        endpoint_free = o.endpoint_free ((λ k. get (same k) (same_end k)) ∙ s.endpoint_free);
+      }
+
+  sound_step : (begins : V → Exchanges → V → Type 0) (before : Registry V) (step : Step V) (after : Registry V) → IsSound before → Steps begins before step after → IsSound after
+  sound_step begins before (Joined value id exchanges calls held) after s (registrations, capacity, is, fits, beg, e) =
+      sound_at after _ e (sound_talk before id (before.next + 1) held exchanges calls before.registrations registrations s refl refl (omega arith) (omega arith) fits)
+  sound_step begins before (NotJoined value error) after s h = sound_at after before h.1 s
+  sound_step begins before (Left id value calls) after s (fds, has, is_owner, deletes, e) = sound_at after _ e (record {
+    owners = λ fd j h.
+        let o = from_disowned id before.registrations.owner fd j h in
+        let differ : j ≢ id = λ t. true≢false (sym (ap (is_id id) h ∙ ap (λ k. k == id) t ∙ eq-eqb id id refl) ∙ gone id before.registrations.owner fd) in
+        let v = s.owners fd j o in (v.0, remove_other_value id j before.values differ ∙ v.1);
+    given = λ j v h. s.given j v (from_remove j id before.values v h);
+    endpoint_free = get-without_owner id before.registrations.owner before.registrations.endpoint ∙ still_free id (get before.registrations.owner before.registrations.endpoint) s.endpoint_free;
+  })
+  sound_step begins before (NotLeft id) after s h = sound_at after before h.1 s
+  sound_step begins before (Replaced id old new) after s (has, e) = sound_at after _ e (record {
+    owners = λ fd j h. let v = s.owners fd j h in has_insert j id before.values v.0 new v.1;
+    given = λ j v h. elim (from_insert j id before.values v new h) [
+      | inl p ↦ subst (λ k. k < before.next) (sym p) (s.given id old has)
+      | inr p ↦ s.given j v p
+    ];
+    endpoint_free = s.endpoint_free;
+  })
+  sound_step begins before (NotReplaced id) after s h = sound_at after before h.1 s
+  sound_step begins before (Requested id exchanges calls) after s (value, registrations, has, fits, e) =
+      let o = owners_talk id before.registrations exchanges calls registrations fits in
+      sound_at after _ e (record {
+        owners = λ fd j h. elim (o.from fd j h) [ inl p ↦ s.owners fd j p | inr p ↦ (value, ap (get before.values) p ∙ has) ];
+        given = s.given;
+        endpoint_free = o.endpoint_free s.endpoint_free;
+      })
+  sound_step begins before (NotRequested id) after s h = sound_at after before h.1 s
+
+  sound_outcome : (serves : V → Event → Exchanges → V → Type 0) (before : Registry V) (earlier : List (Position V)) (e : Event) (later : List Event) (outcome : Outcome V) (after : Registry V) → IsSound before → IsOutcome serves before earlier e later outcome after → IsSound after
+  sound_outcome serves before earlier e later Nobody after s (nobody, is) = sound_at after _ is (record { owners = s.owners; given = s.given; endpoint_free = s.endpoint_free })
+  sound_outcome serves before earlier e later (To i exchanges calls held) after s (value, registrations, for, serving, fits, is) =
+      let below = s.given i value for.2 in
+      sound_at after _ is (sound_talk before i before.next held exchanges calls (record before.registrations { pending = still_pending earlier later }) registrations s refl refl below (omega arith) fits)
+
+  sound_deals : (serves : V → Event → Exchanges → V → Type 0) (before : Registry V) (earlier positions : List (Position V)) (after : Registry V) → IsSound before → AreDispatched serves before earlier positions after → IsSound after
+  sound_deals serves before earlier [] after s is = sound_at after _ is (record { owners = s.owners; given = s.given; endpoint_free = s.endpoint_free })
+  sound_deals serves before earlier (d ∷ positions) after s (mid, out, more) = sound_deals serves mid (earlier ++ d ∷ []) positions after (sound_outcome serves before earlier d.event (events_of positions) d.outcome mid s out) more
+
+  -- the next id
+  next_outcome : (serves : V → Event → Exchanges → V → Type 0) (before : Registry V) (earlier : List (Position V)) (e : Event) (later : List Event) (outcome : Outcome V) (after : Registry V) → IsOutcome serves before earlier e later outcome after → after.next ≡ before.next
+  next_outcome serves before earlier e later Nobody after (nobody, is) = ap (λ (r : Registry V). r.next) is
+  next_outcome serves before earlier e later (To i exchanges calls held) after (value, registrations, for, serving, fits, is) = ap (λ (r : Registry V). r.next) is
+
+  next_deals : (serves : V → Event → Exchanges → V → Type 0) (before : Registry V) (earlier positions : List (Position V)) (after : Registry V) → AreDispatched serves before earlier positions after → after.next ≡ before.next
+  next_deals serves before earlier [] after is = ap (λ (r : Registry V). r.next) is
+  next_deals serves before earlier (d ∷ positions) after (mid, out, more) = next_deals serves mid (earlier ++ d ∷ []) positions after more ∙ next_outcome serves before earlier d.event (events_of positions) d.outcome mid out
+
+  given_step : (begins : V → Exchanges → V → Type 0) (before : Registry V) (step : Step V) (after : Registry V) → Steps begins before step after → AreGiven before.next (step ∷ []) after.next
+  given_step begins before (Joined value id exchanges calls held) after (registrations, capacity, is, fits, beg, e) = (is, ap (λ (r : Registry V). r.next) e)
+  given_step begins before (NotJoined value error) after h = ap (λ (r : Registry V). r.next) h.1
+  given_step begins before (Left id value calls) after (fds, has, is_owner, deletes, e) = ap (λ (r : Registry V). r.next) e
+  given_step begins before (NotLeft id) after h = ap (λ (r : Registry V). r.next) h.1
+  given_step begins before (Replaced id old new) after h = ap (λ (r : Registry V). r.next) h.1
+  given_step begins before (NotReplaced id) after h = ap (λ (r : Registry V). r.next) h.1
+  given_step begins before (Requested id exchanges calls) after (value, registrations, has, fits, e) = ap (λ (r : Registry V). r.next) e
+  given_step begins before (NotRequested id) after h = ap (λ (r : Registry V). r.next) h.1
+
+  given_join : (a b c : ℕ) (xs ys : List (Step V)) → AreGiven a xs b → AreGiven b ys c → AreGiven a (xs ++ ys) c
+  given_join a b c [] ys h k = subst (λ n. AreGiven n ys c) h k
+  given_join a b c (Joined value id exchanges calls held ∷ xs) ys h k = (h.0, given_join (a + 1) b c xs ys h.1 k)
+  given_join a b c (NotJoined value error ∷ xs) ys h k = given_join a b c xs ys h k
+  given_join a b c (Left id value calls ∷ xs) ys h k = given_join a b c xs ys h k
+  given_join a b c (NotLeft id ∷ xs) ys h k = given_join a b c xs ys h k
+  given_join a b c (Replaced id old new ∷ xs) ys h k = given_join a b c xs ys h k
+  given_join a b c (NotReplaced id ∷ xs) ys h k = given_join a b c xs ys h k
+  given_join a b c (Requested id exchanges calls ∷ xs) ys h k = given_join a b c xs ys h k
+  given_join a b c (NotRequested id ∷ xs) ys h k = given_join a b c xs ys h k
+
+  -- what is gone
+  pub record IsGone (i : ℕ) (r : Registry V) : Type 0 where
+    pub lacks : LacksId r i
+    pub given : i < r.next
+
+  gone_at : (i : ℕ) (after made : Registry V) → after ≡ made → IsGone i made → IsGone i after
+  gone_at i after made e g = subst (IsGone i) (sym e) g
+
+  some_none : (v : V) (o : Option V) → o ≡ None → o ≡ Some v → ⊥
+  some_none v o e h = cc
+
+  differs : (i id : ℕ) (r : Registry V) (v : V) → IsGone i r → HasId r id v → id ≢ i
+  differs i id r v g has = λ e. some_none v (get r.values id) (ap (get r.values) e ∙ g.lacks) has
+
+  gone_step : (begins : V → Exchanges → V → Type 0) (i : ℕ) (before : Registry V) (step : Step V) (after : Registry V) → IsGone i before → Steps begins before step after → IsRefusedTo i step × IsGone i after
+  gone_step begins i before (Joined value id exchanges calls held) after g (registrations, capacity, is, fits, beg, e) =
+      let differ : id ≢ i = λ t. lt_irrefl before.next (subst (λ k. k < before.next) (sym t ∙ is) g.given) in
+      (differ, gone_at i after _ e (record { lacks = lacks_insert i id before.values held (λ t. differ (sym t)) g.lacks; given = (let b = g.given in omega arith) }))
+  gone_step begins i before (NotJoined value error) after g h = (tt, gone_at i after before h.1 g)
+  gone_step begins i before (Left id value calls) after g (fds, has, is_owner, deletes, e) = (differs i id before value g has, gone_at i after _ e (record { lacks = lacks_remove i id before.values g.lacks; given = g.given }))
+  gone_step begins i before (NotLeft id) after g h = (tt, gone_at i after before h.1 g)
+  gone_step begins i before (Replaced id old new) after g (has, e) =
+      let differ = differs i id before old g has in
+      (differ, gone_at i after _ e (record { lacks = lacks_insert i id before.values new (λ t. differ (sym t)) g.lacks; given = g.given }))
+  gone_step begins i before (NotReplaced id) after g h = (tt, gone_at i after before h.1 g)
+  gone_step begins i before (Requested id exchanges calls) after g (value, registrations, has, fits, e) = (differs i id before value g has, gone_at i after _ e (record { lacks = g.lacks; given = g.given }))
+  gone_step begins i before (NotRequested id) after g h = (tt, gone_at i after before h.1 g)
+
+  gone_outcome : (serves : V → Event → Exchanges → V → Type 0) (i : ℕ) (before : Registry V) (earlier : List (Position V)) (e : Event) (later : List Event) (outcome : Outcome V) (after : Registry V) → IsGone i before → IsOutcome serves before earlier e later outcome after → IsGone i after
+  gone_outcome serves i before earlier e later Nobody after g (nobody, is) = gone_at i after _ is (record { lacks = g.lacks; given = g.given })
+  gone_outcome serves i before earlier e later (To id exchanges calls held) after g (value, registrations, for, serving, fits, is) =
+      let differ = differs i id before value g for.2 in
+      gone_at i after _ is (record { lacks = lacks_insert i id before.values held (λ t. differ (sym t)) g.lacks; given = g.given })
+
+  gone_deals : (serves : V → Event → Exchanges → V → Type 0) (i : ℕ) (before : Registry V) (earlier positions : List (Position V)) (after : Registry V) → IsGone i before → AreDispatched serves before earlier positions after → IsGone i after
+  gone_deals serves i before earlier [] after g is = gone_at i after _ is (record { lacks = g.lacks; given = g.given })
+  gone_deals serves i before earlier (d ∷ positions) after g (mid, out, more) = gone_deals serves i mid (earlier ++ d ∷ []) positions after (gone_outcome serves i before earlier d.event (events_of positions) d.outcome mid g out) more
+
+  left_is_gone : (begins : V → Exchanges → V → Type 0) (before : Registry V) (id : ℕ) (value : V) (calls : List PollerCall) (after : Registry V) → IsSound before → Steps begins before (Left id value calls) after → IsGone id after
+  left_is_gone begins before id value calls after s (fds, has, is_owner, deletes, e) = gone_at id after _ e (record { lacks = removed_value id before.values; given = s.given id value has })
+
+  -- each step's removal stays, where what follows refuses all that is gone after it
+  stays_gone : (begins : V → Exchanges → V → Type 0) (before : Registry V) (step : Step V) (after : Registry V) (steps : List (Step V)) → IsSound before → Steps begins before step after → ((i : ℕ) → IsGone i after → AreRefusedTo i steps) → StaysGone step steps
+  stays_gone begins before (Joined value id exchanges calls held) after steps s h k = tt
+  stays_gone begins before (NotJoined value error) after steps s h k = tt
+  stays_gone begins before (Left id value calls) after steps s h k = k id (left_is_gone begins before id value calls after s h)
+  stays_gone begins before (NotLeft id) after steps s h k = tt
+  stays_gone begins before (Replaced id old new) after steps s h k = tt
+  stays_gone begins before (NotReplaced id) after steps s h k = tt
+  stays_gone begins before (Requested id exchanges calls) after steps s h k = tt
+  stays_gone begins before (NotRequested id) after steps s h k = tt
+
+module _ {V J R : Type 0} (begins : V → Exchanges → V → Type 0) (serves : V → Event → Exchanges → V → Type 0) (may : J → List (Step V) → R → Type 0) where
+  -- what the steps between two registries are, and what stays true
+  pub record Follows (before : Registry V) (steps : List (Step V)) (after : Registry V) : Type 0 where
+    pub sound : IsSound before → IsSound after
+    pub given : AreGiven before.next steps after.next
+    pub gone : (i : ℕ) → IsGone i before → AreRefusedTo i steps × IsGone i after
+    pub removed : IsSound before → RemovedStayGone steps
+
+  follows_none : (before after : Registry V) → after ≡ before → Follows before [] after
+  follows_none before after e = record {
+    sound = λ s. sound_at after before e s;
+    given = ap (λ (r : Registry V). r.next) e;
+    gone = λ i g. (tt, gone_at i after before e g);
+    removed = λ s. tt;
+  }
+
+  -- one step first
+  follows_cons : (before : Registry V) (step : Step V) (mid : Registry V) (steps : List (Step V)) (after : Registry V) → Steps begins before step mid → Follows mid steps after → Follows before (step ∷ steps) after
+  follows_cons before step mid steps after h k = record {
+    sound = λ s. k.sound (sound_step begins before step mid s h);
+    given = given_join before.next mid.next after.next (step ∷ []) steps (given_step begins before step mid h) k.given;
+    gone = λ i g. let a = gone_step begins i before step mid g h in let b = k.gone i a.1 in ((a.0, b.0), b.1);
+    removed = λ s. (stays_gone begins before step mid steps s h (λ i g. (k.gone i g).0), k.removed (sound_step begins before step mid s h));
+  }
+
+  -- what leads to any continuation
+  follows_deals_then : (before : Registry V) (positions : List (Position V)) (mid : Registry V) (steps : List (Step V)) (after : Registry V) → AreDispatched serves before [] positions mid → Follows mid steps after → Follows before steps after
+  follows_deals_then before positions mid steps after h k = record {
+    sound = λ s. k.sound (sound_deals serves before [] positions mid s h);
+    given = subst (λ n. AreGiven n steps after.next) (next_deals serves before [] positions mid h) k.given;
+    gone = λ i g. k.gone i (gone_deals serves i before [] positions mid g h);
+    removed = λ s. k.removed (sound_deals serves before [] positions mid s h);
+  }
+
+  follows_steps : (before : Registry V) (steps : List (Step V)) (mid : Registry V) (more : List (Step V)) (after : Registry V) → AllSteps begins before steps mid → Follows mid more after → Follows before (steps ++ more) after
+  follows_steps before [] mid more after is k = subst (λ r. Follows r more after) is k
+  follows_steps before (step ∷ steps) mid more after (next, h, others) k = follows_cons before step next (steps ++ more) after h (follows_steps next steps mid more after others k)
+
+  follows_jobs : (before : ManagerState V) (jobs : List (JobRun V J R)) (mid : ManagerState V) (more : List (Step V)) (after : Registry V) → AreRun begins serves may before jobs mid → Follows mid.registry more after → Follows before.registry (steps_of_jobs jobs ++ more) after
+  follows_jobs before [] mid more after is k = subst (λ (s : ManagerState V). Follows s.registry more after) is k
+  follows_jobs before (job_run ∷ jobs) mid more after (next, ticket, chosen, steps, others) k =
+      subst (λ xs. Follows before.registry xs after) (sym (append_assoc job_run.steps (steps_of_jobs jobs) more))
+      (follows_steps before.registry job_run.steps next (steps_of_jobs jobs ++ more) after steps (follows_jobs (record { registry = next; taken = before.taken + 1 }) jobs mid more after others k))
+
+  follows_wait : (before : ManagerState V) (waited : Result (List Event) Errno) (positions : List (Position V)) (jobs : List (JobRun V J R)) (mid : ManagerState V) (more : List (Step V)) (after : Registry V) → IsAfterWait begins serves may before waited positions jobs mid → Follows mid.registry more after → Follows before.registry (steps_of_jobs jobs ++ more) after
+  follows_wait before (Ok report) positions jobs mid more after (dispatched, dealing, idle, job_run) k =
+      follows_deals_then before.registry positions dispatched (steps_of_jobs jobs ++ more) after dealing.1 (follows_jobs (record before { registry = dispatched }) jobs mid more after job_run k)
+  follows_wait before (Err errno) positions jobs mid more after (no_deals, no_jobs, is) k =
+      subst (λ js. Follows before.registry (steps_of_jobs js ++ more) after) (sym no_jobs) (subst (λ (s : ManagerState V). Follows s.registry more after) is k)
+
+  follows_deed : (before : ManagerState V) (effect : Effect V J R) (mid : ManagerState V) (more : List (Step V)) (after : Registry V) → HasEffect begins serves may before effect mid → Follows mid.registry more after → Follows before.registry (steps_of_effect effect ++ more) after
+  follows_deed before (Stepped step) mid more after h k = follows_cons before.registry step mid.registry more after h.0 k
+  follows_deed before (Iterated iteration) mid more after h k = follows_wait before iteration.waited iteration.positions iteration.jobs mid more after h k
+
+  pub run_follows : (before : ManagerState V) (trace : List (Entry V J R)) (after : ManagerState V) → IsTrace begins serves may before trace after → Follows before.registry (steps_of trace) after.registry
+  run_follows before [] after is = follows_none before.registry after.registry (ap (λ (s : ManagerState V). s.registry) is)
+  run_follows before (entry ∷ trace) after (mid, made, has_effect, more) = follows_deed before entry.effect mid (steps_of trace) after.registry has_effect (run_follows mid trace after more)
+
+-- a new manager
+pub new_is_sound : {V : Type 0} (endpoint : ℕ) → IsSound {V = V} (new_state endpoint).registry
+new_is_sound {V} endpoint = record {
+  owners = λ fd i h. let s : None ≡ Some i = sym (get-empty nat_cmp fd) ∙ h in cc;
+  given = λ i v h. let s : None ≡ Some v = sym (get-empty nat_cmp i) ∙ h in cc;
+  endpoint_free = get-empty nat_cmp endpoint;
+}

@@ -1,0 +1,41 @@
+use Rattle.std.proofs.Common.{refl, sym, ap, ◌∙◌, inl, inr, arith, ◌+◌, subst, []}
+use Rattle.std.specs.Cmp.{nat_cmp_total}
+use Rattle.std.specs.FinMap.{nat_cmp-IsAntisymmetric}
+use Rattle.event_manager.proofs.TreeMaps.{insert_of_tree, insert_twice, get_of_tree, get_same, some_is}
+use Rattle.event_manager.proofs.ExchangeLemmas.{idle_fits}
+use Rattle.event_manager.specs.Registry.{Joined, NotJoined}
+use Rattle.event_manager.specs.Subscribers.{idle}
+use Rattle.event_manager.specs.declared.error.Error.TheVariants.{OutOfMemory}
+use Rattle.event_manager.specs.RegistrationState.{registrations_of}
+use Rattle.std.specs.FinMap.{insert, from_entries, get}
+use Rattle.std.specs.Ordering.{nat_cmp}
+use Rattle.event_manager.proofs.subscribers.Registry.join.Goals as goal
+
+pub returns-in-Err : goal.returns-in-Err
+returns-in-Err g c =
+    let r = c.args.self.now in
+    let same = ap (λ es. idle (record { values = from_entries {R = nat_cmp} es; next = r.next; registrations = registrations_of r.epoll.registrations })) c.in-Err.ensures.err in
+    (NotJoined c.args.subscriber OutOfMemory, refl, record { stepped = (inr (omega (arith, c.if-self.false), refl), same); led = refl; same_capacity = refl })
+
+pub returns : goal.returns
+returns g c =
+    let told = c.init.ensures in
+    let id = c.args.self.now.next in
+    let first = insert_of_tree nat_cmp_total nat_cmp-IsAntisymmetric c.args.self.now.subscribers c.insert.new.self id c.args.subscriber c.in-Ok.ensures.updates in
+    let wrote = c.get_mut.follows.holds c.init.new.self in
+    let found = c.in-Some.ensures.value in
+    let second = insert_of_tree nat_cmp_total nat_cmp-IsAntisymmetric c.insert.new.self (c.get_mut.follows.lender c.init.new.self) id c.init.new.self (wrote.3 (rw (← found) refl)) in
+    let values = second ∙ ap (λ m. insert m id c.init.new.self) first ∙ insert_twice _ id c.args.subscriber c.init.new.self in
+    let was = some_is _ _ (found ∙ sym (get_of_tree nat_cmp_total c.insert.new.self id) ∙ ap (λ m. get m id) first ∙ get_same _ id c.args.subscriber) in
+    let began = subst (λ v. g.S.MutEventSubscriber.begins v told.0 c.init.new.self) was told.2 in
+    let after = registrations_of c.init.new.ops.epoll.now.registrations in
+    let fits = idle_fits id (registrations_of c.args.self.now.epoll.registrations) told.0 told.1 after told.3.made.fits in
+    (
+      Joined c.args.subscriber id told.0 told.1 c.init.new.self,
+      (told.0, told.1, c.init.new.self, refl),
+      record {
+        stepped = (_, omega (arith, c.if-self.false), refl, fits, began, λ k. record { values = values k; next = id + 1; registrations = record after { pending = [] } });
+        led = told.3.made.led;
+        same_capacity = told.3.made.same_capacity;
+      },
+    )

@@ -1,0 +1,23 @@
+-- How the manager asks a poller, by its stated relations.
+use Rattle.std.specs.Prelude.{◌≡◌, ℕ, ℤ, List, [], ◌∷◌, map, length, pos, Result, Ok, Err}
+use base.Stored.{Gv}
+use Rattle.vmm_sys.specs.declared.epoll.EpollEvent.{EpollEvent}
+use Rattle.vmm_sys.specs.declared.errno.Errno.{Errno}
+use Rattle.vmm_sys.specs.declared.epoll.ControlOperation.{ControlOperation}
+use Rattle.vmm_sys.specs.declared.poller.Poller.{Ghosts}
+use Rattle.event_manager.specs.Event.{Event, word_of_parts}
+use Rattle.vmm_sys.specs.EpollEvent.{event}
+use Rattle.vmm_sys.specs.EventSet.{with_bits}
+use Rattle.event_manager.specs.ReadyList.{event_of_entry}
+
+-- an event as it is packed for a poller
+abbrev pub packed : Event → EpollEvent
+packed e = event (with_bits e.set) (word_of_parts e.payload e.fd)
+
+module _ {P : Type 0} (poller : Ghosts P) where
+  abbrev pub controls : Gv → ControlOperation → ℕ → Event → Result (Unit {0}) Errno → Gv → Type 0
+  controls before operation fd event answer after = poller.may_ctl before operation (pos fd) (packed event) answer after
+
+  abbrev pub waits : Gv → ℤ → ℕ → Result (List Event) Errno → Gv → Type 0
+  waits before ms capacity (Ok events) after = (entries : List EpollEvent) × (map event_of_entry entries ≡ events) × poller.may_wait before ms capacity (Ok (length entries)) entries after
+  waits before ms capacity (Err errno) after = poller.may_wait before ms capacity (Err errno) [] after

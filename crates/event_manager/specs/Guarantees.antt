@@ -1,0 +1,82 @@
+-- What users rely on, of every run.
+use Rattle.std.specs.Prelude.{◌≡◌, ◌≢◌, ℕ, ◌+◌, ◌<◌, List, [], ◌∷◌, ◌++◌, filter, ◌↔◌, None, if◌then◌else◌}
+use Rattle.std.specs.FinMap as map
+use Rattle.event_manager.specs.Event.{Event}
+use Rattle.event_manager.specs.Registrations.{Registrations, Owns, IsFree}
+use Rattle.event_manager.specs.Registry.{Registry, Step, Joined, NotJoined, Left, NotLeft, Replaced, NotReplaced, Requested, NotRequested, HasId, is_id}
+use Rattle.event_manager.specs.Iteration.{JobRun}
+use Rattle.event_manager.specs.Trace.{Effect, Stepped, Iterated, Entry}
+
+-- the pending events of id j: those on its descriptors
+abbrev pub pending_of : ℕ → Registrations → List Event
+pending_of j registrations = filter (λ e. is_id j (map.get registrations.owner e.fd)) registrations.pending
+
+-- id j has the value, the descriptors and the pending events that it had
+abbrev pub IsUntouched : {V : Type 0} → ℕ → Registry V → Registry V → Type 0
+IsUntouched j before after =
+    (map.get after.values j ≡ map.get before.values j) × ((fd : ℕ) → Owns j after.registrations fd ↔ Owns j before.registrations fd) × (pending_of j after.registrations ≡ pending_of j before.registrations)
+
+-- Each owner is in the map, each id in the map was given, and the endpoint's descriptor is never owned.
+pub record IsSound {V : Type 0} (registry : Registry V) : Type 0 where
+  pub owners : (fd : ℕ) (i : ℕ) → Owns i registry.registrations fd → (value : V) × HasId registry i value
+  pub given : (i : ℕ) (value : V) → HasId registry i value → i < registry.next
+  pub endpoint_free : IsFree registry.registrations registry.registrations.endpoint
+
+-- all steps of a run, those of its jobs too
+abbrev pub steps_of_jobs : {V J R : Type 0} → List (JobRun V J R) → List (Step V)
+steps_of_jobs [] = []
+steps_of_jobs (job_run ∷ jobs) = job_run.steps ++ steps_of_jobs jobs
+
+abbrev pub steps_of_effect : {V J R : Type 0} → Effect V J R → List (Step V)
+steps_of_effect (Stepped step) = step ∷ []
+steps_of_effect (Iterated iteration) = steps_of_jobs iteration.jobs
+
+abbrev pub steps_of : {V J R : Type 0} → List (Entry V J R) → List (Step V)
+steps_of [] = []
+steps_of (entry ∷ trace) = steps_of_effect entry.effect ++ steps_of trace
+
+-- the ids that joins gave are the numbers from the first up to the last, in order, each once
+abbrev pub AreGiven : {V : Type 0} → ℕ → List (Step V) → ℕ → Type 0
+AreGiven first [] last = last ≡ first
+AreGiven first (Joined value id exchanges calls held ∷ steps) last = (id ≡ first) × AreGiven (first + 1) steps last
+AreGiven first (NotJoined value error ∷ steps) last = AreGiven first steps last
+AreGiven first (Left id value calls ∷ steps) last = AreGiven first steps last
+AreGiven first (NotLeft id ∷ steps) last = AreGiven first steps last
+AreGiven first (Replaced id old new ∷ steps) last = AreGiven first steps last
+AreGiven first (NotReplaced id ∷ steps) last = AreGiven first steps last
+AreGiven first (Requested id exchanges calls ∷ steps) last = AreGiven first steps last
+AreGiven first (NotRequested id ∷ steps) last = AreGiven first steps last
+
+-- the step names i only if it is refused
+abbrev pub IsRefusedTo : {V : Type 0} → ℕ → Step V → Type 0
+IsRefusedTo i (Joined value id exchanges calls held) = id ≢ i
+IsRefusedTo i (NotJoined value error) = Unit {0}
+IsRefusedTo i (Left id value calls) = id ≢ i
+IsRefusedTo i (NotLeft id) = Unit {0}
+IsRefusedTo i (Replaced id old new) = id ≢ i
+IsRefusedTo i (NotReplaced id) = Unit {0}
+IsRefusedTo i (Requested id exchanges calls) = id ≢ i
+IsRefusedTo i (NotRequested id) = Unit {0}
+
+abbrev pub AreRefusedTo : {V : Type 0} → ℕ → List (Step V) → Type 0
+AreRefusedTo i [] = Unit {0}
+AreRefusedTo i (step ∷ steps) = IsRefusedTo i step × AreRefusedTo i steps
+
+-- what this step removed is refused in those that follow
+abbrev pub StaysGone : {V : Type 0} → Step V → List (Step V) → Type 0
+StaysGone (Joined value id exchanges calls held) steps = Unit {0}
+StaysGone (NotJoined value error) steps = Unit {0}
+StaysGone (Left id value calls) steps = AreRefusedTo id steps
+StaysGone (NotLeft id) steps = Unit {0}
+StaysGone (Replaced id old new) steps = Unit {0}
+StaysGone (NotReplaced id) steps = Unit {0}
+StaysGone (Requested id exchanges calls) steps = Unit {0}
+StaysGone (NotRequested id) steps = Unit {0}
+
+abbrev pub RemovedStayGone : {V : Type 0} → List (Step V) → Type 0
+RemovedStayGone [] = Unit {0}
+RemovedStayGone (step ∷ steps) = StaysGone step steps × RemovedStayGone steps
+
+-- exactly the descriptors of id i became free
+abbrev pub FreesExactly : ℕ → Registrations → Registrations → Type 0
+FreesExactly i before after = (fd : ℕ) → map.get after.owner fd ≡ (if is_id i (map.get before.owner fd) then None else map.get before.owner fd)

@@ -1,0 +1,68 @@
+-- What a contract sees of a registry or a manager between two batches, and what its calls do to that.
+use Rattle.std.specs.Prelude.{◌≡◌, ℕ, List, [], ◌∷◌, ℤ, Result, Ok, Err}
+use Rattle.std.specs.FinMap as map
+use Rattle.vmm_sys.specs.declared.errno.Errno.{Errno}
+use Rattle.event_manager.specs.declared.error.Error.{Error}
+use Rattle.event_manager.specs.declared.error.Error.TheVariants.{InvalidId}
+use Rattle.event_manager.specs.Event.{Event}
+use Rattle.event_manager.specs.PollerCall.{PollerCall, Wait, Controls, Waits, Leads}
+use Rattle.event_manager.specs.Exchange.{Exchanges}
+use Rattle.event_manager.specs.Registry.{Registry, Step, Steps, Joined, NotJoined, Left, NotLeft, calls_of}
+use Rattle.event_manager.specs.Dispatch.{Position, IsDispatch}
+use Rattle.event_manager.specs.Iteration.{AllSteps, calls_of_steps, calls_of_positions, answer_of}
+
+-- the subscribers, the next id and the registrations; the poller; the capacity of a batch
+pub record LoopState (S P : Type 0) : Type 0 where
+  pub registry : Registry S
+  pub poller : P
+  pub capacity : ℕ
+
+-- a new one
+abbrev pub new_loop : {S P : Type 0} → ℕ → P → ℕ → LoopState S P
+new_loop endpoint poller capacity = record {
+  registry = record { values = map.empty; next = 1; registrations = record { owner = map.empty; endpoint = endpoint; pending = [] } };
+  poller = poller;
+  capacity = capacity;
+}
+
+-- with another value at the id
+abbrev pub with_value : {S P : Type 0} → LoopState S P → ℕ → S → LoopState S P
+with_value state id value = record state { registry = record state.registry { values = map.insert state.registry.values id value } }
+
+module _ {S P : Type 0} (begins : S → Exchanges → S → Type 0) (controls : Controls P) (waits : Waits P) where
+  -- the step was made, and its calls led the poller from the value before to the value after
+  pub record HasStepped (before : LoopState S P) (step : Step S) (after : LoopState S P) : Type 0 where
+    pub stepped : Steps begins before.registry step after.registry
+    pub led : Leads controls waits before.poller (calls_of step) after.poller
+    pub same_capacity : after.capacity ≡ before.capacity
+
+  -- the steps were made, one after another
+  pub record HaveStepped (before : LoopState S P) (steps : List (Step S)) (after : LoopState S P) : Type 0 where
+    pub stepped : AllSteps begins before.registry steps after.registry
+    pub led : Leads controls waits before.poller (calls_of_steps steps) after.poller
+    pub same_capacity : after.capacity ≡ before.capacity
+
+-- the step of a join, by what it answered
+abbrev pub IsJoin : {S : Type 0} → S → Result ℕ Error → Step S → Type 0
+IsJoin {S} value (Ok id) step = (exchanges : Exchanges) × (calls : List PollerCall) × (held : S) × (step ≡ Joined value id exchanges calls held)
+IsJoin value (Err error) step = step ≡ NotJoined value error
+
+-- the step of a leave, by what it answered
+abbrev pub IsLeave : {S : Type 0} → ℕ → Result S Error → Step S → Type 0
+IsLeave id (Ok value) step = (calls : List PollerCall) × (step ≡ Left id value calls)
+IsLeave id (Err error) step = (error ≡ InvalidId) × (step ≡ NotLeft id)
+
+module _ {S P : Type 0} (serves : S → Event → Exchanges → S → Type 0) (controls : Controls P) (waits : Waits P) where
+  -- a refused wait changes nothing but the poller; after another its report is dispatched
+  abbrev pub IsDispatchedAfter : Result (List Event) Errno → List (Position S) → Registry S → Registry S → Type 0
+  IsDispatchedAfter (Ok report) positions before after = IsDispatch serves before report positions after
+  IsDispatchedAfter (Err errno) positions before after = (positions ≡ []) × (after ≡ before)
+
+  -- An iteration of the loop: one wait with the capacity, and the dispatch of what that wait reported.
+  pub record IsLoopIteration (before : LoopState S P) (ms : ℤ) (result : Result ℕ Error) (after : LoopState S P) : Type 0 where
+    pub waited : Result (List Event) Errno
+    pub positions : List (Position S)
+    pub answer : result ≡ answer_of waited
+    pub dispatched : IsDispatchedAfter waited positions before.registry after.registry
+    pub led : Leads controls waits before.poller (Wait ms before.capacity waited ∷ calls_of_positions positions) after.poller
+    pub same_capacity : after.capacity ≡ before.capacity

@@ -1,0 +1,161 @@
+-- A run with all that belongs to other ids taken out.
+use Rattle.std.specs.Prelude.{◌≡◌, ◌≢◌, ℕ, nat_lt, ◌==◌, Bool, true, false, ◌||◌, List, [], ◌∷◌, ◌++◌, map, Ok, Err, IsTrue, ◌⊎◌, if◌then◌else◌}
+use Rattle.std.specs.FinMap as finite
+use Rattle.std.specs.Ordering.{nat_cmp}
+use Rattle.event_manager.specs.Event.{Event}
+use Rattle.event_manager.specs.Registrations.{Registrations, Owns}
+use Rattle.event_manager.specs.Exchange.{Exchanges, Answer}
+use Rattle.event_manager.specs.Registry.{Registry, Step, Joined, NotJoined, Left, NotLeft, Replaced, NotReplaced, Requested, NotRequested, is_id}
+use Rattle.event_manager.specs.Dispatch.{Outcome, Nobody, To, Position}
+use Rattle.event_manager.specs.Iteration.{ManagerState}
+use Rattle.event_manager.specs.Trace.{Effect, Stepped, Iterated, Entry, IsTrace}
+use Rattle.event_manager.specs.declared.calls.Reply.{Reply}
+use Rattle.event_manager.specs.declared.events.Request.{Request}
+use Rattle.event_manager.specs.declared.events.Request.TheVariants.{Add, Modify, Remove}
+
+-- only the descriptors of id i
+abbrev pub owned_by : ℕ → finite.FinMap nat_cmp ℕ → finite.FinMap nat_cmp ℕ
+owned_by i owner = finite.retain_keys owner (λ fd. is_id i (finite.get owner fd))
+
+-- only the value of id i
+abbrev pub only_values : {V : Type 0} → ℕ → finite.FinMap nat_cmp V → finite.FinMap nat_cmp V
+only_values i values = finite.retain_keys values (λ j. j == i)
+
+abbrev pub projected_registrations : ℕ → List Event → Registrations → Registrations
+projected_registrations i pending registrations = record { owner = owned_by i registrations.owner; endpoint = registrations.endpoint; pending = pending }
+
+-- the registry without the values and descriptors of other ids; nothing is pending
+abbrev pub projected_registry : {V : Type 0} → ℕ → ℕ → Registry V → Registry V
+projected_registry i next registry = record { values = only_values i registry.values; next = next; registrations = projected_registrations i [] registry.registrations }
+
+abbrev pub projected_state : {V : Type 0} → ℕ → ℕ → ManagerState V → ManagerState V
+projected_state i next state = record { registry = projected_registry i next state.registry; taken = state.taken }
+
+-- the next id of the projected run: that of the run where i has joined, else i
+abbrev pub projected_next : {V : Type 0} → ℕ → ManagerState V → ℕ
+projected_next i state = if nat_lt i state.registry.next then state.registry.next else i
+
+-- what other ids got becomes nobody's
+abbrev pub only_outcome : {V : Type 0} → ℕ → Outcome V → Outcome V
+only_outcome i Nobody = Nobody
+only_outcome i (To j exchanges calls after) = if j == i then To j exchanges calls after else Nobody
+
+abbrev pub only_position : {V : Type 0} → ℕ → Position V → Position V
+only_position i position = record { event = position.event; outcome = only_outcome i position.outcome }
+
+-- whether the effect stays: a step that names i, or the join that gave it; each iteration
+abbrev pub names : {V : Type 0} → ℕ → Step V → Bool
+names i (Joined value id exchanges calls held) = id == i
+names i (NotJoined value error) = false
+names i (Left id value calls) = id == i
+names i (NotLeft id) = id == i
+names i (Replaced id old new) = id == i
+names i (NotReplaced id) = id == i
+names i (Requested id exchanges calls) = id == i
+names i (NotRequested id) = id == i
+
+abbrev pub stays : {V J R : Type 0} → ℕ → Effect V J R → Bool
+stays i (Stepped step) = names i step
+stays i (Iterated iteration) = true
+
+abbrev pub projected_effect : {V J R : Type 0} → ℕ → Effect V J R → Effect V J R
+projected_effect i (Stepped step) = Stepped step
+projected_effect i (Iterated iteration) = Iterated (record iteration { positions = map (only_position i) iteration.positions })
+
+-- the projected run of i
+abbrev pub projection : {V J R : Type 0} → ℕ → List (Entry V J R) → List (Entry V J R)
+projection i [] = []
+projection i (entry ∷ trace) = if stays i entry.effect then record entry { effect = projected_effect i entry.effect } ∷ projection i trace else projection i trace
+
+-- what id i says in a run, in order
+abbrev pub step_exchanges : {V : Type 0} → ℕ → Step V → Exchanges
+step_exchanges i (Joined value id exchanges calls held) = if id == i then exchanges else []
+step_exchanges i (NotJoined value error) = []
+step_exchanges i (Left id value calls) = []
+step_exchanges i (NotLeft id) = []
+step_exchanges i (Replaced id old new) = []
+step_exchanges i (NotReplaced id) = []
+step_exchanges i (Requested id exchanges calls) = if id == i then exchanges else []
+step_exchanges i (NotRequested id) = []
+
+abbrev pub outcome_exchanges : {V : Type 0} → ℕ → Outcome V → Exchanges
+outcome_exchanges i Nobody = []
+outcome_exchanges i (To id exchanges calls after) = if id == i then exchanges else []
+
+abbrev pub positions_exchanges : {V : Type 0} → ℕ → List (Position V) → Exchanges
+positions_exchanges i [] = []
+positions_exchanges i (position ∷ positions) = outcome_exchanges i position.outcome ++ positions_exchanges i positions
+
+abbrev pub effect_exchanges : {V J R : Type 0} → ℕ → Effect V J R → Exchanges
+effect_exchanges i (Stepped step) = step_exchanges i step
+effect_exchanges i (Iterated iteration) = positions_exchanges i iteration.positions
+
+abbrev pub exchanges_in : {V J R : Type 0} → ℕ → List (Entry V J R) → Exchanges
+exchanges_in i [] = []
+exchanges_in i (entry ∷ trace) = effect_exchanges i entry.effect ++ exchanges_in i trace
+
+-- whether an Add of the descriptor is asked; whether one is agreed
+abbrev pub is_add : ℕ → Request → Bool
+is_add fd (Add e) = e.fd == fd
+is_add fd (Modify e) = false
+is_add fd (Remove e) = false
+
+abbrev pub is_agreed : Answer → Bool
+is_agreed (Ok entry) = true
+is_agreed (Err error) = false
+
+abbrev pub asks_to_add : ℕ → Exchanges → Bool
+asks_to_add fd [] = false
+asks_to_add fd (exchange ∷ exchanges) = is_add fd exchange.0 || asks_to_add fd exchanges
+
+abbrev pub adds : ℕ → Exchanges → Bool
+adds fd [] = false
+adds fd (exchange ∷ exchanges) = (if is_agreed exchange.1 then is_add fd exchange.0 else false) || adds fd exchanges
+
+-- No other id owns at the start, or has in the run an agreed Add of, a descriptor
+-- that i asks to add in the run or owns at the start.
+abbrev pub IsApart : {V J R : Type 0} → ℕ → ManagerState V → List (Entry V J R) → Type 0
+IsApart i before trace =
+    (fd : ℕ) (j : ℕ) → j ≢ i → Owns i before.registry.registrations fd ⊎ IsTrue (asks_to_add fd (exchanges_in i trace))
+    → ¬ Owns j before.registry.registrations fd × (adds fd (exchanges_in j trace) ≡ false)
+
+-- the deliveries to id i in a run, in order: the event, the exchanges, the value after
+abbrev pub delivered_as : {V : Type 0} → ℕ → Event → Outcome V → List (Event × Exchanges × V)
+delivered_as i event Nobody = []
+delivered_as i event (To id exchanges calls after) = if id == i then (event, exchanges, after) ∷ [] else []
+
+abbrev pub delivered : {V : Type 0} → ℕ → Position V → List (Event × Exchanges × V)
+delivered i position = delivered_as i position.event position.outcome
+
+abbrev pub deliveries_of : {V : Type 0} → ℕ → List (Position V) → List (Event × Exchanges × V)
+deliveries_of i [] = []
+deliveries_of i (position ∷ positions) = delivered i position ++ deliveries_of i positions
+
+abbrev pub effect_deliveries : {V J R : Type 0} → ℕ → Effect V J R → List (Event × Exchanges × V)
+effect_deliveries i (Stepped step) = []
+effect_deliveries i (Iterated iteration) = deliveries_of i iteration.positions
+
+abbrev pub deliveries : {V J R : Type 0} → ℕ → List (Entry V J R) → List (Event × Exchanges × V)
+deliveries i [] = []
+deliveries i (entry ∷ trace) = effect_deliveries i entry.effect ++ deliveries i trace
+
+abbrev pub is_for : {V J R : Type 0} → ℕ → Effect V J R → Bool
+is_for i (Stepped step) = names i step
+is_for i (Iterated iteration) = false
+
+-- the replies to the calls that name i, and to the join that gave it
+abbrev pub replies_to : {V J R : Type 0} → ℕ → List (Entry V J R) → List (Reply V)
+replies_to i [] = []
+replies_to i (entry ∷ trace) = if is_for i entry.effect then entry.reply ∷ replies_to i trace else replies_to i trace
+
+-- The projected law: of a run that ran no job, the projected run of each i that is apart is itself a run.
+abbrev pub NonInterference : {V J R : Type 0} → (V → Exchanges → V → Type 0) → (V → Event → Exchanges → V → Type 0) → (J → List (Step V) → R → Type 0) → ManagerState V → List (Entry V J R) → ManagerState V → Type 0
+NonInterference begins serves may before trace after =
+    (i : ℕ) → after.taken ≡ before.taken → IsApart i before trace
+    → (next : ℕ) × IsTrace begins serves may (projected_state i (projected_next i before) before) (projection i trace) (projected_state i next after)
+
+-- The projected run has the same replies to i, the same deliveries to i and the same exchanges of i, and ends with the same value of i.
+abbrev pub ProjectionKeeps : {V J R : Type 0} → List (Entry V J R) → ManagerState V → Type 0
+ProjectionKeeps trace after =
+    (i next : ℕ) → (replies_to i (projection i trace) ≡ replies_to i trace) × (deliveries i (projection i trace) ≡ deliveries i trace) × (exchanges_in i (projection i trace) ≡ exchanges_in i trace)
+    × (finite.get (projected_state i next after).registry.values i ≡ finite.get after.registry.values i)

@@ -1,0 +1,45 @@
+-- What the code keeps of a registrations: the owners, the endpoint's descriptor, the capacity, and the positions of the batch that are still to come, each with a mark where it is cancelled.
+use Rattle.std.specs.Prelude.{◌≡◌, ℕ, ◌==◌, Bool, true, false, ◌||◌, List, [], ◌∷◌, map, refl, Result, Ok, Err, length}
+use Rattle.vmm_sys.specs.declared.errno.Errno.{Errno}
+use Rattle.std.specs.FinMap as finite
+use Rattle.std.specs.Ordering.{nat_cmp}
+use Rattle.std.specs.Coded.{Coded, code_by, coded×, coded_ℕ, coded_bool, coded_list}
+use Rattle.event_manager.specs.Event.{Event}
+use Rattle.event_manager.specs.Registrations.{Registrations}
+use Rattle.event_manager.specs.Exchange.{Exchanges, removes}
+use Rattle.event_manager.specs.Event.{event_code}
+
+pub record RegistrationState : Type 0 where
+  pub owner : finite.FinMap nat_cmp ℕ
+  pub endpoint : ℕ
+  pub capacity : ℕ
+  pub ready : List (Event × Bool)
+
+abbrev pub registration_state_code : Coded RegistrationState
+registration_state_code = code_by (finite.FinMap nat_cmp ℕ × (ℕ × (ℕ × List (Event × Bool)))) (coded× (finite.code coded_ℕ coded_ℕ) (coded× coded_ℕ (coded× coded_ℕ (coded_list (coded× event_code coded_bool))))) (λ b. (b.owner, (b.endpoint, (b.capacity, b.ready)))) (λ p. record { owner = p.0; endpoint = p.1.0; capacity = p.1.1.0; ready = p.1.1.1 }) (λ _. refl)
+
+-- the events that aren't cancelled
+abbrev pub not_cancelled : List (Event × Bool) → List Event
+not_cancelled [] = []
+not_cancelled ((e, true) ∷ ready) = not_cancelled ready
+not_cancelled ((e, false) ∷ ready) = e ∷ not_cancelled ready
+
+abbrev pub registrations_of : RegistrationState → Registrations
+registrations_of s = record { owner = s.owner; endpoint = s.endpoint; pending = not_cancelled s.ready }
+
+-- with a mark at each position on the descriptor
+abbrev pub cancel_on : ℕ → List (Event × Bool) → List (Event × Bool)
+cancel_on fd ready = map (λ p. (p.0, p.1 || (fd == p.0.fd))) ready
+
+-- with a mark at each position whose descriptor the exchanges removes
+abbrev pub cancel_removed : Exchanges → List (Event × Bool) → List (Event × Bool)
+cancel_removed exchanges ready = map (λ p. (p.0, p.1 || removes p.0.fd exchanges)) ready
+
+-- a report, before its first position
+abbrev pub all_pending : List Event → List (Event × Bool)
+all_pending report = map (λ (e : Event). (e, false)) report
+
+-- what a wait answered, and the state after it
+abbrev pub HasWaited : RegistrationState → Result (List Event) Errno → Result ℕ Errno → RegistrationState → Type 0
+HasWaited before (Ok report) result after = (result ≡ Ok (length report)) × (after ≡ record before { ready = all_pending report })
+HasWaited before (Err errno) result after = (result ≡ Err errno) × (after ≡ record before { ready = [] })

@@ -1,0 +1,23 @@
+-- What was asked for through an `EventOps`.
+use Rattle.std.specs.Prelude.{◌≡◌, ℕ, List, [], ◌∷◌}
+use Rattle.event_manager.specs.Event.{Event}
+use Rattle.event_manager.specs.PollerCall.{PollerCall}
+use Rattle.event_manager.specs.Exchange.{Exchanges, ExchangesFit}
+use Rattle.event_manager.specs.RegistrationState.{registrations_of, cancel_removed}
+use Rattle.event_manager.specs.PollerCall.{Controls, Waits, Leads}
+use Rattle.event_manager.specs.declared.epoll.EpollWrapper.{EpollWrapper}
+use Rattle.event_manager.specs.declared.events.EventOps.{EventOps}
+
+module _ {P : Type 0} (controls : Controls P) (waits : Waits P) where
+  -- the exchanges of id i take the registrations and the poller from the state before to the state after
+  pub record AreMade (before after : EpollWrapper P) (i : ℕ) (exchanges : Exchanges) (calls : List PollerCall) : Type 0 where
+    pub fits : ExchangesFit i (registrations_of before.registrations) exchanges calls (registrations_of after.registrations)
+    pub ready : after.registrations.ready ≡ cancel_removed exchanges before.registrations.ready
+    pub led : Leads controls waits before.poller calls after.poller
+    pub same_capacity : after.registrations.capacity ≡ before.registrations.capacity
+
+  -- the exchanges were made through this `EventOps`, under its id
+  pub record AreMadeThrough (before after : EventOps P) (exchanges : Exchanges) (calls : List PollerCall) : Type 0 where
+    pub same_epoll : after.epoll.ghost_name ≡ before.epoll.ghost_name
+    pub same_id : after.id ≡ before.id
+    pub made : AreMade before.epoll.now after.epoll.now before.id exchanges calls

@@ -1,0 +1,66 @@
+-- A list of calls with their replies, from a manager's state to a manager's state.
+use Rattle.std.specs.Prelude.{◌≡◌, ℕ, List, [], ◌∷◌, ◌++◌, map, Ok, Err, Vec}
+use Rattle.std.specs.FinMap as finite
+use Rattle.std.specs.declared.alloc.Global.{Global}
+use Rattle.event_manager.specs.Event.{Event}
+use Rattle.event_manager.specs.PollerCall.{PollerCall}
+use Rattle.event_manager.specs.Exchange.{Exchanges, Answer}
+use Rattle.event_manager.specs.Registry.{Step, Steps, Joined, NotJoined, Left, NotLeft, Replaced, NotReplaced, Requested, NotRequested, calls_of}
+use Rattle.event_manager.specs.Iteration.{ManagerState, Iteration, IsIteration, answer_of, calls_of_iteration}
+use Rattle.event_manager.specs.declared.error.Error.TheVariants.{InvalidId}
+use Rattle.event_manager.specs.declared.events.Request.{Request}
+use Rattle.event_manager.specs.declared.calls.Call.{Call}
+use Rattle.event_manager.specs.declared.calls.Call.TheVariants as call
+use Rattle.event_manager.specs.declared.calls.Reply.{Reply}
+use Rattle.event_manager.specs.declared.calls.Reply.TheVariants as reply
+
+-- what a call did: one step, or a iteration
+pub data Effect (V J R : Type 0) : Type 0 where
+  Stepped : Step V → Effect V J R
+  Iterated : Iteration V J R → Effect V J R
+
+-- a call, its reply, and what it did
+pub record Entry (V J R : Type 0) : Type 0 where
+  pub call : Call V
+  pub reply : Reply V
+  pub effect : Effect V J R
+
+-- the call and the reply are those of the effect
+abbrev pub Matches : {V J R : Type 0} → Effect V J R → Call V → Reply V → Type 0
+Matches (Stepped (Joined value id exchanges calls held)) c r = (c ≡ call.Add value) × (r ≡ reply.Added (Ok id))
+Matches (Stepped (NotJoined value error)) c r = (c ≡ call.Add value) × (r ≡ reply.Added (Err error))
+Matches (Stepped (Left id value calls)) c r = (c ≡ call.Remove id) × (r ≡ reply.Removed (Ok value))
+Matches (Stepped (NotLeft id)) c r = (c ≡ call.Remove id) × (r ≡ reply.Removed (Err InvalidId))
+Matches (Stepped (Replaced id old new)) c r = (c ≡ call.Set id new) × (r ≡ reply.Set (Ok old))
+Matches {V} (Stepped (NotReplaced id)) c r = (new : V) × (c ≡ call.Set id new) × (r ≡ reply.Set (Err InvalidId))
+Matches (Stepped (Requested id exchanges calls)) c r =
+    (requests : Vec Request Global) × (answers : Vec Answer Global) × (c ≡ call.Ask id requests) × (r ≡ reply.Asked (Ok answers))
+    × (map (λ exchange. exchange.0) exchanges ≡ requests.items) × (map (λ exchange. exchange.1) exchanges ≡ answers.items)
+Matches (Stepped (NotRequested id)) c r = (requests : Vec Request Global) × (c ≡ call.Ask id requests) × (r ≡ reply.Asked (Err InvalidId))
+Matches (Iterated iteration) c r = (c ≡ call.Run iteration.ms) × (r ≡ reply.Ran (answer_of iteration.waited))
+
+module _ {V J R : Type 0} (begins : V → Exchanges → V → Type 0) (serves : V → Event → Exchanges → V → Type 0) (may : J → List (Step V) → R → Type 0) where
+  abbrev pub HasEffect : ManagerState V → Effect V J R → ManagerState V → Type 0
+  HasEffect before (Stepped step) after = Steps begins before.registry step after.registry × (after.taken ≡ before.taken)
+  HasEffect before (Iterated iteration) after = IsIteration begins serves may before iteration after
+
+  -- each call from the state that the one before it left
+  abbrev pub IsTrace : ManagerState V → List (Entry V J R) → ManagerState V → Type 0
+  IsTrace before [] after = after ≡ before
+  IsTrace before (entry ∷ trace) after = (mid : ManagerState V) × Matches entry.effect entry.call entry.reply × HasEffect before entry.effect mid × IsTrace mid trace after
+
+-- the asks of a run, in order
+abbrev pub calls_of_effect : {V J R : Type 0} → ℕ → Effect V J R → List PollerCall
+calls_of_effect capacity (Stepped step) = calls_of step
+calls_of_effect capacity (Iterated iteration) = calls_of_iteration capacity iteration
+
+abbrev pub calls_of_trace : {V J R : Type 0} → ℕ → List (Entry V J R) → List PollerCall
+calls_of_trace capacity [] = []
+calls_of_trace capacity (entry ∷ trace) = calls_of_effect capacity entry.effect ++ calls_of_trace capacity trace
+
+-- a new manager, by its endpoint's descriptor
+abbrev pub new_state : {V : Type 0} → ℕ → ManagerState V
+new_state endpoint = record {
+  registry = record { values = finite.empty; next = 1; registrations = record { owner = finite.empty; endpoint = endpoint; pending = [] } };
+  taken = 0;
+}

@@ -1,0 +1,234 @@
+//! Events, and what a subscriber may ask for.
+
+ghost use Rattle.std.specs.Prelude.{◌≡◌, ℕ, ◌≤ℤ◌, ◌<◌, ◌^◌, List, [], ◌∷◌, ℤ, pos, negsuc, unsigned_abs, IsTrue, ◌↔◌};
+ghost use Rattle.event_manager.specs.PollerCall.{PollerCall};
+ghost use Rattle.event_manager.specs.ReadyList.{event_of_entry};
+ghost use Rattle.event_manager.specs.BoxedPoller.{packed};
+ghost use Rattle.event_manager.specs.Requests.{AreMadeThrough};
+ghost use Rattle.event_manager.specs.declared.events.Request.{Request};
+ghost use Rattle.vmm_sys.specs.EventSet.{bits_of};
+
+use crate::epoll::EpollWrapper;
+use crate::poller::EventPoller;
+use crate::{Error, Result};
+use std::marker::Model;
+use vmm_sys::epoll::{AsRawFd, ControlOperation, EpollEvent, EventSet, RawFd};
+use vmm_sys::errno::Errno;
+
+/// A descriptor from 0 up, 32 bits of data, and a set of events; packed as the word `data * 2^32 + fd`.
+///
+/// A subscriber gets it in `process`, and gives it to an [`EventOps`]. Two are equal where all three parts are.
+#[derive(Clone, Copy, PartialEq, Eq)]
+pub struct Events {
+    inner: EpollEvent,
+}
+
+impl Model for Events {
+    ghost use Rattle.std.specs.Prelude.{◌<◌, ◌^◌, ◌%◌};
+    ghost use Rattle.std.proofs.Common.{ap};
+    ghost use Rattle.vmm_sys.specs.EpollEvent.{word_of, set_of, event};
+    ghost use Rattle.event_manager.specs.Event.{Event, word_of_parts, word_of_parts-halves};
+    ghost use Rattle.event_manager.specs.ReadyList.{event_of_entry};
+    ghost use Rattle.event_manager.specs.BoxedPoller.{packed};
+
+    ghost Value = { Event };
+
+    ghost view = { λ e. event_of_entry e.inner };
+
+    ghost invariant = { λ e. word_of e.inner % 2 ^ 32 < 2 ^ 31 };
+
+    ghost inverse = { λ e. record { inner = packed e } };
+
+    ghost inverse_ok = { λ e h. ap (λ w. record { inner = event (set_of e.inner) w }) (word_of_parts-halves (word_of e.inner)) };
+}
+
+impl Events {
+    /// The event of a descriptor from 0 up, with the empty set and data 0.
+    pub fn empty_raw(fd: RawFd) -> Self
+        requires { pos 0 ≤ℤ fd }
+        ensures { result ≡ record { fd = unsigned_abs fd; payload = 0; set = 0 } }
+    {
+        Events::with_data_raw(fd, 0, EventSet::empty())
+    }
+
+    /// The event of a source's descriptor, with the empty set and data 0.
+    pub fn empty<T: AsRawFd>(source: &T) -> Self
+        ensures { (fd : ℕ) × (fd < 2 ^ 31) × (result ≡ record { fd = fd; payload = 0; set = 0 }) }
+    {
+        Events::empty_raw(source.as_raw_fd())
+    }
+
+    /// The event of a descriptor from 0 up, with this set and data 0.
+    pub fn new_raw(fd: RawFd, events: EventSet) -> Self
+        requires { pos 0 ≤ℤ fd }
+        ensures { result ≡ record { fd = unsigned_abs fd; payload = 0; set = bits_of events } }
+    {
+        Events::with_data_raw(fd, 0, events)
+    }
+
+    /// The event of a source's descriptor, with this set and data 0.
+    pub fn new<T: AsRawFd>(source: &T, events: EventSet) -> Self
+        ensures { (fd : ℕ) × (fd < 2 ^ 31) × (result ≡ record { fd = fd; payload = 0; set = bits_of events }) }
+    {
+        Events::new_raw(source.as_raw_fd(), events)
+    }
+
+    /// The event of a descriptor from 0 up, with this set and data.
+    pub fn with_data_raw(fd: RawFd, data: u32, events: EventSet) -> Self
+        requires { pos 0 ≤ℤ fd }
+        ensures { result ≡ record { fd = unsigned_abs fd; payload = «data»; set = bits_of events } }
+    {
+        Events {
+            inner: EpollEvent::new(events, (data as u64) << 32 | fd as u64),
+        }
+    }
+
+    /// The event of a source's descriptor, with this set and data.
+    pub fn with_data<T: AsRawFd>(source: &T, data: u32, events: EventSet) -> Self
+        ensures { (fd : ℕ) × (fd < 2 ^ 31) × (result ≡ record { fd = fd; payload = «data»; set = bits_of events }) }
+    {
+        Events::with_data_raw(source.as_raw_fd(), data, events)
+    }
+
+    /// The event of a reported entry, whose descriptor is one from 0 up.
+    pub(crate) fn of_entry(entry: &EpollEvent) -> Self
+        requires { (event_of_entry entry.now).fd < 2 ^ 31 }
+        ensures { result ≡ event_of_entry entry.now }
+    {
+        Events { inner: *entry }
+    }
+
+    /// The descriptor, from 0 up.
+    pub fn fd(&self) -> RawFd
+        ensures { result ≡ pos self.now.fd }
+    {
+        self.inner.fd()
+    }
+
+    /// The descriptor without its sign.
+    pub(crate) fn number(&self) -> u32
+        ensures value { result ≡ self.now.fd }
+        ensures is_descriptor { result < 2 ^ 31 }
+    {
+        (self.inner.data() % 4294967296) as u32
+    }
+
+    /// The data.
+    pub fn data(&self) -> u32
+        ensures { result ≡ self.now.payload }
+    {
+        (self.inner.data() >> 32) as u32
+    }
+
+    /// The set.
+    pub fn event_set(&self) -> EventSet
+        ensures { bits_of result ≡ self.now.set }
+    {
+        self.inner.event_set()
+    }
+
+    /// The event as a poller is given it: the set, and the packed word.
+    pub fn epoll_event(&self) -> EpollEvent
+        ensures { result ≡ packed self.now }
+    {
+        self.inner
+    }
+}
+
+/// A request of a subscriber, as a value.
+#[derive(Clone, Copy, PartialEq, Eq)]
+pub enum Request {
+    /// [`EventOps::add`].
+    Add(Events),
+    /// [`EventOps::modify`].
+    Modify(Events),
+    /// [`EventOps::remove`].
+    Remove(Events),
+}
+
+/// What one subscriber may ask for: it changes the registrations under that subscriber's id, and no others.
+///
+/// A refused request leaves owners and pending events as they were.
+#[derive(Drop)]
+pub struct EventOps<'a, P> {
+    pub(crate) epoll: &'a mut EpollWrapper<P>,
+    pub(crate) id: u64,
+}
+
+impl<'a, P: EventPoller> EventOps<'a, P> {
+    /// Registers the descriptor for the subscriber.
+    ///
+    /// Refused, in this order: `FdAlreadyRegistered` where a subscriber owns the descriptor, this one included;
+    /// `Epoll(EEXIST)` where it is the endpoint's; `OutOfMemory`, since room is made before the poller is asked;
+    /// `Epoll` with the number that the poller answers.
+    pub fn add(&mut self, events: Events) -> Result<()>
+        ensures { (calls : List PollerCall) × AreMadeThrough P.controls P.waits self.old self.new ((Request.Add events, result) ∷ []) calls }
+    {
+        let epoll = &mut *self.epoll;
+        match epoll.registrations.check_vacant(events) {
+            Ok(()) => {}
+            Err(e) => return Err(e),
+        }
+        match epoll.registrations.register(events, self.id) {
+            Ok(()) => {}
+            Err(e) => return Err(e),
+        }
+        match epoll.ctl(ControlOperation::Add, events) {
+            Ok(()) => Ok(()),
+            Err(e) => {
+                epoll.registrations.unregister(events);
+                Err(Error::Epoll(e))
+            }
+        }
+    }
+
+    /// Changes the wanted set and the data of a descriptor of the subscriber's. Pending events stay as they were
+    /// reported. Takes no memory.
+    ///
+    /// Refused, in this order: `Epoll(ENOENT)` where the descriptor isn't the subscriber's own; `Epoll` with the number
+    /// that the poller answers.
+    pub fn modify(&mut self, events: Events) -> Result<()>
+        ensures { (calls : List PollerCall) × AreMadeThrough P.controls P.waits self.old self.new ((Request.Modify events, result) ∷ []) calls }
+    {
+        let epoll = &mut *self.epoll;
+        if !epoll.registrations.is_owner(self.id, events) {
+            return Err(Error::Epoll(Errno::ENOENT));
+        }
+        match epoll.ctl(ControlOperation::Modify, events) {
+            Ok(()) => Ok(()),
+            Err(e) => Err(Error::Epoll(e)),
+        }
+    }
+
+    /// Frees a descriptor of the subscriber's, and cancels its events of the current batch that are still to come.
+    /// Takes no memory. Only the descriptor matters; set and data are handed to the poller as they are.
+    ///
+    /// Refused as [`modify`](EventOps::modify) is; then nothing is cancelled.
+    pub fn remove(&mut self, events: Events) -> Result<()>
+        ensures { (calls : List PollerCall) × AreMadeThrough P.controls P.waits self.old self.new ((Request.Remove events, result) ∷ []) calls }
+    {
+        let epoll = &mut *self.epoll;
+        if !epoll.registrations.is_owner(self.id, events) {
+            return Err(Error::Epoll(Errno::ENOENT));
+        }
+        match epoll.ctl(ControlOperation::Delete, events) {
+            Ok(()) => {
+                epoll.registrations.unregister(events);
+                epoll.registrations.cancel(events);
+                Ok(())
+            }
+            Err(e) => Err(Error::Epoll(e)),
+        }
+    }
+
+    /// Makes a request that is given as a value.
+    pub fn request(&mut self, request: Request) -> Result<()>
+        ensures { (calls : List PollerCall) × AreMadeThrough P.controls P.waits self.old self.new ((request, result) ∷ []) calls }
+    {
+        match request {
+            Request::Add(events) => self.add(events),
+            Request::Modify(events) => self.modify(events),
+            Request::Remove(events) => self.remove(events),
+        }
+    }
+}

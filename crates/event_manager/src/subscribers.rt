@@ -1,0 +1,208 @@
+//! Subscribers, and the registry that holds them by id.
+
+ghost use Rattle.std.specs.Prelude.{◌≡◌, ℕ, ◌≤◌, ◌<◌, ◌^◌, List, [], ◌∷◌, map, IfOk, IfErr, MatchBool};
+ghost use Rattle.std.specs.Ordering.{nat_cmp};
+ghost use Rattle.event_manager.specs.Event.{Event};
+ghost use Rattle.event_manager.specs.PollerCall.{PollerCall};
+ghost use Rattle.event_manager.specs.Exchange.{Exchanges};
+ghost use Rattle.event_manager.specs.Registry.{Step, HasId, LacksId};
+ghost use Rattle.event_manager.specs.RegistrationState.{all_pending};
+ghost use Rattle.event_manager.specs.Requests.{AreMadeThrough};
+ghost use Rattle.event_manager.specs.LoopState.{HasStepped, IsJoin, IsLoopIteration, new_loop};
+ghost use Rattle.event_manager.specs.Subscribers.{TakesPosition, IsDispatched, loop_state};
+
+use crate::epoll::{EpollWrapper, Registrations};
+use crate::events::{EventOps, Events};
+use crate::poller::{BoxedPoller, EventPoller};
+use crate::{Error, Result};
+use std::alloc::{AllocError, Global};
+use std::collections::BTreeMap;
+use std::marker::Model;
+use vmm_sys::errno::Errno;
+
+/// The number under which a registry holds a subscriber: 1 for the first, then one more each time, never again.
+#[derive(Clone, Copy, PartialEq, Eq, Hash)]
+pub struct SubscriberId {
+    number: u64,
+}
+
+impl Model for SubscriberId {
+    ghost use Rattle.std.specs.Prelude.{ℕ};
+
+    ghost Value = { ℕ };
+
+    ghost view = { λ s. s.number };
+
+    ghost inverse = { λ n. record { number = n } };
+}
+
+impl SubscriberId {
+    /// The number.
+    pub fn number(&self) -> u64
+        ensures { result ≡ self.now }
+    {
+        self.number
+    }
+}
+
+/// A subscriber that changes only what it holds in cells, locks or atomics.
+///
+/// A type states what its calls may ask for: `begins_shared` and `serves_shared` relate its value, the event, and the
+/// list of requests with their answers.
+pub trait EventSubscriber {
+    ghost use Rattle.event_manager.specs.Event.{Event};
+    ghost use Rattle.event_manager.specs.Exchange.{Exchanges};
+
+    /// What `init` may ask for.
+    ghost begins_shared: { Self → Exchanges → Type 0 };
+
+    /// What `process` may ask for on an event.
+    ghost serves_shared: { Self → Event → Exchanges → Type 0 };
+
+    /// Called with each event that is dispatched to the subscriber.
+    fn process<P: EventPoller>(&self, events: Events, ops: &mut EventOps<P>)
+        ensures { (exchanges : Exchanges) × (calls : List PollerCall) × serves_shared self.now events exchanges
+            × AreMadeThrough P.controls P.waits ops.old ops.new exchanges calls };
+
+    /// Called once, when the subscriber is added.
+    fn init<P: EventPoller>(&self, ops: &mut EventOps<P>)
+        ensures { (exchanges : Exchanges) × (calls : List PollerCall) × begins_shared self.now exchanges
+            × AreMadeThrough P.controls P.waits ops.old ops.new exchanges calls };
+}
+
+/// A subscriber.
+///
+/// A type states what its calls may ask for and do: `begins` and `serves` relate its value before, the event, the list
+/// of requests with their answers, and its value after. It changes the registrations through `ops` alone.
+pub trait MutEventSubscriber {
+    ghost use Rattle.event_manager.specs.Event.{Event};
+    ghost use Rattle.event_manager.specs.Exchange.{Exchanges};
+
+    /// What `init` may ask for, from the value before to the value after.
+    ghost begins: { Self → Exchanges → Self → Type 0 };
+
+    /// What `process` may ask for on an event, from the value before to the value after.
+    ghost serves: { Self → Event → Exchanges → Self → Type 0 };
+
+    /// Called with each event that is dispatched to the subscriber.
+    fn process<P: EventPoller>(&mut self, events: Events, ops: &mut EventOps<P>)
+        ensures { (exchanges : Exchanges) × (calls : List PollerCall) × serves self.old events exchanges self.new
+            × AreMadeThrough P.controls P.waits ops.old ops.new exchanges calls };
+
+    /// Called once, when the subscriber is added.
+    fn init<P: EventPoller>(&mut self, ops: &mut EventOps<P>)
+        ensures { (exchanges : Exchanges) × (calls : List PollerCall) × begins self.old exchanges self.new
+            × AreMadeThrough P.controls P.waits ops.old ops.new exchanges calls };
+}
+
+/// The subscribers by id, and their registrations.
+#[derive(Drop)]
+pub struct Registry<S, P = BoxedPoller> {
+    pub(crate) subscribers: BTreeMap<u64, S>,
+    pub(crate) next: u64,
+    pub(crate) epoll: EpollWrapper<P>,
+}
+
+impl<S: MutEventSubscriber, P: EventPoller> Registry<S, P> {
+    /// No subscriber, with room for a batch of `capacity` events.
+    pub(crate) fn new(
+        alloc: Global,
+        poller: P,
+        endpoint: u32,
+        capacity: usize,
+    ) -> std::result::Result<Self, AllocError>
+    where
+        P: Drop,
+        ensures { IfOk result (λ r. loop_state r ≡ new_loop endpoint poller capacity) }
+    {
+        let registrations = Registrations::new(alloc, endpoint, capacity)?;
+        Ok(Registry {
+            subscribers: BTreeMap::new(alloc),
+            next: 1,
+            epoll: EpollWrapper {
+                registrations,
+                poller,
+            },
+        })
+    }
+
+    /// Takes one position of the batch: hands its event to the owner of its descriptor, where there is one and the
+    /// event isn't cancelled. False where no position is left.
+    fn dispatch_next(&mut self) -> bool
+        ensures { MatchBool result
+            (TakesPosition S.serves P.controls P.waits self.old self.new)
+            ((self.new ≡ self.old) × (self.old.epoll.registrations.ready ≡ [])) }
+    {
+        let Some(ready_entry) = self.epoll.registrations.next_ready() else {
+            return false;
+        };
+        if ready_entry.cancelled {
+            return true;
+        }
+        let Some(id) = self.epoll.registrations.owner(&ready_entry.entry) else {
+            return true;
+        };
+        let Some(subscriber) = self.subscribers.get_mut(&id) else {
+            return true;
+        };
+        let mut ops = EventOps {
+            epoll: &mut self.epoll,
+            id,
+        };
+        subscriber.process(Events::of_entry(&ready_entry.entry), &mut ops);
+        true
+    }
+
+    /// Dispatches the batch.
+    fn dispatch(&mut self)
+        requires { self.old.epoll.registrations.ready ≡ all_pending (map (λ p. p.0) self.old.epoll.registrations.ready) }
+        ensures { IsDispatched S.serves P.controls P.waits self.old self.new (map (λ p. p.0) self.old.epoll.registrations.ready) }
+    {
+        while self.dispatch_next() {}
+    }
+
+    /// Waits once, and dispatches what is reported.
+    pub(crate) fn run_with_timeout(&mut self, ms: i32) -> Result<usize>
+        ensures { IsLoopIteration S.serves P.controls P.waits (loop_state self.old) ms result (loop_state self.new) }
+    {
+        match self.epoll.registrations.wait(&mut self.epoll.poller, ms) {
+            Ok(count) => {
+                self.dispatch();
+                Ok(count)
+            }
+            Err(e) => {
+                if e == Errno::EINTR {
+                    return Ok(0);
+                }
+                Err(Error::Epoll(e))
+            }
+        }
+    }
+
+    /// Takes a subscriber in under the next id.
+    pub(crate) fn join(&mut self, subscriber: S) -> Result<SubscriberId>
+    where
+        S: Drop,
+        ensures { (step : Step S) × IsJoin subscriber result step
+            × HasStepped S.begins P.controls P.waits (loop_state self.old) step (loop_state self.new) }
+    {
+        if self.next == u64::MAX {
+            return Err(Error::IdsUsedUp);
+        }
+        let id = self.next;
+        match self.subscribers.insert(id, subscriber) {
+            Ok(_) => {}
+            Err(_) => return Err(Error::OutOfMemory),
+        }
+        let Some(held) = self.subscribers.get_mut(&id) else {
+            return Err(Error::OutOfMemory);
+        };
+        let mut ops = EventOps {
+            epoll: &mut self.epoll,
+            id,
+        };
+        held.init(&mut ops);
+        self.next += 1;
+        Ok(SubscriberId { number: id })
+    }
+}

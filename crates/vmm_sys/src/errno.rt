@@ -1,0 +1,76 @@
+//! Error numbers of Linux.
+
+ghost use Rattle.std.specs.Prelude.{Some, codes, ◌++◌};
+ghost use Rattle.std.specs.Fmt.{signed_decimal};
+
+use std::fmt;
+
+/// An error number of Linux. It prints as `os error N`, N in decimal with a `-` below 0.
+///
+/// Any number may be held: a caller's own poller answers what it likes.
+#[derive(Clone, Copy, PartialEq, Eq, Debug)]
+pub struct Errno(pub i32);
+
+impl Errno {
+    /// The descriptor has no interest.
+    pub const ENOENT: Errno = Errno(2);
+
+    /// The wait was interrupted.
+    pub const EINTR: Errno = Errno(4);
+
+    /// The descriptor isn't open, or isn't of the kind that the call asks for.
+    pub const EBADF: Errno = Errno(9);
+
+    /// The call would have to wait.
+    pub const EAGAIN: Errno = Errno(11);
+
+    /// Memory was refused.
+    pub const ENOMEM: Errno = Errno(12);
+
+    /// The descriptor has an interest already.
+    pub const EEXIST: Errno = Errno(17);
+
+    /// An argument is not allowed.
+    pub const EINVAL: Errno = Errno(22);
+
+    /// All descriptors are in use.
+    pub const EMFILE: Errno = Errno(24);
+}
+
+impl fmt::Display for Errno {
+    ghost output = { λ e. Some (codes "os error " ++ signed_decimal e.0) };
+
+    fn fmt<W: fmt::Write>(&self, f: &mut fmt::Formatter<W>) -> fmt::Result {
+        let number = self.0;
+        write!(f, "os error {number}")
+    }
+}
+
+impl std::error::Error for Errno {}
+
+#[cfg(test)]
+mod tests {
+    use super::*;
+    use std::test::Fail;
+
+    #[test]
+    fn numbers_and_texts(rt: HostRuntime) -> Result<(), Fail> {
+        let table = [
+            (Errno::ENOENT, 2, "os error 2"),
+            (Errno::EINTR, 4, "os error 4"),
+            (Errno::EBADF, 9, "os error 9"),
+            (Errno::EAGAIN, 11, "os error 11"),
+            (Errno::ENOMEM, 12, "os error 12"),
+            (Errno::EEXIST, 17, "os error 17"),
+            (Errno::EINVAL, 22, "os error 22"),
+            (Errno::EMFILE, 24, "os error 24"),
+            (Errno(-5), -5, "os error -5"),
+        ];
+        for (errno, number, text) in table {
+            assert_eq!(rt; errno.0, number);
+            let printed = format!(in rt.alloc(); "{errno}")?;
+            assert_eq!(rt; printed.as_str(), text);
+        }
+        Ok(())
+    }
+}

@@ -1,0 +1,196 @@
+//! Sets of events, as bits.
+
+ghost use Rattle.std.specs.Prelude.{⊤, ◌≡◌, ◌==◌, [], ◌∷◌, codes, not};
+ghost use Rattle.std.specs.Int.RustNames.{bit_and, bit_or};
+ghost use Rattle.bitflags.specs.Sets.{without};
+
+use bitflags::{Flag, Flags, bitflag_items};
+
+/// A set of events and of modes, as `epoll` numbers them.
+///
+/// Ten bits have names. Others come only through [`EventSet::from_bits_retain`], and are kept.
+#[derive(Clone, Copy, PartialEq, Eq, Debug)]
+pub struct EventSet(u32);
+
+bitflag_items! {
+    impl EventSet: u32 {
+        /// There is something to read.
+        const IN = 0x1;
+        /// There is something urgent to read.
+        const PRIORITY = 0x2;
+        /// A write would not have to wait.
+        const OUT = 0x4;
+        /// An error; reported whether it is wanted or not.
+        const ERROR = 0x8;
+        /// Hang up; reported whether it is wanted or not.
+        const HANG_UP = 0x10;
+        /// The other side writes no more.
+        const READ_HANG_UP = 0x2000;
+        /// A mode: one of several waiters is woken.
+        const EXCLUSIVE = 0x1000_0000;
+        /// A mode: the system stays awake while the event is served.
+        const WAKE_UP = 0x2000_0000;
+        /// A mode: the interest is off after one report.
+        const ONE_SHOT = 0x4000_0000;
+        /// A mode: changes are reported, and not states.
+        const EDGE_TRIGGERED = 0x8000_0000;
+    }
+}
+
+impl Flags for EventSet {
+    type Bits = u32;
+
+    ghost exact = { ⊤ };
+
+    ghost table = { (codes "IN", 0x1) ∷ (codes "PRIORITY", 0x2) ∷ (codes "OUT", 0x4) ∷ (codes "ERROR", 0x8) ∷ (codes "HANG_UP", 0x10) ∷ (codes "READ_HANG_UP", 0x2000) ∷ (codes "EXCLUSIVE", 0x10000000) ∷ (codes "WAKE_UP", 0x20000000) ∷ (codes "ONE_SHOT", 0x40000000) ∷ (codes "EDGE_TRIGGERED", 0x80000000) ∷ [] };
+
+    ghost set_of = { λ s. s.0 };
+
+    fn flags<'a>() -> &'a [Flag<EventSet>] {
+        EventSet::FLAGS
+    }
+
+    fn bits(&self) -> u32 {
+        self.0
+    }
+
+    fn from_bits_retain(bits: u32) -> EventSet {
+        EventSet(bits)
+    }
+}
+
+impl EventSet {
+    ghost use Rattle.vmm_sys.specs.EventSet.{bits_of};
+
+    /// The set of no bit.
+    pub fn empty() -> EventSet
+        ensures { bits_of result ≡ 0 }
+    {
+        <EventSet as Flags>::empty()
+    }
+
+    /// The set of the ten named bits.
+    pub fn all() -> EventSet
+        ensures { bits_of result ≡ 0xF000201F }
+    {
+        <EventSet as Flags>::all()
+    }
+
+    /// The set of these bits; those without a name are kept.
+    pub fn from_bits_retain(bits: u32) -> EventSet
+        ensures { bits_of result ≡ bits }
+    {
+        <EventSet as Flags>::from_bits_retain(bits)
+    }
+
+    /// The bits of the set.
+    pub fn bits(&self) -> u32
+        ensures { result ≡ bits_of self.now }
+    {
+        <EventSet as Flags>::bits(self)
+    }
+
+    /// Whether the set has no bit.
+    pub fn is_empty(&self) -> bool
+        ensures { result ≡ (bits_of self.now == 0) }
+    {
+        <EventSet as Flags>::is_empty(self)
+    }
+
+    /// Whether each bit of `other` is in the set.
+    pub fn contains(&self, other: EventSet) -> bool
+        ensures { result ≡ (bit_and (bits_of self.now) (bits_of other) == bits_of other) }
+    {
+        <EventSet as Flags>::contains(self, other)
+    }
+
+    /// Whether the two sets share a bit.
+    pub fn intersects(&self, other: EventSet) -> bool
+        ensures { result ≡ not (bit_and (bits_of self.now) (bits_of other) == 0) }
+    {
+        <EventSet as Flags>::intersects(self, other)
+    }
+
+    /// The bits that are in both sets.
+    pub fn intersection(self, other: EventSet) -> EventSet
+        ensures { bits_of result ≡ bit_and (bits_of self) (bits_of other) }
+    {
+        <EventSet as Flags>::intersection(self, other)
+    }
+
+    /// The bits that are in either set.
+    pub fn union(self, other: EventSet) -> EventSet
+        ensures { bits_of result ≡ bit_or (bits_of self) (bits_of other) }
+    {
+        <EventSet as Flags>::union(self, other)
+    }
+
+    /// The bits of this set that are not in `other`.
+    pub fn difference(self, other: EventSet) -> EventSet
+        ensures { bits_of result ≡ without 32 (bits_of self) (bits_of other) }
+    {
+        <EventSet as Flags>::difference(self, other)
+    }
+
+    /// Puts the bits of `other` in.
+    pub fn insert(&mut self, other: EventSet)
+        ensures { bits_of self.new ≡ bit_or (bits_of self.old) (bits_of other) }
+    {
+        <EventSet as Flags>::insert(self, other)
+    }
+
+    /// Takes the bits of `other` out.
+    pub fn remove(&mut self, other: EventSet)
+        ensures { bits_of self.new ≡ without 32 (bits_of self.old) (bits_of other) }
+    {
+        <EventSet as Flags>::remove(self, other)
+    }
+}
+
+#[cfg(test)]
+mod tests {
+    use super::*;
+
+    #[test]
+    fn bits_of_the_names(rt: HostRuntime) {
+        let table = [
+            (EventSet::IN, 0x1),
+            (EventSet::PRIORITY, 0x2),
+            (EventSet::OUT, 0x4),
+            (EventSet::ERROR, 0x8),
+            (EventSet::HANG_UP, 0x10),
+            (EventSet::READ_HANG_UP, 0x2000),
+            (EventSet::EXCLUSIVE, 0x1000_0000),
+            (EventSet::WAKE_UP, 0x2000_0000),
+            (EventSet::ONE_SHOT, 0x4000_0000),
+            (EventSet::EDGE_TRIGGERED, 0x8000_0000),
+        ];
+        let mut all = EventSet::empty();
+        for (set, bits) in table {
+            assert_eq!(rt; set.bits(), bits);
+            all.insert(set);
+        }
+        assert_eq!(rt; all, EventSet::all());
+        assert_eq!(rt; EventSet::all().bits(), 0xF000_201F);
+    }
+
+    #[test]
+    fn operations(rt: HostRuntime) {
+        let both = EventSet::IN | EventSet::OUT;
+        assert_eq!(rt; both.bits(), 0x5);
+        assert!(rt; EventSet::empty().is_empty());
+        assert!(rt; !both.is_empty());
+        assert!(rt; both.contains(EventSet::OUT));
+        assert!(rt; !EventSet::IN.contains(both));
+        assert!(rt; both.intersects(EventSet::OUT.union(EventSet::ERROR)));
+        assert!(rt; !both.intersects(EventSet::ERROR));
+        assert_eq!(rt; both.difference(EventSet::IN), EventSet::OUT);
+        assert_eq!(rt; both.intersection(EventSet::IN), EventSet::IN);
+        let unnamed = EventSet::from_bits_retain(0x101);
+        assert_eq!(rt; unnamed.bits(), 0x101);
+        assert_eq!(rt; unnamed.difference(EventSet::IN).bits(), 0x100);
+        let mut set = both;
+        set.remove(EventSet::IN);
+        assert_eq!(rt; set, EventSet::OUT);
+    }
+}

@@ -1,0 +1,254 @@
+//! A poller that follows a script.
+
+ghost use Rattle.std.specs.Prelude.{◌≡◌, ◌≤◌, ◌<◌, ◌++◌, [], length, take, drop, position, Ok, Err, OnOk, OnErr, IfSome, IsOkUnless};
+ghost use Rattle.vmm_sys.specs.ScriptPoller.{same_operation, refuses, with_answer, with_refusal, answer_of, ctl_answer, after_ctl, next_answer, after_wait, entries_of, count_of, script_code, MayCtl, MayWait};
+
+use crate::epoll::{ControlOperation, EpollEvent, RawFd};
+use crate::errno::Errno;
+use crate::poller::Poller;
+use std::alloc::Global;
+use std::collections::VecDeque;
+use std::marker::Model;
+
+/// What is to be answered to one operation on one descriptor.
+#[derive(Clone, Copy)]
+pub struct Refusal {
+    op: ControlOperation,
+    fd: RawFd,
+    errno: Errno,
+}
+
+/// A poller whose reports, faults and refusals are said beforehand; it is no poller of the system's.
+///
+/// Waits take the pushed reports and faults in the order of pushing. A `ctl` is refused once for each pushed refusal
+/// of its operation and descriptor, and else agreed. Time limits are without effect: no call waits.
+#[derive(Drop)]
+pub struct ScriptPoller {
+    answers: VecDeque<Result<Vec<EpollEvent>, Errno>>,
+    refusals: Vec<Refusal>,
+}
+
+impl Model for ScriptPoller {
+    ghost use Rattle.std.specs.Prelude.{map};
+    ghost use Rattle.vmm_sys.specs.ScriptPoller.{Script, answer_of};
+
+    ghost Value = { Script };
+
+    ghost view = { λ s. record { answers = map answer_of s.answers.items; refusals = s.refusals.items } };
+}
+
+impl ScriptPoller {
+    /// An empty script: each `ctl` is agreed, and each wait reports nothing.
+    pub fn new(alloc: Global) -> ScriptPoller
+        ensures { result ≡ record { answers = []; refusals = [] } }
+    {
+        ScriptPoller {
+            answers: VecDeque::new(alloc),
+            refusals: Vec::new(alloc),
+        }
+    }
+
+    fn push(&mut self, answer: Result<Vec<EpollEvent>, Errno>) -> Result<(), Errno>
+        ensures errors { IsOkUnless result Errno.ENOMEM }
+        ensures pushed { OnOk result (self.new ≡ with_answer self.old (answer_of answer)) }
+        ensures unchanged { OnErr result (self.new ≡ self.old) }
+    {
+        match self.answers.push_back(answer) {
+            Ok(()) => Ok(()),
+            Err(_) => Err(Errno::ENOMEM),
+        }
+    }
+
+    /// Appends a report, of any length, to the answers of the waits to come.
+    ///
+    /// `ENOMEM`: memory was refused; the script is as it was, and the report is dropped.
+    pub fn push_report(&mut self, events: Vec<EpollEvent>) -> Result<(), Errno>
+        ensures errors { IsOkUnless result Errno.ENOMEM }
+        ensures pushed { OnOk result (self.new ≡ with_answer self.old (Ok events.items)) }
+        ensures unchanged { OnErr result (self.new ≡ self.old) }
+    {
+        self.push(Ok(events))
+    }
+
+    /// Appends an error to the answers of the waits to come.
+    ///
+    /// `ENOMEM`: memory was refused; the script is as it was.
+    pub fn push_fault(&mut self, errno: Errno) -> Result<(), Errno>
+        ensures errors { IsOkUnless result Errno.ENOMEM }
+        ensures pushed { OnOk result (self.new ≡ with_answer self.old (Err errno)) }
+        ensures unchanged { OnErr result (self.new ≡ self.old) }
+    {
+        self.push(Err(errno))
+    }
+
+    /// Keeps a refusal: one `ctl` of this operation and descriptor is to answer `errno`, after those pushed before.
+    ///
+    /// `ENOMEM`: memory was refused; the script is as it was.
+    pub fn push_refusal(
+        &mut self,
+        op: ControlOperation,
+        fd: RawFd,
+        errno: Errno,
+    ) -> Result<(), Errno>
+        ensures errors { IsOkUnless result Errno.ENOMEM }
+        ensures pushed { OnOk result (self.new ≡ with_refusal self.old op fd errno) }
+        ensures unchanged { OnErr result (self.new ≡ self.old) }
+    {
+        match self.refusals.push(Refusal { op, fd, errno }) {
+            Ok(()) => Ok(()),
+            Err(_) => Err(Errno::ENOMEM),
+        }
+    }
+
+    fn place_of_refusal(&self, op: ControlOperation, fd: RawFd) -> Option<usize>
+        ensures first { result ≡ position (refuses op fd) self.now.refusals }
+        ensures bound { IfSome result (λ k. k < length self.now.refusals) }
+    {
+        self.refusals
+            .iter()
+            .position(|r| same_operation(r.op, op) && r.fd == fd)
+    }
+
+    // Strikes out and answers the first refusal of the operation and descriptor.
+    fn strike_refusal(&mut self, op: ControlOperation, fd: RawFd) -> Result<(), Errno>
+        ensures answer { result ≡ ctl_answer self.old op fd }
+        ensures after { self.new ≡ after_ctl self.old op fd }
+    {
+        match self.place_of_refusal(op, fd) {
+            None => Ok(()),
+            Some(at) => Err(self.refusals.remove(at).errno),
+        }
+    }
+
+    // Takes the next report or fault; what doesn't fit of a report stays the next one.
+    fn take_answer(&mut self, buffer: &mut [EpollEvent]) -> Result<usize, Errno>
+        ensures answer { result ≡ count_of (next_answer self.old.answers (length buffer.old)) }
+        ensures entries { buffer.new ≡ (let events = entries_of (next_answer self.old.answers (length buffer.old)) in events ++ drop (length events) buffer.old) }
+        ensures after { self.new ≡ after_wait self.old (length buffer.old) }
+    {
+        if buffer.is_empty() {
+            return Err(Errno::EINVAL);
+        }
+        match self.answers.pop_front() {
+            None => Ok(0),
+            Some(Err(errno)) => Err(errno),
+            Some(Ok(events)) => {
+                let count = copy_front(&events, buffer);
+                if count < events.len() {
+                    self.answers.push_front_reserved(Ok(behind(events, count)));
+                }
+                Ok(count)
+            }
+        }
+    }
+}
+
+impl Poller for ScriptPoller {
+    ghost meaning = { λ s. script_code.code s };
+
+    ghost may_ctl = { MayCtl };
+
+    ghost may_wait = { MayWait };
+
+    /// Answers the first kept refusal of this operation and descriptor, which is then used up. Without one the answer is `Ok`.
+    fn ctl(&mut self, op: ControlOperation, fd: RawFd, _event: EpollEvent) -> Result<(), Errno> {
+        self.strike_refusal(op, fd)
+    }
+
+    /// Gives the next report or fault. `EINVAL`: the buffer has no room, and the script stays.
+    ///
+    /// Of a report longer than the buffer the first events are given, and the others stay as the next report.
+    /// With nothing left the answer is `Ok(0)`.
+    fn wait(&mut self, _ms: i32, buffer: &mut [EpollEvent]) -> Result<usize, Errno> {
+        self.take_answer(buffer)
+    }
+}
+
+fn same_operation(a: ControlOperation, b: ControlOperation) -> bool
+    ensures { result ≡ same_operation a b }
+{
+    match (a, b) {
+        (ControlOperation::Add, ControlOperation::Add) => true,
+        (ControlOperation::Modify, ControlOperation::Modify) => true,
+        (ControlOperation::Delete, ControlOperation::Delete) => true,
+        _ => false,
+    }
+}
+
+// Copies as many events as there is room for.
+fn copy_front(events: &[EpollEvent], buffer: &mut [EpollEvent]) -> usize
+    ensures count { result ≡ length (take (length buffer.old) events.now) }
+    ensures buffer { buffer.new ≡ take (length buffer.old) events.now ++ drop result buffer.old }
+{
+    let count = events.len().min(buffer.len());
+    buffer[..count].copy_from_slice(&events[..count]);
+    count
+}
+
+// The events behind the first ones.
+fn behind(events: Vec<EpollEvent>, count: usize) -> Vec<EpollEvent>
+    requires { count ≤ length events.items }
+    ensures { result.items ≡ drop count events.items }
+{
+    let mut events = events;
+    let left = events.len() - count;
+    events.rotate_left(count);
+    events.truncate(left);
+    events
+}
+
+#[cfg(test)]
+mod tests {
+    use super::*;
+    use crate::event_set::EventSet;
+    use std::test::Fail;
+
+    fn event(word: u64) -> EpollEvent {
+        EpollEvent::new(EventSet::IN, word)
+    }
+
+    #[test]
+    fn reports_and_faults(rt: HostRuntime) -> Result<(), Fail> {
+        let mut script = ScriptPoller::new(rt.alloc());
+        let long = vec![in rt.alloc(); event(1), event(2), event(3)]?;
+        assert_eq!(rt; script.push_report(long), Ok(()));
+        assert_eq!(rt; script.push_fault(Errno::EINTR), Ok(()));
+        assert_eq!(rt; script.push_report(Vec::new(rt.alloc())), Ok(()));
+        let mut poller: Box<dyn Poller + Send> = Box::new(rt.alloc(), script)?;
+        let mut buffer = [event(0); 2];
+        assert_eq!(rt; poller.wait(-1, &mut []), Err(Errno::EINVAL));
+        assert_eq!(rt; poller.wait(-1, &mut buffer), Ok(2));
+        assert_eq!(rt; buffer, [event(1), event(2)]);
+        assert_eq!(rt; poller.wait(0, &mut buffer), Ok(1));
+        assert_eq!(rt; buffer[0], event(3));
+        assert_eq!(rt; poller.wait(5, &mut buffer), Err(Errno::EINTR));
+        assert_eq!(rt; poller.wait(-1, &mut buffer), Ok(0));
+        assert_eq!(rt; poller.wait(-1, &mut buffer), Ok(0));
+        assert_eq!(rt; poller.wait(-1, &mut []), Err(Errno::EINVAL));
+        Ok(())
+    }
+
+    #[test]
+    fn refusals_in_the_order_of_pushing(rt: HostRuntime) -> Result<(), Fail> {
+        let mut script = ScriptPoller::new(rt.alloc());
+        let add = ControlOperation::Add;
+        assert_eq!(rt; script.push_refusal(add, 3, Errno(22)), Ok(()));
+        assert_eq!(rt;
+            script.push_refusal(ControlOperation::Delete, 3, Errno(5)),
+            Ok(())
+        );
+        assert_eq!(rt; script.push_refusal(add, 3, Errno(23)), Ok(()));
+        let mut poller: Box<dyn Poller + Send> = Box::new(rt.alloc(), script)?;
+        assert_eq!(rt; poller.ctl(ControlOperation::Modify, 3, event(0)), Ok(()));
+        assert_eq!(rt; poller.ctl(add, 4, event(0)), Ok(()));
+        assert_eq!(rt; poller.ctl(add, 3, event(0)), Err(Errno(22)));
+        assert_eq!(rt; poller.ctl(add, 3, event(0)), Err(Errno(23)));
+        assert_eq!(rt; poller.ctl(add, 3, event(0)), Ok(()));
+        assert_eq!(rt;
+            poller.ctl(ControlOperation::Delete, 3, event(0)),
+            Err(Errno(5))
+        );
+        assert_eq!(rt; poller.ctl(ControlOperation::Delete, 3, event(0)), Ok(()));
+        Ok(())
+    }
+}
