@@ -1,13 +1,11 @@
 -- The positions of a buffer.
-use Rattle.std.proofs.Common.{◌≡◌, ℕ, suc, ◌+◌, ◌<◌, ◌≤◌, refl, sym, ap, subst, ◌∙◌, List, [], ◌∷◌, ◌++◌, Bool, true, false, length, get_or, take, drop, add-one, arith, length-take, get_or-take, drop-cons, zero, replicate, map, ℤ, Ok, Err}
+use Rattle.std.proofs.Common.{◌≡◌, ℕ, suc, ◌+◌, ◌<◌, ◌≤◌, refl, sym, ap, subst, ◌∙◌, List, [], ◌∷◌, ◌++◌, Bool, false, length, get_or, take, drop, add-one, arith, length-take, get_or-take, drop-cons, zero, replicate, map, ℤ, Ok}
 use Rattle.std.proofs.lemmas.List.{length-take-le}
 use base.Stored.{Gv}
-use Rattle.vmm_sys.specs.declared.errno.Errno.{Errno}
 use Rattle.vmm_sys.specs.declared.poller.Poller.{Ghosts}
 use Rattle.event_manager.specs.BoxedPoller.{waits}
 use Rattle.event_manager.specs.RegistrationState.{all_pending}
 use Rattle.vmm_sys.specs.declared.epoll.EpollEvent.{EpollEvent}
-use Rattle.event_manager.specs.Event.{Event}
 use Rattle.event_manager.specs.ReadyList.{event_of_entry, with_cancellations, ready_of}
 
 -- one more position: the entry and its mark, and then the others

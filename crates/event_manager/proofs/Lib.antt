@@ -13,3 +13,4 @@ pub mod ProjectedTrace
 pub mod ProjectionKept
 pub mod Soundness
 pub mod TreeMaps
+pub mod StepExchangeLemmas

@@ -1,13 +1,12 @@
 -- One position of a batch, and the batch.
-use Rattle.std.proofs.Common.{◌≡◌, ℕ, refl, sym, ap, subst, ◌∙◌, List, [], ◌∷◌, ◌++◌, Bool, true, false, ◌⊎◌, inl, inr, Some, None, Option, ⊎_elim, not, cond, ◌||◌, map, append_assoc, length, Result, Ok, Err, ℤ}
+use Rattle.std.proofs.Common.{◌≡◌, ℕ, refl, sym, ap, subst, ◌∙◌, List, [], ◌∷◌, ◌++◌, Bool, true, false, ◌⊎◌, Some, None, Option, ⊎_elim, not, cond, ◌||◌, map, append_assoc, length, Result, Ok, Err, ℤ}
 use Rattle.vmm_sys.specs.declared.errno.Errno.{Errno}
 use Rattle.event_manager.specs.Registry as model
 use Rattle.std.proofs.lemmas.List.{append-nil}
 use Rattle.std.specs.Ordering.{nat_cmp}
-use Rattle.std.specs.FinMap.{FinMap, get, insert, from_entries}
-use Rattle.std.specs.BTreeMap.{BTreeMap}
+use Rattle.std.specs.FinMap.{get, insert, from_entries}
 use Rattle.event_manager.specs.Event.{Event}
-use Rattle.event_manager.specs.Registrations.{Registrations, Owns}
+use Rattle.event_manager.specs.Registrations.{Owns}
 use Rattle.event_manager.specs.PollerCall.{PollerCall, Wait}
 use Rattle.event_manager.specs.Exchange.{Exchanges, ExchangesFit, removes}
 use Rattle.event_manager.specs.RegistrationState.{RegistrationState, not_cancelled, registrations_of, cancel_removed, all_pending, HasWaited}
@@ -19,7 +18,6 @@ use Rattle.event_manager.specs.Requests.{AreMade}
 use Rattle.event_manager.specs.PollerCall.{Controls, Waits, Leads}
 use Rattle.event_manager.specs.Subscribers.{registry_of, idle, loop_state, HasOutcome, TakesPosition, IsDispatched}
 use Rattle.event_manager.specs.LoopState.{IsLoopIteration}
-use Rattle.event_manager.specs.declared.epoll.EpollWrapper.{EpollWrapper}
 use Rattle.event_manager.specs.declared.subscribers.Registry.{Registry}
 use Rattle.event_manager.proofs.ExchangeLemmas.{cancel_removed_none, leads_join}
 
@@ -231,7 +229,7 @@ module _ {S P : Type 0} (serves : S → Event → Exchanges → S → Type 0) (c
       let reported = ap (map (λ (p : Event × Bool). p.0)) came ∙ fst_all_pending report in
       let from = subst (λ (b : RegistrationState). AreDispatched serves (record { values = from_entries {R = nat_cmp} start.subscribers.entries; next = start.next; registrations = registrations_of b }) [] dispatched.positions (registry_of after)) waited.1 dispatched.dispatched.1 in
       let onto = subst (λ l. AreDispatched serves (idle (registry_of start)) [] dispatched.positions (record (registry_of after) { registrations = record (registrations_of after.epoll.registrations) { pending = not_cancelled l } })) dispatched.over
-          (repend serves (idle (registry_of start)) (not_cancelled (all_pending report)) dispatched.positions (registry_of after) from) in
+      (repend serves (idle (registry_of start)) (not_cancelled (all_pending report)) dispatched.positions (registry_of after) from) in
       record {
         waited = Ok report;
         positions = dispatched.positions;

@@ -1,5 +1,5 @@
 -- How the manager asks a poller, by its stated relations.
-use Rattle.std.specs.Prelude.{◌≡◌, ℕ, ℤ, List, [], ◌∷◌, map, length, pos, Result, Ok, Err}
+use Rattle.std.specs.Prelude.{◌≡◌, ℕ, ℤ, List, [], map, length, pos, Result, Ok, Err}
 use base.Stored.{Gv}
 use Rattle.vmm_sys.specs.declared.epoll.EpollEvent.{EpollEvent}
 use Rattle.vmm_sys.specs.declared.errno.Errno.{Errno}

@@ -16,3 +16,6 @@ pub mod Registry
 pub mod Requests
 pub mod Trace
 pub mod ErrorText
+pub mod Manager
+pub mod StepExchanges
+pub mod EitherSubscriber

@@ -1,10 +1,10 @@
 -- What was asked for through an `EventOps`.
-use Rattle.std.specs.Prelude.{◌≡◌, ℕ, List, [], ◌∷◌}
-use Rattle.event_manager.specs.Event.{Event}
+use Rattle.std.specs.Prelude.{◌≡◌, ℕ, List, []}
 use Rattle.event_manager.specs.PollerCall.{PollerCall}
 use Rattle.event_manager.specs.Exchange.{Exchanges, ExchangesFit}
 use Rattle.event_manager.specs.RegistrationState.{registrations_of, cancel_removed}
 use Rattle.event_manager.specs.PollerCall.{Controls, Waits, Leads}
+use Rattle.event_manager.specs.LoopState.{LoopState}
 use Rattle.event_manager.specs.declared.epoll.EpollWrapper.{EpollWrapper}
 use Rattle.event_manager.specs.declared.events.EventOps.{EventOps}
 
@@ -21,3 +21,10 @@ module _ {P : Type 0} (controls : Controls P) (waits : Waits P) where
     pub same_epoll : after.epoll.ghost_name ≡ before.epoll.ghost_name
     pub same_id : after.id ≡ before.id
     pub made : AreMade before.epoll.now after.epoll.now before.id exchanges calls
+
+-- an `EventOps` of this id, outside a batch
+pub record StandsFor {S P : Type 0} (ops : EventOps P) (id : ℕ) (state : LoopState S P) : Type 0 where
+  pub same_id : ops.id ≡ id
+  pub registrations : record (registrations_of ops.epoll.now.registrations) { pending = [] } ≡ state.registry.registrations
+  pub poller : ops.epoll.now.poller ≡ state.poller
+  pub capacity : ops.epoll.now.registrations.capacity ≡ state.capacity

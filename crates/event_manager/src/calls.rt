@@ -1,8 +1,8 @@
 //! Calls of a manager and their replies, as values.
 
+use crate::Result;
 use crate::events::Request;
 use crate::subscribers::SubscriberId;
-use crate::Result;
 
 /// A call of a manager, as one of a list.
 #[derive(Drop)]

@@ -53,7 +53,7 @@ impl Events {
 
     /// The event of a source's descriptor, with the empty set and data 0.
     pub fn empty<T: AsRawFd>(source: &T) -> Self
-        ensures { (fd : ℕ) × (fd < 2 ^ 31) × (result ≡ record { fd = fd; payload = 0; set = 0 }) }
+        ensures { result ≡ record { fd = T.descriptor source.now; payload = 0; set = 0 } }
     {
         Events::empty_raw(source.as_raw_fd())
     }
@@ -68,7 +68,7 @@ impl Events {
 
     /// The event of a source's descriptor, with this set and data 0.
     pub fn new<T: AsRawFd>(source: &T, events: EventSet) -> Self
-        ensures { (fd : ℕ) × (fd < 2 ^ 31) × (result ≡ record { fd = fd; payload = 0; set = bits_of events }) }
+        ensures { result ≡ record { fd = T.descriptor source.now; payload = 0; set = bits_of events } }
     {
         Events::new_raw(source.as_raw_fd(), events)
     }
@@ -85,7 +85,7 @@ impl Events {
 
     /// The event of a source's descriptor, with this set and data.
     pub fn with_data<T: AsRawFd>(source: &T, data: u32, events: EventSet) -> Self
-        ensures { (fd : ℕ) × (fd < 2 ^ 31) × (result ≡ record { fd = fd; payload = «data»; set = bits_of events }) }
+        ensures { result ≡ record { fd = T.descriptor source.now; payload = «data»; set = bits_of events } }
     {
         Events::with_data_raw(source.as_raw_fd(), data, events)
     }
@@ -133,6 +133,15 @@ impl Events {
     {
         self.inner
     }
+}
+
+/// Whether the events are equal: exactly where descriptor, data and set are. So equality is an equivalence.
+pub fn are_equal(a: &Events, b: &Events) -> bool
+    ensures { IsTrue result ↔ (a.now ≡ b.now) }
+{
+    let _first = &a.inner;
+    let _second = &b.inner;
+    a == b
 }
 
 /// A request of a subscriber, as a value.

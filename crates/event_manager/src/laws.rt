@@ -1,6 +1,6 @@
 //! What holds of every history of a manager: each function does nothing, and its contract is a law.
 
-ghost use Rattle.std.specs.Prelude.{◌≡◌, ◌≢◌, ℕ, false, List, [], ◌∷◌, ◌++◌};
+ghost use Rattle.std.specs.Prelude.{IsTrue, ◌↔◌, ◌≡◌, ◌≢◌, ℕ, false, List, [], ◌∷◌, ◌++◌};
 ghost use Rattle.event_manager.specs.Event.{Event};
 ghost use Rattle.event_manager.specs.PollerCall.{PollerCall};
 ghost use Rattle.event_manager.specs.Registrations.{Registrations};
@@ -14,7 +14,7 @@ ghost use Rattle.event_manager.specs.Guarantees.{AreGiven, steps_of, RemovedStay
 ghost use Rattle.event_manager.specs.Example.{any_begins, any_serves, any_may, joins, iterates};
 
 use crate::jobs::Job;
-use crate::subscribers::MutEventSubscriber;
+use crate::subscribers::{MutEventSubscriber, SubscriberId};
 
 /// Non-interference: of a trace in which no job ran, the projection to each id that is apart from its neighbours (no
 /// other id owns at the start, or adds with success, a descriptor that the id owns at the start or asks to add) is
@@ -23,8 +23,7 @@ pub fn non_interference<S: MutEventSubscriber, J: Job<S>>()
     ensures traces { (before : ManagerState S) (trace : List (Entry S J J.Reply)) (after : ManagerState S) →
         IsTrace S.begins S.serves J.may before trace after → NonInterference S.begins S.serves J.may before trace after }
     ensures keeps { (trace : List (Entry S J J.Reply)) (after : ManagerState S) → ProjectionKeeps trace after }
-{
-}
+{}
 
 /// In every trace the ids that joins give follow each other from the next id on, each once; every later call for a
 /// subscriber that left is refused.
@@ -33,8 +32,7 @@ pub fn ids_are_given_once<S: MutEventSubscriber, J: Job<S>>()
         IsTrace S.begins S.serves J.may before trace after → AreGiven before.registry.next (steps_of trace) after.registry.next }
     ensures removed { (before : ManagerState S) (trace : List (Entry S J J.Reply)) (after : ManagerState S) →
         IsTrace S.begins S.serves J.may before trace after → IsSound before.registry → RemovedStayGone (steps_of trace) }
-{
-}
+{}
 
 /// In every trace of a new manager each owner of a descriptor is in the map of subscribers, and nobody owns the
 /// endpoint's descriptor.
@@ -42,8 +40,7 @@ pub fn owners_are_subscribers<S: MutEventSubscriber, J: Job<S>>()
     ensures new { (endpoint : ℕ) → IsSound (new_state {V = S} endpoint).registry }
     ensures kept { (before : ManagerState S) (trace : List (Entry S J J.Reply)) (after : ManagerState S) →
         IsTrace S.begins S.serves J.may before trace after → IsSound before.registry → IsSound after.registry }
-{
-}
+{}
 
 /// Isolation: a step for one id, or a delivery to it, leaves the values, descriptors and pending events of all others;
 /// a leave frees exactly the descriptors of its id, whatever the poller answers.
@@ -56,16 +53,14 @@ pub fn others_are_untouched<S: MutEventSubscriber>()
         (j : ℕ) → j ≢ i → IsUntouched j (record before { registrations = record before.registrations { pending = still_pending earlier later } }) after }
     ensures leaving { (before after : Registry S) (i : ℕ) (value : S) (calls : List PollerCall) →
         Steps S.begins before (Left i value calls) after → FreesExactly i before.registrations after.registrations }
-{
-}
+{}
 
 /// What is pending after a position: the later events whose descriptor no exchange so far removed.
 pub fn pending_after_a_position<S: MutEventSubscriber>()
     ensures { (before : Registry S) (earlier : List (Position S)) (event : Event) (later : List Event) (outcome : Outcome S) (after : Registry S) →
         IsOutcome S.serves before earlier event later outcome after →
         after.registrations.pending ≡ still_pending (earlier ++ record { event = event; outcome = outcome } ∷ []) later }
-{
-}
+{}
 
 /// No exchange is a list of exchanges, and two lists of exchanges in a row are one: so a subscriber made of subscribers
 /// states its exchanges as theirs joined.
@@ -73,13 +68,18 @@ pub fn exchanges_join()
     ensures empty { (i : ℕ) (registrations : Registrations) → ExchangesFit i registrations [] [] registrations }
     ensures joined { (i : ℕ) (before mid after : Registrations) (exchanges more : Exchanges) (calls rest : List PollerCall) →
         ExchangesFit i before exchanges calls mid → ExchangesFit i mid more rest after → ExchangesFit i before (exchanges ++ more) (calls ++ rest) after }
-{
-}
+{}
 
 /// The definitions have a trace in which a descriptor is reported twice, and its owner removes and adds it at the first
 /// event: the second event goes to nobody.
 pub fn a_repeated_entry()
     ensures { (joined : ManagerState ℕ) × (iterated : ManagerState ℕ)
         × HasEffect any_begins any_serves any_may (new_state 9) joins joined × HasEffect any_begins any_serves any_may joined iterates iterated }
+{}
+
+/// Equality of ids is that of their numbers.
+pub fn ids_are_equal(a: &SubscriberId, b: &SubscriberId) -> bool
+    ensures { IsTrue result ↔ (a.now ≡ b.now) }
 {
+    a == b
 }

@@ -5,6 +5,7 @@
 //! descriptor was removed since the poll.
 #![tactic(auto)]
 
+pub mod boxed_subscriber;
 pub mod calls;
 pub mod epoll;
 pub mod error;
@@ -14,9 +15,13 @@ pub mod laws;
 pub mod manager;
 pub mod poller;
 pub mod subscribers;
+pub mod wrappers;
 
+pub use boxed_subscriber::{BoxedSubscriber, StepInput, StepSubscriber};
 pub use error::{Error, Result};
 pub use events::{EventOps, Events, Request};
+pub use manager::{EventManager, MAX_READY_EVENTS_CAPACITY, SubscriberOps};
 pub use poller::{BoxedPoller, EventPoller};
 pub use subscribers::{EventSubscriber, MutEventSubscriber, Registry, SubscriberId};
 pub use vmm_sys::epoll::EventSet;
+pub use wrappers::{Either, Locked};

@@ -1,1 +1,184 @@
-//! manager
+//! The event manager: a loop that waits and dispatches.
+
+ghost use Rattle.std.specs.Prelude.{◌≡◌, ℕ, ◌≤ℤ◌, pos, negsuc, unsigned_abs, IfErr, IfOk, OnOk, Result, Ok};
+ghost use Rattle.std.specs.Borrow.{sem, LendsSoOk};
+ghost use Rattle.event_manager.specs.Registry.{Step, HasId, LacksId};
+ghost use Rattle.event_manager.specs.Requests.{StandsFor};
+ghost use Rattle.event_manager.specs.LoopState.{HasStepped, IsJoin, IsLoopIteration, with_value};
+ghost use Rattle.event_manager.specs.Subscribers.{loop_state};
+ghost use Rattle.event_manager.specs.Manager.{state_of, IsMade};
+
+use crate::events::{EventOps, Events};
+use crate::poller::{BoxedPoller, EventPoller};
+use crate::subscribers::{MutEventSubscriber, Registry, SubscriberId};
+use crate::{Error, Result};
+use std::alloc::Global;
+use std::sync::Wait;
+use std::time::Clock;
+use vmm_sys::epoll::{ControlOperation, EventSet, RawFd};
+
+/// The largest capacity of a manager: 2147483647 bytes in entries of 12 bytes each, rounded down.
+pub const MAX_READY_EVENTS_CAPACITY: usize = 178956970;
+
+/// The capacity of [`EventManager::new`].
+const DEFAULT_CAPACITY: usize = 256;
+
+/// What is done to subscribers from outside a batch.
+///
+/// `seen` is what a contract sees: the subscribers by id, the next id and the registrations; the poller; the capacity.
+/// Each refused call leaves all of it as it was.
+pub trait SubscriberOps {
+    /// The type of the subscribers.
+    type Subscriber: MutEventSubscriber;
+
+    /// The type of the poller.
+    type Poller: EventPoller;
+
+    ghost use Rattle.event_manager.specs.LoopState.{LoopState};
+
+    /// What a contract sees.
+    ghost seen: { Self → LoopState Self.Subscriber Self.Poller };
+
+    /// Takes a subscriber in under the next id, and calls its `init`. The subscriber stays whatever `init` asked for and
+    /// whatever it was answered.
+    ///
+    /// Refused, both before `init`, the subscriber then dropped: `IdsUsedUp` where the next id is `u64::MAX`; then
+    /// `OutOfMemory`.
+    fn add_subscriber(&mut self, subscriber: Self::Subscriber) -> Result<SubscriberId>
+        ensures { (step : Step Self.Subscriber) × IsJoin subscriber result step
+            × HasStepped Self.Subscriber.begins Self.Poller.controls Self.Poller.waits (seen self.old) step (seen self.new) };
+
+    /// Lends the subscriber of the id. Takes no memory. `InvalidId` where there is none.
+    fn subscriber_mut(&mut self, id: SubscriberId) -> Result<&mut Self::Subscriber>
+        ensures* lent { sem 𝓛 (LendsSoOk Self.row Self.Subscriber.row self.entry result (λ n w. seen n ≡ with_value (seen self.old) id w) (λ n. seen n ≡ seen self.old)) }
+        ensures found { IfOk result (λ r. HasId (seen self.old).registry id r.now) }
+        ensures lost { IfErr result (λ e. (e ≡ Error.InvalidId) × LacksId (seen self.old).registry id) };
+
+    /// An [`EventOps`] of the subscriber of the id. Takes no memory. `InvalidId` where there is none.
+    fn event_ops(&mut self, id: SubscriberId) -> Result<EventOps<Self::Poller>>
+        ensures found { IfOk result (λ ops. StandsFor ops id (seen self.old)) }
+        ensures lost { IfErr result (λ e. (e ≡ Error.InvalidId) × LacksId (seen self.old).registry id) };
+}
+
+impl<S: MutEventSubscriber + Drop, P: EventPoller> SubscriberOps for Registry<S, P> {
+    type Subscriber = S;
+
+    type Poller = P;
+
+    ghost seen = { λ r. loop_state r };
+
+    fn add_subscriber(&mut self, subscriber: S) -> Result<SubscriberId> {
+        self.join(subscriber)
+    }
+
+    fn subscriber_mut(&mut self, id: SubscriberId) -> Result<&mut S> {
+        match self.subscribers.get_mut(&id.number()) {
+            Some(subscriber) => Ok(subscriber),
+            None => Err(Error::InvalidId),
+        }
+    }
+
+    fn event_ops(&mut self, id: SubscriberId) -> Result<EventOps<P>> {
+        let id = id.number();
+        if self.subscribers.contains_key(&id) {
+            return Ok(EventOps {
+                epoll: &mut self.epoll,
+                id,
+            });
+        }
+        Err(Error::InvalidId)
+    }
+}
+
+/// An event loop over a poller, and the subscribers that it serves.
+#[derive(Drop)]
+pub struct EventManager<S, P = BoxedPoller> {
+    registry: Registry<S, P>,
+}
+
+impl<S: MutEventSubscriber, P: EventPoller> EventManager<S, P> {
+    /// A manager with capacity 256, as [`new_with_capacity`](EventManager::new_with_capacity) makes it.
+    pub fn new(alloc: Global, poller: P, endpoint: RawFd) -> Result<Self>
+    where
+        S: Drop,
+        P: Drop,
+        requires { pos 0 ≤ℤ endpoint }
+        ensures { IsMade P.controls poller (unsigned_abs endpoint) 256 result }
+    {
+        EventManager::new_with_capacity(alloc, poller, endpoint, DEFAULT_CAPACITY)
+    }
+
+    /// A manager with no subscriber, whose batches have up to `capacity` events.
+    ///
+    /// The poller is asked to add the endpoint's descriptor, from 0 up, with the set `IN` and the descriptor as word.
+    /// Capacity 0 passes here, and is left to the poller's `wait`.
+    ///
+    /// Refused, in this order, the poller then dropped: `InvalidCapacity` above [`MAX_READY_EVENTS_CAPACITY`];
+    /// `OutOfMemory`; `Epoll` with the number that the poller answers.
+    pub fn new_with_capacity(
+        alloc: Global,
+        poller: P,
+        endpoint: RawFd,
+        capacity: usize,
+    ) -> Result<Self>
+    where
+        S: Drop,
+        P: Drop,
+        requires { pos 0 ≤ℤ endpoint }
+        ensures { IsMade P.controls poller (unsigned_abs endpoint) capacity result }
+    {
+        if capacity > MAX_READY_EVENTS_CAPACITY {
+            return Err(Error::InvalidCapacity);
+        }
+        let events = Events::new_raw(endpoint, EventSet::IN);
+        let Ok(mut registry) = Registry::new(alloc, poller, events.number(), capacity) else {
+            return Err(Error::OutOfMemory);
+        };
+        match registry.epoll.ctl(ControlOperation::Add, events) {
+            Ok(()) => Ok(EventManager { registry }),
+            Err(e) => Err(Error::Epoll(e)),
+        }
+    }
+
+    /// [`run_with_timeout`](EventManager::run_with_timeout) without a limit.
+    pub fn run<R: Wait + Clock>(&mut self, rt: &R) -> Result<usize>
+        ensures { IsLoopIteration S.serves P.controls P.waits (state_of self.old) (negsuc 0) result (state_of self.new) }
+    {
+        self.run_with_timeout(-1, rt)
+    }
+
+    /// Waits once, for at most `ms` milliseconds (negative: without a limit), and dispatches what is reported.
+    ///
+    /// Each event goes, in the order of the report and once, to the subscriber that owns its descriptor at its turn,
+    /// unless a `remove` of that descriptor has succeeded since the wait; else to nobody. Events on the endpoint's
+    /// descriptor go to nobody. Answers how many events were reported, cancelled ones and those of nobody included.
+    ///
+    /// An interrupted wait (`EINTR`) answers 0; one that is refused with another number is `Epoll` with it. Then nobody
+    /// is called and nothing changes but the poller. A run whose wait succeeded answers `Ok`, and takes no memory of
+    /// the manager's.
+    pub fn run_with_timeout<R: Wait + Clock>(&mut self, ms: i32, _rt: &R) -> Result<usize>
+        ensures { IsLoopIteration S.serves P.controls P.waits (state_of self.old) ms result (state_of self.new) }
+    {
+        self.registry.run_with_timeout(ms)
+    }
+}
+
+impl<S: MutEventSubscriber + Drop, P: EventPoller> SubscriberOps for EventManager<S, P> {
+    type Subscriber = S;
+
+    type Poller = P;
+
+    ghost seen = { λ m. state_of m };
+
+    fn add_subscriber(&mut self, subscriber: S) -> Result<SubscriberId> {
+        self.registry.add_subscriber(subscriber)
+    }
+
+    fn subscriber_mut(&mut self, id: SubscriberId) -> Result<&mut S> {
+        self.registry.subscriber_mut(id)
+    }
+
+    fn event_ops(&mut self, id: SubscriberId) -> Result<EventOps<P>> {
+        self.registry.event_ops(id)
+    }
+}

@@ -1,6 +1,6 @@
 //! What a poller is asked, and what it reports.
 
-ghost use Rattle.std.specs.Prelude.{◌≡◌, ◌≤ℤ◌, pos};
+ghost use Rattle.std.specs.Prelude.{◌≡◌, pos};
 
 pub use crate::event_set::EventSet;
 
@@ -9,9 +9,14 @@ pub type RawFd = i32;
 
 /// What has a file descriptor.
 pub trait AsRawFd {
+    ghost use Rattle.std.specs.Prelude.{ℕ};
+
+    /// The number of its descriptor.
+    ghost descriptor: { Self → ℕ };
+
     /// Its descriptor, from 0 up.
     fn as_raw_fd(&self) -> RawFd
-        ensures { pos 0 ≤ℤ result };
+        ensures { result ≡ pos (descriptor self.now) };
 }
 
 /// What is done to an interest list.

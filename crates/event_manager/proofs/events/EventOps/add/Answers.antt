@@ -23,8 +23,7 @@ pub returns-in-Ok-ctl : goal.returns-in-Ok-ctl
 returns-in-Ok-ctl g c =
     let s = c.args.self.now.epoll.now.registrations in
     let led = rw c.in-Ok-ctl.is at c.ctl.ensures.led in
-    let same = c.ctl.ensures.registrations ∙ c.in-Ok-register.ensures.ok in
-    (
+    let same = c.ctl.ensures.registrations ∙ c.in-Ok-register.ensures.ok in (
       Control operation.Add c.args.events.fd c.args.events (Ok tt) ∷ [],
       one_made_through refl refl (by_agreement c.in-Ok.ensures refl refl (ap registrations_of same))
           (ap (λ (x : RegistrationState). x.ready) same ∙ cancel_removed_other (Add c.args.events) (Ok tt) (λ fd. refl) s.ready) led (ap (λ (x : RegistrationState). x.capacity) same),

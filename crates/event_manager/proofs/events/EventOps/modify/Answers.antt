@@ -12,16 +12,14 @@ returns-then-not-is_owner g c =
 
 pub returns-in-Ok : goal.returns-in-Ok
 returns-in-Ok g c =
-    let led = rw c.in-Ok.is at c.ctl.ensures.led in
-    (
+    let led = rw c.in-Ok.is at c.ctl.ensures.led in (
       Control operation.Modify c.args.events.fd c.args.events (Ok tt) ∷ [],
       kept refl refl c.ctl.ensures.registrations (λ fd. refl) (by_agreement (c.is_owner.ensures.0 c.if-not-is_owner.false) refl refl refl) led,
     )
 
 pub returns-in-Err : goal.returns-in-Err
 returns-in-Err g c =
-    let led = rw c.in-Err.is at c.ctl.ensures.led in
-    (
+    let led = rw c.in-Err.is at c.ctl.ensures.led in (
       Control operation.Modify c.args.events.fd c.args.events (Err c.in-Err.e) ∷ [],
       kept refl refl c.ctl.ensures.registrations (λ fd. refl) (by_poller c.in-Err.e.0 (c.is_owner.ensures.0 c.if-not-is_owner.false) refl refl refl) led,
     )

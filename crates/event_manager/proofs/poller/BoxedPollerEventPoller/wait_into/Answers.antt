@@ -1,4 +1,4 @@
-use Rattle.std.proofs.Common.{subst, length, take, Ok, Err, refl, [], arith}
+use Rattle.std.proofs.Common.{subst, length, take, Ok, Err, [], arith}
 use Rattle.std.proofs.lemmas.Int.{to_z-of_z}
 use Rattle.event_manager.proofs.Buffer.{waits_ok}
 use Rattle.event_manager.proofs.poller.BoxedPollerEventPoller.wait_into.Goals as goal

@@ -1,4 +1,4 @@
-use Rattle.std.proofs.Common.{refl, sym, ap, ◌∙◌, inl, inr, arith, ◌+◌, subst, []}
+use Rattle.std.proofs.Common.{refl, sym, ap, ◌∙◌, inr, arith, ◌+◌, subst, []}
 use Rattle.std.specs.Cmp.{nat_cmp_total}
 use Rattle.std.specs.FinMap.{nat_cmp-IsAntisymmetric}
 use Rattle.event_manager.proofs.TreeMaps.{insert_of_tree, insert_twice, get_of_tree, get_same, some_is}
@@ -29,8 +29,7 @@ returns g c =
     let was = some_is _ _ (found ∙ sym (get_of_tree nat_cmp_total c.insert.new.self id) ∙ ap (λ m. get m id) first ∙ get_same _ id c.args.subscriber) in
     let began = subst (λ v. g.S.MutEventSubscriber.begins v told.0 c.init.new.self) was told.2 in
     let after = registrations_of c.init.new.ops.epoll.now.registrations in
-    let fits = idle_fits id (registrations_of c.args.self.now.epoll.registrations) told.0 told.1 after told.3.made.fits in
-    (
+    let fits = idle_fits id (registrations_of c.args.self.now.epoll.registrations) told.0 told.1 after told.3.made.fits in (
       Joined c.args.subscriber id told.0 told.1 c.init.new.self,
       (told.0, told.1, c.init.new.self, refl),
       record {

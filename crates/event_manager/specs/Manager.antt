@@ -1,0 +1,41 @@
+-- A manager, seen by the definitions, and how one is made.
+use Rattle.std.specs.Prelude.{◌≡◌, ℕ, ◌<◌, ◌≤◌, Result, Ok, Err}
+use Rattle.vmm_sys.specs.declared.epoll.ControlOperation.TheVariants as operation
+use Rattle.event_manager.specs.Event.{Event}
+use Rattle.event_manager.specs.PollerCall.{Controls}
+use Rattle.event_manager.specs.LoopState.{LoopState, new_loop}
+use Rattle.event_manager.specs.Subscribers.{loop_state}
+use Rattle.event_manager.specs.declared.error.Error.{Error}
+use Rattle.event_manager.specs.declared.error.Error.TheVariants.{ChannelSend, ChannelRecv, EventFd, Epoll, FdAlreadyRegistered, InvalidId, InvalidCapacity, OutOfMemory, IdsUsedUp, TicketsUsedUp}
+use Rattle.event_manager.specs.declared.manager.EventManager.{EventManager}
+
+abbrev pub state_of : {S P : Type 0} → EventManager S P → LoopState S P
+state_of m = loop_state m.registry
+
+-- the largest capacity: as many entries of 12 bytes as 2147483647 bytes hold
+abbrev pub max_capacity : ℕ
+max_capacity = 178956970
+
+-- the event with which the endpoint's descriptor is added to the poller
+abbrev pub endpoint_event : ℕ → Event
+endpoint_event endpoint = record { fd = endpoint; payload = 0; set = 1 }
+
+module _ {P : Type 0} (controls : Controls P) (poller : P) (endpoint capacity : ℕ) where
+  -- when each refusal comes; no other is answered
+  abbrev pub IsMakingRefused : Error → Type 0
+  IsMakingRefused InvalidCapacity = max_capacity < capacity
+  IsMakingRefused OutOfMemory = capacity ≤ max_capacity
+  IsMakingRefused (Epoll errno) = (capacity ≤ max_capacity) × (after : P) × controls poller operation.Add endpoint (endpoint_event endpoint) (Err errno) after
+  IsMakingRefused ChannelSend = ⊥
+  IsMakingRefused ChannelRecv = ⊥
+  IsMakingRefused (EventFd errno) = ⊥
+  IsMakingRefused FdAlreadyRegistered = ⊥
+  IsMakingRefused InvalidId = ⊥
+  IsMakingRefused IdsUsedUp = ⊥
+  IsMakingRefused TicketsUsedUp = ⊥
+
+  -- a new manager, whose poller agreed to add the endpoint's descriptor; or a refusal
+  abbrev pub IsMade : {S : Type 0} → Result (EventManager S P) Error → Type 0
+  IsMade (Ok manager) =
+      (capacity ≤ max_capacity) × (after : P) × controls poller operation.Add endpoint (endpoint_event endpoint) (Ok tt) after × (state_of manager ≡ new_loop endpoint after capacity)
+  IsMade (Err error) = IsMakingRefused error
