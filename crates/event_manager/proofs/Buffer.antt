@@ -3,7 +3,7 @@ use Rattle.std.proofs.Common.{◌≡◌, ℕ, suc, ◌+◌, ◌<◌, ◌≤◌, 
 use Rattle.std.proofs.lemmas.List.{length-take-le}
 use base.Stored.{Gv}
 use Rattle.vmm_sys.specs.declared.poller.Poller.{Ghosts}
-use Rattle.event_manager.specs.BoxedPoller.{waits}
+use Rattle.event_manager.specs.PollerRelations.{waits}
 use Rattle.event_manager.specs.RegistrationState.{all_pending}
 use Rattle.vmm_sys.specs.declared.epoll.EpollEvent.{EpollEvent}
 use Rattle.event_manager.specs.ReadyList.{event_of_entry, with_cancellations, ready_of}

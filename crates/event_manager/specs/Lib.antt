@@ -1,4 +1,4 @@
-pub mod BoxedPoller
+pub mod PollerRelations
 pub mod Dispatch
 pub mod Event
 pub mod Example

@@ -3,7 +3,7 @@
 ghost use Rattle.std.specs.Prelude.{◌≡◌, ℕ, ◌≤ℤ◌, ◌<◌, ◌^◌, List, [], ◌∷◌, ℤ, pos, negsuc, unsigned_abs, IsTrue, ◌↔◌};
 ghost use Rattle.event_manager.specs.PollerCall.{PollerCall};
 ghost use Rattle.event_manager.specs.ReadyList.{event_of_entry};
-ghost use Rattle.event_manager.specs.BoxedPoller.{packed};
+ghost use Rattle.event_manager.specs.PollerRelations.{packed};
 ghost use Rattle.event_manager.specs.Requests.{AreMadeThrough};
 ghost use Rattle.event_manager.specs.declared.events.Request.{Request};
 ghost use Rattle.vmm_sys.specs.EventSet.{bits_of};
@@ -29,7 +29,7 @@ impl Model for Events {
     ghost use Rattle.vmm_sys.specs.EpollEvent.{word_of, set_of, event};
     ghost use Rattle.event_manager.specs.Event.{Event, word_of_parts, word_of_parts-halves};
     ghost use Rattle.event_manager.specs.ReadyList.{event_of_entry};
-    ghost use Rattle.event_manager.specs.BoxedPoller.{packed};
+    ghost use Rattle.event_manager.specs.PollerRelations.{packed};
 
     ghost Value = { Event };
 

@@ -21,7 +21,7 @@ pub use boxed_subscriber::{BoxedSubscriber, StepInput, StepSubscriber};
 pub use error::{Error, Result};
 pub use events::{EventOps, Events, Request};
 pub use manager::{EventManager, MAX_READY_EVENTS_CAPACITY, SubscriberOps};
-pub use poller::{BoxedPoller, EventPoller};
+pub use poller::{BoxedPoller, EventPoller, PlainPoller};
 pub use subscribers::{EventSubscriber, MutEventSubscriber, Registry, SubscriberId};
 pub use vmm_sys::epoll::EventSet;
 pub use wrappers::{Either, Locked};

@@ -1,8 +1,9 @@
 //! Pollers, as the manager calls them.
 
-ghost use Rattle.std.specs.Prelude.{◌≡◌, ◌≤◌, ◌<◌, ◌^◌, length, IfOk};
+ghost use Rattle.std.specs.Prelude.{◌≡◌, ◌≤◌, ◌<◌, ◌^◌, length, pos, IfOk};
 ghost use Rattle.event_manager.specs.ReadyList.{report_of};
-ghost use Rattle.event_manager.specs.BoxedPoller as boxed;
+ghost use Rattle.event_manager.specs.PollerRelations as boxed;
+ghost use Rattle.event_manager.specs.PollerRelations.{packed, WaitsBy};
 
 use crate::Events;
 use vmm_sys::epoll::{ControlOperation, EpollEvent};
@@ -12,8 +13,8 @@ use vmm_sys::poller::Poller;
 /// A poller, as a manager calls it.
 ///
 /// Each type states two relations: which answer and which value after a call may give from the value before. All
-/// contracts of the manager speak of its poller by these relations alone, so they hold for every poller. Any
-/// `vmm_sys` poller in a box is one by [`BoxedPoller`]; a type of one's own can be one without a box.
+/// contracts of the manager speak of its poller by these relations alone, so they hold for every poller. A `vmm_sys`
+/// poller is one in a [`BoxedPoller`], or, where its type is known, in a [`PlainPoller`].
 pub trait EventPoller {
     ghost use Rattle.std.specs.Prelude.{ℕ, ℤ, List, Result};
     ghost use Rattle.vmm_sys.specs.declared.errno.Errno.{Errno};
@@ -52,6 +53,27 @@ impl EventPoller for BoxedPoller {
     ghost controls = { λ v op fd event r w. (w.0.vtable ≡ v.0.vtable) × boxed.controls (Poller-box v.0) ((Poller-box v.0).meaning v.0.value) op fd event r ((Poller-box w.0).meaning w.0.value) };
 
     ghost waits = { λ v ms capacity r w. (w.0.vtable ≡ v.0.vtable) × boxed.waits (Poller-box v.0) ((Poller-box v.0).meaning v.0.value) ms capacity r ((Poller-box w.0).meaning w.0.value) };
+
+    fn control(&mut self, op: ControlOperation, fd: u32, event: Events) -> Result<(), Errno> {
+        self.0.ctl(op, fd as i32, event.epoll_event())
+    }
+
+    fn wait_into(&mut self, ms: i32, buffer: &mut [EpollEvent]) -> Result<usize, Errno> {
+        match self.0.wait(ms, buffer) {
+            Ok(count) => Ok(count),
+            Err(errno) => Err(errno),
+        }
+    }
+}
+
+/// A `vmm_sys` poller of one known type, without a box.
+#[derive(Drop)]
+pub struct PlainPoller<T>(pub T);
+
+impl<T: Poller> EventPoller for PlainPoller<T> {
+    ghost controls = { λ v op fd event r w. T.may_ctl (T.meaning v.0) op (pos fd) (packed event) r (T.meaning w.0) };
+
+    ghost waits = { λ v ms capacity r w. WaitsBy T.may_wait (T.meaning v.0) ms capacity r (T.meaning w.0) };
 
     fn control(&mut self, op: ControlOperation, fd: u32, event: Events) -> Result<(), Errno> {
         self.0.ctl(op, fd as i32, event.epoll_event())

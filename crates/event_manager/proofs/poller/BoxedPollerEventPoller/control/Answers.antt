@@ -1,7 +1,7 @@
 use Rattle.std.proofs.Common.{subst, pos}
 use Rattle.std.proofs.lemmas.Int.{to_z_pos}
 use mir.Syntax.{w32}
-use Rattle.event_manager.specs.BoxedPoller.{packed}
+use Rattle.event_manager.specs.PollerRelations.{packed}
 use Rattle.event_manager.proofs.poller.BoxedPollerEventPoller.control.Goals as goal
 
 pub returns : goal.returns
