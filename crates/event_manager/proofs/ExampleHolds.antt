@@ -39,8 +39,8 @@ removed = record { owner = remove (insert empty 3 1) 3; endpoint = 9; pending = 
 abbrev added : Registrations
 added = record { owner = insert (remove (insert empty 3 1) 3) 3 1; endpoint = 9; pending = [] }
 
-abbrev turned : ManagerState ℕ
-turned = record { registry = record { values = insert (insert empty 1 0) 1 1; next = 2; registrations = added }; taken = 0 }
+abbrev iterated : ManagerState ℕ
+iterated = record { registry = record { values = insert (insert empty 1 0) 1 1; next = 2; registrations = added }; taken = 0 }
 
 held : get joined.registry.registrations.owner 3 ≡ Some 1
 held = get-insert nat_cmp_total empty 3 1 3
@@ -48,13 +48,13 @@ held = get-insert nat_cmp_total empty 3 1 3
 unregister_descriptor : get removed.owner 3 ≡ None
 unregister_descriptor = get-remove nat_cmp_total joined.registry.registrations.owner 3 3
 
-pub example_turns : HasEffect any_begins any_serves any_may joined iterates turned
-example_turns = (
-  turned.registry,
+pub example_iterations : HasEffect any_begins any_serves any_may joined iterates iterated
+example_iterations = (
+  iterated.registry,
   (
     refl,
     (
-      turned.registry,
+      iterated.registry,
       (
         0,
         added,
@@ -70,7 +70,7 @@ example_turns = (
         ),
         refl,
       ),
-      (turned.registry, ((λ i v for. true≢false for.1), refl), refl),
+      (iterated.registry, ((λ i v for. true≢false for.1), refl), refl),
     ),
   ),
   (λ all. refl),

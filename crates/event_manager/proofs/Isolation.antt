@@ -97,10 +97,10 @@ kept_fits i j registrations request answer calls after differ (by_manager h a e)
 kept_fits i j registrations request answer calls after differ (by_poller n h a r e) = subst (IsKept j registrations) (sym e) (kept_refl j registrations)
 kept_fits i j registrations request answer calls after differ (by_agreement h a r e) = subst (IsKept j registrations) (sym e) (kept_after i j registrations request differ h)
 
-pub kept_talk : (i j : ℕ) (registrations : Registrations) (exchanges : Exchanges) (calls : List PollerCall) (after : Registrations) → j ≢ i → ExchangesFit i registrations exchanges calls after → IsKept j registrations after
-kept_talk i j registrations [] calls after differ h = subst (IsKept j registrations) (sym h.1) (kept_refl j registrations)
-kept_talk i j registrations (exchange ∷ exchanges) calls after differ (first, rest, mid, joined, fits, more) =
-    kept_trans j registrations mid after (kept_fits i j registrations exchange.0 exchange.1 first mid differ fits) (kept_talk i j mid exchanges rest after differ more)
+pub kept_exchanges : (i j : ℕ) (registrations : Registrations) (exchanges : Exchanges) (calls : List PollerCall) (after : Registrations) → j ≢ i → ExchangesFit i registrations exchanges calls after → IsKept j registrations after
+kept_exchanges i j registrations [] calls after differ h = subst (IsKept j registrations) (sym h.1) (kept_refl j registrations)
+kept_exchanges i j registrations (exchange ∷ exchanges) calls after differ (first, rest, mid, joined, fits, more) =
+    kept_trans j registrations mid after (kept_fits i j registrations exchange.0 exchange.1 first mid differ fits) (kept_exchanges i j mid exchanges rest after differ more)
 
 other_left : (i j : ℕ) (o : Option ℕ) → j ≢ i → is_id j (cond (not (is_id i o)) o None) ≡ is_id j o
 other_left i j None differ = refl
@@ -133,20 +133,20 @@ module _ {V : Type 0} where
 
   pub isolated_step : (begins : V → Exchanges → V → Type 0) (before : Registry V) (step : Step V) (after : Registry V) → Steps begins before step after → (j : ℕ) → names j step ≡ false → IsUntouched j before after
   isolated_step begins before (Joined value id exchanges calls held) after (registrations, capacity, is, fits, beg, e) j named =
-      untouched_at j before _ after e (insert_other_value id j before.values held (unnamed id j named)) (kept_talk id j before.registrations exchanges calls registrations (unnamed id j named) fits)
+      untouched_at j before _ after e (insert_other_value id j before.values held (unnamed id j named)) (kept_exchanges id j before.registrations exchanges calls registrations (unnamed id j named) fits)
   isolated_step begins before (NotJoined value error) after h j named = untouched_at j before _ after h.1 refl (kept_refl j before.registrations)
   isolated_step begins before (Left id value calls) after (fds, has, is_owner, deletes, e) j named =
       untouched_at j before _ after e (remove_other_value id j before.values (unnamed id j named)) (kept_left id j before.registrations (unnamed id j named))
   isolated_step begins before (NotLeft id) after h j named = untouched_at j before _ after h.1 refl (kept_refl j before.registrations)
   isolated_step begins before (Replaced id old new) after (has, e) j named = untouched_at j before _ after e (insert_other_value id j before.values new (unnamed id j named)) (kept_refl j before.registrations)
   isolated_step begins before (NotReplaced id) after h j named = untouched_at j before _ after h.1 refl (kept_refl j before.registrations)
-  isolated_step begins before (Requested id exchanges calls) after (value, registrations, has, fits, e) j named = untouched_at j before _ after e refl (kept_talk id j before.registrations exchanges calls registrations (unnamed id j named) fits)
+  isolated_step begins before (Requested id exchanges calls) after (value, registrations, has, fits, e) j named = untouched_at j before _ after e refl (kept_exchanges id j before.registrations exchanges calls registrations (unnamed id j named) fits)
   isolated_step begins before (NotRequested id) after h j named = untouched_at j before _ after h.1 refl (kept_refl j before.registrations)
 
   -- a delivery to i, from the registrations in which its own event is no longer pending
   pub isolated_delivery : (serves : V → Event → Exchanges → V → Type 0) (before : Registry V) (earlier : List (Position V)) (e : Event) (later : List Event) (i : ℕ) (exchanges : Exchanges) (calls : List PollerCall) (held : V) (after : Registry V) → IsOutcome serves before earlier e later (To i exchanges calls held) after → (j : ℕ) → j ≢ i → IsUntouched j (record before { registrations = record before.registrations { pending = still_pending earlier later } }) after
   isolated_delivery serves before earlier e later i exchanges calls held after (value, registrations, for, serving, fits, is) j differ =
-      untouched_at j (record before { registrations = record before.registrations { pending = still_pending earlier later } }) _ after is (insert_other_value i j before.values held differ) (kept_talk i j (record before.registrations { pending = still_pending earlier later }) exchanges calls registrations differ fits)
+      untouched_at j (record before { registrations = record before.registrations { pending = still_pending earlier later } }) _ after is (insert_other_value i j before.values held differ) (kept_exchanges i j (record before.registrations { pending = still_pending earlier later }) exchanges calls registrations differ fits)
 
   pub left_frees : (begins : V → Exchanges → V → Type 0) (before after : Registry V) (i : ℕ) (value : V) (calls : List PollerCall) → Steps begins before (Left i value calls) after → FreesExactly i before.registrations after.registrations
   left_frees begins before after i value calls (fds, has, is_owner, deletes, e) = subst (λ (r : Registry V). FreesExactly i before.registrations r.registrations) (sym e) (frees_exactly i before.registrations)

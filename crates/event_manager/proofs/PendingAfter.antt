@@ -32,8 +32,8 @@ filter_twice p q (e ∷ events) = elim (q e) as (λ b. filter (λ x. not (p x)) 
 unchanged : (registrations after : Registrations) (request : Request) (answer : Answer) (error : _) → answer ≡ Err error → after ≡ registrations → after.pending ≡ filter (λ e. not (is_removal e.fd request answer)) registrations.pending
 unchanged registrations after request answer error r e = ap (λ (b : Registrations). b.pending) e ∙ sym (filter_all (λ x. not (is_removal x.fd request answer)) registrations.pending (λ x. ap not (no_removal x.fd request answer error r)))
 
-eq_turned : (a b : ℕ) → (a == b) ≡ (b == a)
-eq_turned a b = elim (fd_tells a b) [
+eq_iterated : (a b : ℕ) → (a == b) ≡ (b == a)
+eq_iterated a b = elim (fd_tells a b) [
   | inl p ↦ p.2 ∙ sym (eq-eqb b a (sym p.1))
   | inr p ↦ p.2 ∙ sym (ne_eqb b a (λ q. p.1 (sym q)))
 ]
@@ -41,17 +41,17 @@ eq_turned a b = elim (fd_tells a b) [
 agreed_pending : (i : ℕ) (registrations : Registrations) (request : Request) → (registrations_after i request registrations).pending ≡ filter (λ e. not (is_removal e.fd request agreed)) registrations.pending
 agreed_pending i registrations (Add e) = sym (filter_all _ registrations.pending (λ x. refl))
 agreed_pending i registrations (Modify e) = sym (filter_all _ registrations.pending (λ x. refl))
-agreed_pending i registrations (Remove e) = filter_alike _ _ registrations.pending (λ x. ap not (eq_turned x.fd e.fd))
+agreed_pending i registrations (Remove e) = filter_alike _ _ registrations.pending (λ x. ap not (eq_iterated x.fd e.fd))
 
 fits_pending : (i : ℕ) (registrations : Registrations) (request : Request) (answer : Answer) (calls : List PollerCall) (after : Registrations) → Fits i registrations request answer calls after → after.pending ≡ filter (λ e. not (is_removal e.fd request answer)) registrations.pending
 fits_pending i registrations request answer calls after (by_manager h a e) = let err = unasked_is_error i registrations request answer h in unchanged registrations after request answer err.0 err.1 e
 fits_pending i registrations request answer calls after (by_poller n h a r e) = unchanged registrations after request answer _ r e
 fits_pending i registrations request answer calls after (by_agreement h a r e) = ap (λ (b : Registrations). b.pending) e ∙ agreed_pending i registrations request ∙ ap (λ x. filter (λ ev. not (is_removal ev.fd request x)) registrations.pending) (sym r)
 
-talk_pending : (i : ℕ) (registrations : Registrations) (exchanges : Exchanges) (calls : List PollerCall) (after : Registrations) → ExchangesFit i registrations exchanges calls after → after.pending ≡ filter (λ e. not (removes e.fd exchanges)) registrations.pending
-talk_pending i registrations [] calls after h = ap (λ (b : Registrations). b.pending) h.1 ∙ sym (filter_all _ registrations.pending (λ x. refl))
-talk_pending i registrations (exchange ∷ exchanges) calls after (first, rest, mid, joined, fits, more) =
-    talk_pending i mid exchanges rest after more ∙ ap (filter (λ e. not (removes e.fd exchanges))) (fits_pending i registrations exchange.0 exchange.1 first mid fits)
+exchanges_pending : (i : ℕ) (registrations : Registrations) (exchanges : Exchanges) (calls : List PollerCall) (after : Registrations) → ExchangesFit i registrations exchanges calls after → after.pending ≡ filter (λ e. not (removes e.fd exchanges)) registrations.pending
+exchanges_pending i registrations [] calls after h = ap (λ (b : Registrations). b.pending) h.1 ∙ sym (filter_all _ registrations.pending (λ x. refl))
+exchanges_pending i registrations (exchange ∷ exchanges) calls after (first, rest, mid, joined, fits, more) =
+    exchanges_pending i mid exchanges rest after more ∙ ap (filter (λ e. not (removes e.fd exchanges))) (fits_pending i registrations exchange.0 exchange.1 first mid fits)
     ∙ filter_twice (λ e. removes e.fd exchanges) (λ e. is_removal e.fd exchange.0 exchange.1) registrations.pending
 
 ends : (a : Bool) → (a || false) ≡ a
@@ -63,6 +63,6 @@ pending_after {V} serves before earlier event later Nobody after (nobody, is) =
     ap (λ (r : Registry V). r.registrations.pending) is ∙ filter_alike _ _ later (λ e. ap not (sym (is_removed-push e.fd earlier (record { event = event; outcome = Nobody }) ∙ ends (is_removed e.fd earlier))))
 pending_after {V} serves before earlier event later (To i exchanges calls held) after (value, registrations, for, serving, fits, is) =
     ap (λ (r : Registry V). r.registrations.pending) is
-    ∙ talk_pending i (record before.registrations { pending = still_pending earlier later }) exchanges calls registrations fits
+    ∙ exchanges_pending i (record before.registrations { pending = still_pending earlier later }) exchanges calls registrations fits
     ∙ filter_twice (λ e. removes e.fd exchanges) (λ e. is_removed e.fd earlier) later
     ∙ filter_alike _ _ later (λ e. ap not (sym (is_removed-push e.fd earlier (record { event = event; outcome = To i exchanges calls held }))))

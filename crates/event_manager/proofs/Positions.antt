@@ -45,7 +45,7 @@ module _ {S P : Type 0} {controls : Controls P} {waits : Waits P} (serves : S �
       → AreMade controls waits (record { registrations = mid; poller = before.epoll.poller }) after.epoll id exchanges calls
       → from_entries {R = nat_cmp} after.subscribers.entries ≡ insert (from_entries before.subscribers.entries) id held → after.next ≡ before.next
       → TakesPosition serves controls waits before after
-  served_position before after event rest mid id value held exchanges calls was registrations owns has served said values next = record {
+  served_position before after event rest mid id value held exchanges calls was registrations owns has served made values next = record {
     event = event;
     cancelled = false;
     later = rest;
@@ -57,12 +57,12 @@ module _ {S P : Type 0} {controls : Controls P} {waits : Waits P} (serves : S �
       subst (λ (b : RegistrationState). get b.owner event.fd ≡ Some id) registrations owns,
       has,
       served,
-      subst (λ (b : RegistrationState). ExchangesFit id (registrations_of b) exchanges calls (registrations_of after.epoll.registrations)) registrations said.fits,
+      subst (λ (b : RegistrationState). ExchangesFit id (registrations_of b) exchanges calls (registrations_of after.epoll.registrations)) registrations made.fits,
       λ k. record { values = values k; next = next k; registrations = registrations_of after.epoll.registrations },
     );
-    ready = said.ready ∙ ap (λ (b : RegistrationState). cancel_removed exchanges b.ready) registrations;
-    led = said.led;
-    same_capacity = said.same_capacity ∙ ap (λ (b : RegistrationState). b.capacity) registrations;
+    ready = made.ready ∙ ap (λ (b : RegistrationState). cancel_removed exchanges b.ready) registrations;
+    led = made.led;
+    same_capacity = made.same_capacity ∙ ap (λ (b : RegistrationState). b.capacity) registrations;
   }
 
 taken : {A : Type 0} (x : A) → None ≡ Some x → ⊥
@@ -211,13 +211,13 @@ waited_all_pending s t (Ok report) result n h is =
 waited_all_pending s t (Err e) result n h is = absurd (ok_err result n e is h.0)
 
 module _ {V : Type 0} (serves : V → Event → Exchanges → V → Type 0) where
-  repend_one : (b : model.Registry V) (x : List Event) (e : Event) (es : List Event) (outcome : Outcome V) (a : model.Registry V) → IsOutcome serves (record b { registrations = record b.registrations { pending = x } }) [] e es outcome a → IsOutcome serves b [] e es outcome a
-  repend_one b x e es Nobody a h = h
-  repend_one b x e es (To i exchanges calls held) a h = h
+  from_any_pending_one : (b : model.Registry V) (x : List Event) (e : Event) (es : List Event) (outcome : Outcome V) (a : model.Registry V) → IsOutcome serves (record b { registrations = record b.registrations { pending = x } }) [] e es outcome a → IsOutcome serves b [] e es outcome a
+  from_any_pending_one b x e es Nobody a h = h
+  from_any_pending_one b x e es (To i exchanges calls held) a h = h
 
-  repend : (b : model.Registry V) (x : List Event) (positions : List (Position V)) (a : model.Registry V) → AreDispatched serves (record b { registrations = record b.registrations { pending = x } }) [] positions a → AreDispatched serves b [] positions a
-  repend b x [] a h = h
-  repend b x (position ∷ positions) a h = (h.0, repend_one b x position.event (events_of positions) position.outcome h.0 h.1, h.2)
+  from_any_pending : (b : model.Registry V) (x : List Event) (positions : List (Position V)) (a : model.Registry V) → AreDispatched serves (record b { registrations = record b.registrations { pending = x } }) [] positions a → AreDispatched serves b [] positions a
+  from_any_pending b x [] a h = h
+  from_any_pending b x (position ∷ positions) a h = (h.0, from_any_pending_one b x position.event (events_of positions) position.outcome h.0 h.1, h.2)
 
 module _ {S P : Type 0} (serves : S → Event → Exchanges → S → Type 0) (controls : Controls P) (waits : Waits P) where
   pub iteration_ok : (start after : Registry S P) (registrations : RegistrationState) (poller : P) (ms : ℤ) (answer : Result (List Event) Errno) (result : Result ℕ Errno) (n : ℕ)
@@ -229,7 +229,7 @@ module _ {S P : Type 0} (serves : S → Event → Exchanges → S → Type 0) (c
       let reported = ap (map (λ (p : Event × Bool). p.0)) came ∙ fst_all_pending report in
       let from = subst (λ (b : RegistrationState). AreDispatched serves (record { values = from_entries {R = nat_cmp} start.subscribers.entries; next = start.next; registrations = registrations_of b }) [] dispatched.positions (registry_of after)) waited.1 dispatched.dispatched.1 in
       let onto = subst (λ l. AreDispatched serves (idle (registry_of start)) [] dispatched.positions (record (registry_of after) { registrations = record (registrations_of after.epoll.registrations) { pending = not_cancelled l } })) dispatched.over
-      (repend serves (idle (registry_of start)) (not_cancelled (all_pending report)) dispatched.positions (registry_of after) from) in
+      (from_any_pending serves (idle (registry_of start)) (not_cancelled (all_pending report)) dispatched.positions (registry_of after) from) in
       record {
         waited = Ok report;
         positions = dispatched.positions;

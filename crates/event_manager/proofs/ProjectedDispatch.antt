@@ -9,8 +9,8 @@ use Rattle.event_manager.specs.Registry.{Registry}
 use Rattle.event_manager.specs.Dispatch.{Outcome, Nobody, To, Position, exchanges_of, is_removed, still_pending, events_of, IsFor, IsOutcome, AreDispatched}
 use Rattle.event_manager.specs.Projection.{owned_by, only_values, projected_registrations, projected_registry, only_outcome, only_position, outcome_exchanges, positions_exchanges, asks_to_add, adds}
 use Rattle.event_manager.proofs.FiniteMaps.{only_outcome-insert_own, only_outcome-insert_other}
-use Rattle.event_manager.proofs.ProjectedExchanges.{IsMine, own_talk, other_talk, owned_alone, owned_from_alone, alone_is_own, or_assoc, asks_first, asks_then, adds_first, adds_then}
-use Rattle.event_manager.proofs.ProjectedSteps.{has_alone, has_from_alone}
+use Rattle.event_manager.proofs.ProjectedExchanges.{IsMine, own_exchanges, other_exchanges, owned_projected, owned_from_projected, projected_is_own, or_assoc, calls_first, calls_then, adds_first, adds_then}
+use Rattle.event_manager.proofs.ProjectedSteps.{has_projected, has_from_projected}
 
 -- the real positions and those of the projected run: those on descriptors of i's are in both, in one
 -- order; of the others each list has its own
@@ -21,8 +21,8 @@ pub data Woven {V : Type 0} (i : ℕ) (mine : ℕ → Bool) : List (Position V) 
   added : (d : Position V) {a b : List (Position V)} → mine d.event.fd ≡ false → only_outcome i d.outcome ≡ Nobody → Woven i mine a b → Woven i mine a (only_position i d ∷ b)
 
 -- the registry alone, with these events pending
-abbrev alone_with : {V : Type 0} → ℕ → ℕ → List Event → Registry V → Registry V
-alone_with i n pending r = record { values = only_values i r.values; next = n; registrations = projected_registrations i pending r.registrations }
+abbrev projected_with : {V : Type 0} → ℕ → ℕ → List Event → Registry V → Registry V
+projected_with i n pending r = record { values = only_values i r.values; next = n; registrations = projected_registrations i pending r.registrations }
 
 or_ends : (a : Bool) → (a || false) ≡ a
 or_ends true = refl
@@ -39,7 +39,7 @@ module _ {V : Type 0} (serves : V → Event → Exchanges → V → Type 0) (i :
   -- one position that both have
   record Same (before : Registry V) (pending : List Event) (removed : List (Position V)) (e : Event) (later : List Event) (outcome shown : Outcome V) (after : Registry V) : Type 0 where
     left : List Event
-    fits : IsOutcome serves (alone_with i n pending before) removed e later shown (alone_with i n left after)
+    fits : IsOutcome serves (projected_with i n pending before) removed e later shown (projected_with i n left after)
     still : IsMine i mine after.registrations.owner
     next : after.next ≡ before.next
     alike : (fd : ℕ) → mine fd ≡ true → removes fd (exchanges_of shown) ≡ removes fd (exchanges_of outcome)
@@ -49,31 +49,31 @@ module _ {V : Type 0} (serves : V → Event → Exchanges → V → Type 0) (i :
 
   own_to : (before : Registry V) (pending : List Event) (earlier removed : List (Position V)) (e : Event) (real later : List Event) (exchanges : Exchanges) (calls : List PollerCall) (held : V) (after : Registry V) → mine e.fd ≡ true → IsMine i mine before.registrations.owner → IsClaimed exchanges → Agree earlier removed → IsOutcome serves before earlier e real (To i exchanges calls held) after → Same before pending removed e later (To i exchanges calls held) (To i exchanges calls held) after
   own_to before pending earlier removed e real later exchanges calls held after here m claimed agree (value, registrations, for, serving, fits, is) =
-      let t = own_talk i mine (still_pending removed later) (record before.registrations { pending = still_pending earlier real }) exchanges calls registrations m claimed fits in
+      let t = own_exchanges i mine (still_pending removed later) (record before.registrations { pending = still_pending earlier real }) exchanges calls registrations m claimed fits in
       record {
         left = t.left;
         fits = (
           value,
           projected_registrations i t.left registrations,
-          (owned_alone i before.registrations.owner e.fd for.0, agree e.fd here ∙ for.1, has_alone i before.values value for.2),
+          (owned_projected i before.registrations.owner e.fd for.0, agree e.fd here ∙ for.1, has_projected i before.values value for.2),
           serving,
           t.fits,
-          ap (alone_with i n t.left) is ∙ ap (λ (v : FinMap nat_cmp V). record { values = v; next = n; registrations = projected_registrations i t.left registrations }) (only_outcome-insert_own i before.values held),
+          ap (projected_with i n t.left) is ∙ ap (λ (v : FinMap nat_cmp V). record { values = v; next = n; registrations = projected_registrations i t.left registrations }) (only_outcome-insert_own i before.values held),
         );
         still = subst (λ (r : Registry V). IsMine i mine r.registrations.owner) (sym is) t.still;
         next = ap (λ (r : Registry V). r.next) is;
         alike = λ fd h. refl;
       }
 
-  none_for : (before : Registry V) (pending : List Event) (earlier removed : List (Position V)) (e : Event) → mine e.fd ≡ true → Agree earlier removed → ((j : ℕ) (v : V) → ¬ IsFor before earlier e j v) → (j : ℕ) (v : V) → ¬ IsFor (alone_with i n pending before) removed e j v
+  none_for : (before : Registry V) (pending : List Event) (earlier removed : List (Position V)) (e : Event) → mine e.fd ≡ true → Agree earlier removed → ((j : ℕ) (v : V) → ¬ IsFor before earlier e j v) → (j : ℕ) (v : V) → ¬ IsFor (projected_with i n pending before) removed e j v
   none_for before pending earlier removed e here agree nobody j v (owns, kept, has) =
-      let is : j ≡ i = alone_is_own i j before.registrations.owner e.fd owns in
-      nobody i v (owned_from_alone i before.registrations.owner e.fd (subst (λ k. get (owned_by i before.registrations.owner) e.fd ≡ Some k) is owns), sym (agree e.fd here) ∙ kept, has_from_alone i before.values v (subst (λ k. get (only_values i before.values) k ≡ Some v) is has))
+      let is : j ≡ i = projected_is_own i j before.registrations.owner e.fd owns in
+      nobody i v (owned_from_projected i before.registrations.owner e.fd (subst (λ k. get (owned_by i before.registrations.owner) e.fd ≡ Some k) is owns), sym (agree e.fd here) ∙ kept, has_from_projected i before.values v (subst (λ k. get (only_values i before.values) k ≡ Some v) is has))
 
   one_same : (before : Registry V) (pending : List Event) (earlier removed : List (Position V)) (e : Event) (real later : List Event) (outcome : Outcome V) (after : Registry V) → mine e.fd ≡ true → IsMine i mine before.registrations.owner → IsClaimed (outcome_exchanges i outcome) → Agree earlier removed → IsOutcome serves before earlier e real outcome after → Same before pending removed e later outcome (only_outcome i outcome) after
   one_same before pending earlier removed e real later Nobody after here m claimed agree (nobody, is) = record {
     left = still_pending removed later;
-    fits = (none_for before pending earlier removed e here agree nobody, ap (alone_with i n (still_pending removed later)) is);
+    fits = (none_for before pending earlier removed e here agree nobody, ap (projected_with i n (still_pending removed later)) is);
     still = subst (λ (r : Registry V). IsMine i mine r.registrations.owner) (sym is) m;
     next = ap (λ (r : Registry V). r.next) is;
     alike = λ fd h. refl;
@@ -81,16 +81,16 @@ module _ {V : Type 0} (serves : V → Event → Exchanges → V → Type 0) (i :
   one_same before pending earlier removed e real later (To j exchanges calls held) after here m claimed agree out =
       elim (eqb_tells j i) [
         | inl p ↦
-            let said : IsClaimed exchanges = λ fd t. claimed fd (ap (λ b. asks_to_add fd (if b then exchanges else [])) p.0 ∙ t) in
+            let made : IsClaimed exchanges = λ fd t. claimed fd (ap (λ b. asks_to_add fd (if b then exchanges else [])) p.0 ∙ t) in
             subst (λ b. Same before pending removed e later (To j exchanges calls held) (if b then To j exchanges calls held else Nobody) after) (sym p.0)
             (subst (λ k. IsOutcome serves before earlier e real (To k exchanges calls held) after → Same before pending removed e later (To k exchanges calls held) (To k exchanges calls held) after) (sym p.1)
-            (own_to before pending earlier removed e real later exchanges calls held after here m said agree) out)
+            (own_to before pending earlier removed e real later exchanges calls held after here m made agree) out)
         | inr p ↦ absurd (true≢false (sym here ∙ m.other e.fd j p.1 (out.2).0))
       ]
 
   -- one position that is a neighbour's or nobody's
   record Unseen (before : Registry V) (outcome : Outcome V) (after : Registry V) : Type 0 where
-    same : (pending : List Event) → alone_with i n pending after ≡ alone_with i n pending before
+    same : (pending : List Event) → projected_with i n pending after ≡ projected_with i n pending before
     still : IsMine i mine after.registrations.owner
     next : after.next ≡ before.next
     apart : (fd : ℕ) → mine fd ≡ true → removes fd (exchanges_of outcome) ≡ false
@@ -98,7 +98,7 @@ module _ {V : Type 0} (serves : V → Event → Exchanges → V → Type 0) (i :
 
   one_unseen : (before : Registry V) (earlier : List (Position V)) (e : Event) (later : List Event) (outcome : Outcome V) (after : Registry V) → mine e.fd ≡ false → IsMine i mine before.registrations.owner → ((fd : ℕ) (j : ℕ) → j ≢ i → adds fd (outcome_exchanges j outcome) ≡ true → mine fd ≡ false) → IsOutcome serves before earlier e later outcome after → Unseen before outcome after
   one_unseen before earlier e later Nobody after there m foreign (nobody, is) = record {
-    same = λ p. ap (alone_with i n p) is;
+    same = λ p. ap (projected_with i n p) is;
     still = subst (λ (r : Registry V). IsMine i mine r.registrations.owner) (sym is) m;
     next = ap (λ (r : Registry V). r.next) is;
     apart = λ fd h. refl;
@@ -108,9 +108,9 @@ module _ {V : Type 0} (serves : V → Event → Exchanges → V → Type 0) (i :
       elim (eqb_tells j i) [
         | inl p ↦ absurd (true≢false (sym (m.own e.fd (subst (λ k. get before.registrations.owner e.fd ≡ Some k) p.1 for.0)) ∙ there))
         | inr p ↦
-            let t = other_talk i j mine (record before.registrations { pending = still_pending earlier later }) exchanges calls registrations p.1 m (λ fd a. foreign fd j p.1 (ap (λ b. adds fd (if b then exchanges else [])) (eq-eqb j j refl) ∙ a)) fits in
+            let t = other_exchanges i j mine (record before.registrations { pending = still_pending earlier later }) exchanges calls registrations p.1 m (λ fd a. foreign fd j p.1 (ap (λ b. adds fd (if b then exchanges else [])) (eq-eqb j j refl) ∙ a)) fits in
             record {
-              same = λ q. ap (alone_with i n q) is ∙ (λ k. record { values = only_outcome-insert_other i j before.values held p.1 k; next = n; registrations = t.same q k });
+              same = λ q. ap (projected_with i n q) is ∙ (λ k. record { values = only_outcome-insert_other i j before.values held p.1 k; next = n; registrations = t.same q k });
               still = subst (λ (r : Registry V). IsMine i mine r.registrations.owner) (sym is) t.still;
               next = ap (λ (r : Registry V). r.next) is;
               apart = t.apart;
@@ -119,15 +119,15 @@ module _ {V : Type 0} (serves : V → Event → Exchanges → V → Type 0) (i :
       ]
 
   -- one position that the projected run alone has
-  one_added : (before : Registry V) (pending : List Event) (removed : List (Position V)) (e : Event) (later : List Event) → mine e.fd ≡ false → IsMine i mine before.registrations.owner → IsOutcome serves (alone_with i n pending before) removed e later Nobody (alone_with i n (still_pending removed later) before)
+  one_added : (before : Registry V) (pending : List Event) (removed : List (Position V)) (e : Event) (later : List Event) → mine e.fd ≡ false → IsMine i mine before.registrations.owner → IsOutcome serves (projected_with i n pending before) removed e later Nobody (projected_with i n (still_pending removed later) before)
   one_added before pending removed e later there m = (
-    (λ j v for. true≢false (sym (m.own e.fd (owned_from_alone i before.registrations.owner e.fd (subst (λ k. get (owned_by i before.registrations.owner) e.fd ≡ Some k) (alone_is_own i j before.registrations.owner e.fd for.0) for.0))) ∙ there)),
+    (λ j v for. true≢false (sym (m.own e.fd (owned_from_projected i before.registrations.owner e.fd (subst (λ k. get (owned_by i before.registrations.owner) e.fd ≡ Some k) (projected_is_own i j before.registrations.owner e.fd for.0) for.0))) ∙ there)),
     refl,
   )
 
   -- all positions
   pub record DealtAlone (before : Registry V) (pending : List Event) (removed : List (Position V)) (shown : List (Position V)) (after : Registry V) : Type 0 where
-    pub fits : AreDispatched serves (alone_with i n pending before) removed shown (projected_registry i n after)
+    pub fits : AreDispatched serves (projected_with i n pending before) removed shown (projected_registry i n after)
     pub still : IsMine i mine after.registrations.owner
     pub next : after.next ≡ before.next
 
@@ -150,17 +150,17 @@ module _ {V : Type 0} (serves : V → Event → Exchanges → V → Type 0) (i :
     next = ap (λ (r : Registry V). r.next) is;
   }
   projected_dispatch pending before earlier removed (_ ∷ real) (_ ∷ shown) after (both d here w) m claimed foreign agree (mid, out, more) =
-      let one = one_same before pending earlier removed d.event (events_of real) (events_of shown) d.outcome mid here m (λ fd t. claimed fd (asks_first fd (outcome_exchanges i d.outcome) (positions_exchanges i real) t)) agree out in
+      let one = one_same before pending earlier removed d.event (events_of real) (events_of shown) d.outcome mid here m (λ fd t. claimed fd (calls_first fd (outcome_exchanges i d.outcome) (positions_exchanges i real) t)) agree out in
       let rest = projected_dispatch one.left mid (earlier ++ d ∷ []) (removed ++ only_position i d ∷ []) real shown after w one.still
-      (λ fd t. claimed fd (asks_then fd (outcome_exchanges i d.outcome) (positions_exchanges i real) t))
+      (λ fd t. claimed fd (calls_then fd (outcome_exchanges i d.outcome) (positions_exchanges i real) t))
       (λ fd j differ t. foreign fd j differ (adds_then fd (outcome_exchanges j d.outcome) (positions_exchanges j real) t))
       (agree_push earlier removed d (only_position i d) agree one.alike) more
       in
-      record { fits = (alone_with i n one.left mid, one.fits, rest.fits); still = rest.still; next = rest.next ∙ one.next }
+      record { fits = (projected_with i n one.left mid, one.fits, rest.fits); still = rest.still; next = rest.next ∙ one.next }
   projected_dispatch pending before earlier removed (_ ∷ real) shown after (skipped d there w) m claimed foreign agree (mid, out, more) =
       let one = one_unseen before earlier d.event (events_of real) d.outcome mid there m (λ fd j differ t. foreign fd j differ (adds_first fd (outcome_exchanges j d.outcome) (positions_exchanges j real) t)) out in
       let rest = projected_dispatch pending mid (earlier ++ d ∷ []) removed real shown after w one.still
-      (λ fd t. claimed fd (asks_then fd (outcome_exchanges i d.outcome) (positions_exchanges i real) t))
+      (λ fd t. claimed fd (calls_then fd (outcome_exchanges i d.outcome) (positions_exchanges i real) t))
       (λ fd j differ t. foreign fd j differ (adds_then fd (outcome_exchanges j d.outcome) (positions_exchanges j real) t))
       (agree_skip earlier removed d agree one.apart) more
       in
@@ -169,8 +169,8 @@ module _ {V : Type 0} (serves : V → Event → Exchanges → V → Type 0) (i :
       let rest = projected_dispatch (still_pending removed (events_of shown)) before earlier (removed ++ only_position i d ∷ []) real shown after w m claimed foreign (agree_add earlier removed (only_position i d) agree nobody) h in
       record {
         fits = (
-          alone_with i n (still_pending removed (events_of shown)) before,
-          subst (λ o. IsOutcome serves (alone_with i n pending before) removed d.event (events_of shown) o (alone_with i n (still_pending removed (events_of shown)) before)) (sym nobody) (one_added before pending removed d.event (events_of shown) there m),
+          projected_with i n (still_pending removed (events_of shown)) before,
+          subst (λ o. IsOutcome serves (projected_with i n pending before) removed d.event (events_of shown) o (projected_with i n (still_pending removed (events_of shown)) before)) (sym nobody) (one_added before pending removed d.event (events_of shown) there m),
           rest.fits,
         );
         still = rest.still;
@@ -182,17 +182,17 @@ module _ {V : Type 0} (serves : V → Event → Exchanges → V → Type 0) (i :
   Foreign [] = Unit {0}
   Foreign (d ∷ positions) = (mine d.event.fd ≡ false → only_outcome i d.outcome ≡ Nobody) × Foreign positions
 
-  pub foreign_deals : (before : Registry V) (earlier : List (Position V)) (real : List (Position V)) (after : Registry V) → IsMine i mine before.registrations.owner → IsClaimed (positions_exchanges i real) → ((fd : ℕ) (j : ℕ) → j ≢ i → adds fd (positions_exchanges j real) ≡ true → mine fd ≡ false) → AreDispatched serves before earlier real after → Foreign real
+  pub foreign_positions : (before : Registry V) (earlier : List (Position V)) (real : List (Position V)) (after : Registry V) → IsMine i mine before.registrations.owner → IsClaimed (positions_exchanges i real) → ((fd : ℕ) (j : ℕ) → j ≢ i → adds fd (positions_exchanges j real) ≡ true → mine fd ≡ false) → AreDispatched serves before earlier real after → Foreign real
   unfolding Foreign
-  foreign_deals before earlier [] after m claimed foreign h = tt
-  foreign_deals before earlier (d ∷ real) after m claimed foreign (mid, out, more) =
+  foreign_positions before earlier [] after m claimed foreign h = tt
+  foreign_positions before earlier (d ∷ real) after m claimed foreign (mid, out, more) =
       let first : (b : Bool) → mine d.event.fd ≡ b → (mine d.event.fd ≡ false → only_outcome i d.outcome ≡ Nobody) × IsMine i mine mid.registrations.owner = elim [
-        | true ↦ λ e. let one = one_same before [] earlier earlier d.event (events_of real) [] d.outcome mid e m (λ fd t. claimed fd (asks_first fd (outcome_exchanges i d.outcome) (positions_exchanges i real) t)) (λ fd h. refl) out in ((λ f. absurd (true≢false (sym e ∙ f))), one.still)
+        | true ↦ λ e. let one = one_same before [] earlier earlier d.event (events_of real) [] d.outcome mid e m (λ fd t. claimed fd (calls_first fd (outcome_exchanges i d.outcome) (positions_exchanges i real) t)) (λ fd h. refl) out in ((λ f. absurd (true≢false (sym e ∙ f))), one.still)
         | false ↦ λ e. let one = one_unseen before earlier d.event (events_of real) d.outcome mid e m (λ fd j differ t. foreign fd j differ (adds_first fd (outcome_exchanges j d.outcome) (positions_exchanges j real) t)) out in ((λ f. one.nobody), one.still)
       ]
       in
       let p = first (mine d.event.fd) refl in
-      (p.0, foreign_deals mid (earlier ++ d ∷ []) real after p.1 (λ fd t. claimed fd (asks_then fd (outcome_exchanges i d.outcome) (positions_exchanges i real) t)) (λ fd j differ t. foreign fd j differ (adds_then fd (outcome_exchanges j d.outcome) (positions_exchanges j real) t)) more)
+      (p.0, foreign_positions mid (earlier ++ d ∷ []) real after p.1 (λ fd t. claimed fd (calls_then fd (outcome_exchanges i d.outcome) (positions_exchanges i real) t)) (λ fd j differ t. foreign fd j differ (adds_then fd (outcome_exchanges j d.outcome) (positions_exchanges j real) t)) more)
 
   -- where the projected run positions in the order of the run
   pub woven_alike : (real : List (Position V)) → Foreign real → Woven i mine real (map (only_position i) real)

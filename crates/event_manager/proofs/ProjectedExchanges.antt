@@ -28,19 +28,19 @@ own_answer i (Some j) e = grind (arith, nat_tests)
 own_stays : (i : ℕ) (o : Option ℕ) → o ≡ Some i → cond (is_id i o) o None ≡ Some i
 own_stays i o e = rw e (grind (arith, nat_tests))
 
-pub owned_from_alone : (i : ℕ) (owner : FinMap nat_cmp ℕ) (fd : ℕ) → get (owned_by i owner) fd ≡ Some i → get owner fd ≡ Some i
-owned_from_alone i owner fd e = own_answer i (get owner fd) (sym (get-owned_by i owner fd) ∙ e)
+pub owned_from_projected : (i : ℕ) (owner : FinMap nat_cmp ℕ) (fd : ℕ) → get (owned_by i owner) fd ≡ Some i → get owner fd ≡ Some i
+owned_from_projected i owner fd e = own_answer i (get owner fd) (sym (get-owned_by i owner fd) ∙ e)
 
-pub owned_alone : (i : ℕ) (owner : FinMap nat_cmp ℕ) (fd : ℕ) → get owner fd ≡ Some i → get (owned_by i owner) fd ≡ Some i
-owned_alone i owner fd e = get-owned_by i owner fd ∙ own_stays i (get owner fd) e
+pub owned_projected : (i : ℕ) (owner : FinMap nat_cmp ℕ) (fd : ℕ) → get owner fd ≡ Some i → get (owned_by i owner) fd ≡ Some i
+owned_projected i owner fd e = get-owned_by i owner fd ∙ own_stays i (get owner fd) e
 
 -- alone, no one else owns anything
-alone_answer : (i j : ℕ) (o : Option ℕ) → cond (is_id i o) o None ≡ Some j → j ≡ i
-alone_answer i j None e = cc
-alone_answer i j (Some k) e = grind (arith, nat_tests)
+projected_answer : (i j : ℕ) (o : Option ℕ) → cond (is_id i o) o None ≡ Some j → j ≡ i
+projected_answer i j None e = cc
+projected_answer i j (Some k) e = grind (arith, nat_tests)
 
-pub alone_is_own : (i j : ℕ) (owner : FinMap nat_cmp ℕ) (fd : ℕ) → get (owned_by i owner) fd ≡ Some j → j ≡ i
-alone_is_own i j owner fd e = alone_answer i j (get owner fd) (sym (get-owned_by i owner fd) ∙ e)
+pub projected_is_own : (i j : ℕ) (owner : FinMap nat_cmp ℕ) (fd : ℕ) → get (owned_by i owner) fd ≡ Some j → j ≡ i
+projected_is_own i j owner fd e = projected_answer i j (get owner fd) (sym (get-owned_by i owner fd) ∙ e)
 
 -- at a descriptor of i's both maps answer the same
 mine_answer : (i : ℕ) (o : Option ℕ) → ((j : ℕ) → j ≢ i → o ≡ Some j → ⊥) → cond (is_id i o) o None ≡ o
@@ -92,13 +92,13 @@ own_unasked i mine pending registrations (Add e) answer m claimed h =
       | inl t ↦ inl ((λ unregister_descriptor. t.0 (sym same ∙ unregister_descriptor)), t.1)
       | inr t ↦ inr (elim t [ inl u ↦ inl (same ∙ u.0, u.1, u.2) | inr u ↦ inr (same ∙ u.0, u.1, u.2) ])
     ]
-own_unasked i mine pending registrations (Modify e) answer m claimed h = ((λ own. h.0 (owned_from_alone i registrations.owner e.fd own)), h.1)
-own_unasked i mine pending registrations (Remove e) answer m claimed h = ((λ own. h.0 (owned_from_alone i registrations.owner e.fd own)), h.1)
+own_unasked i mine pending registrations (Modify e) answer m claimed h = ((λ own. h.0 (owned_from_projected i registrations.owner e.fd own)), h.1)
+own_unasked i mine pending registrations (Remove e) answer m claimed h = ((λ own. h.0 (owned_from_projected i registrations.owner e.fd own)), h.1)
 
 own_asked : (i : ℕ) (mine : ℕ → Bool) (pending : List Event) (registrations : Registrations) (request : Request) → IsMine i mine registrations.owner → ((fd : ℕ) → is_add fd request ≡ true → mine fd ≡ true) → ReachesPoller i registrations request → ReachesPoller i (projected_registrations i pending registrations) request
 own_asked i mine pending registrations (Add e) m claimed h = (same_at_mine i mine registrations.owner e.fd m (claimed e.fd (int_eq_same e.fd)) ∙ h.0, h.1)
-own_asked i mine pending registrations (Modify e) m claimed h = owned_alone i registrations.owner e.fd h
-own_asked i mine pending registrations (Remove e) m claimed h = owned_alone i registrations.owner e.fd h
+own_asked i mine pending registrations (Modify e) m claimed h = owned_projected i registrations.owner e.fd h
+own_asked i mine pending registrations (Remove e) m claimed h = owned_projected i registrations.owner e.fd h
 
 abbrev left_after : Request → List Event → List Event
 left_after (Add e) pending = pending
@@ -209,16 +209,16 @@ pub record OwnTalk (i : ℕ) (mine : ℕ → Bool) (pending : List Event) (regis
   pub fits : ExchangesFit i (projected_registrations i pending registrations) exchanges calls (projected_registrations i left after)
   pub still : IsMine i mine after.owner
 
-pub own_talk : (i : ℕ) (mine : ℕ → Bool) (pending : List Event) (registrations : Registrations) (exchanges : Exchanges) (calls : List PollerCall) (after : Registrations) → IsMine i mine registrations.owner → ((fd : ℕ) → asks_to_add fd exchanges ≡ true → mine fd ≡ true) → ExchangesFit i registrations exchanges calls after → OwnTalk i mine pending registrations exchanges calls after
-own_talk i mine pending registrations [] calls after m claimed h = record {
+pub own_exchanges : (i : ℕ) (mine : ℕ → Bool) (pending : List Event) (registrations : Registrations) (exchanges : Exchanges) (calls : List PollerCall) (after : Registrations) → IsMine i mine registrations.owner → ((fd : ℕ) → asks_to_add fd exchanges ≡ true → mine fd ≡ true) → ExchangesFit i registrations exchanges calls after → OwnTalk i mine pending registrations exchanges calls after
+own_exchanges i mine pending registrations [] calls after m claimed h = record {
   left = pending;
   none = λ z. z;
   fits = (h.0, ap (projected_registrations i pending) h.1);
   still = subst (λ b. IsMine i mine b.owner) (sym h.1) m;
 }
-own_talk i mine pending registrations (exchange ∷ exchanges) calls after m claimed (first, rest, mid, joined, fits, more) =
+own_exchanges i mine pending registrations (exchange ∷ exchanges) calls after m claimed (first, rest, mid, joined, fits, more) =
     let one = own_fits i mine pending registrations exchange.0 exchange.1 first mid m (λ fd t. claimed fd (or_left _ _ t)) fits in
-    let others = own_talk i mine one.left mid exchanges rest after one.still (λ fd t. claimed fd (or_right _ _ t)) more in
+    let others = own_exchanges i mine one.left mid exchanges rest after one.still (λ fd t. claimed fd (or_right _ _ t)) more in
     record {
       left = others.left;
       none = λ z. others.none (one.none z);
@@ -231,15 +231,15 @@ pub record OtherTalk (i : ℕ) (mine : ℕ → Bool) (registrations : Registrati
   pub still : IsMine i mine after.owner
   pub apart : (fd : ℕ) → mine fd ≡ true → removes fd exchanges ≡ false
 
-pub other_talk : (i j : ℕ) (mine : ℕ → Bool) (registrations : Registrations) (exchanges : Exchanges) (calls : List PollerCall) (after : Registrations) → j ≢ i → IsMine i mine registrations.owner → ((fd : ℕ) → adds fd exchanges ≡ true → mine fd ≡ false) → ExchangesFit j registrations exchanges calls after → OtherTalk i mine registrations exchanges after
-other_talk i j mine registrations [] calls after differ m foreign h = record {
+pub other_exchanges : (i j : ℕ) (mine : ℕ → Bool) (registrations : Registrations) (exchanges : Exchanges) (calls : List PollerCall) (after : Registrations) → j ≢ i → IsMine i mine registrations.owner → ((fd : ℕ) → adds fd exchanges ≡ true → mine fd ≡ false) → ExchangesFit j registrations exchanges calls after → OtherTalk i mine registrations exchanges after
+other_exchanges i j mine registrations [] calls after differ m foreign h = record {
   same = λ p. ap (projected_registrations i p) h.1;
   still = subst (λ b. IsMine i mine b.owner) (sym h.1) m;
   apart = λ fd t. refl;
 }
-other_talk i j mine registrations (exchange ∷ exchanges) calls after differ m foreign (first, rest, mid, joined, fits, more) =
+other_exchanges i j mine registrations (exchange ∷ exchanges) calls after differ m foreign (first, rest, mid, joined, fits, more) =
     let one = other_fits i j mine registrations exchange.0 exchange.1 first mid differ m (λ fd t. foreign fd (or_left _ _ t)) fits in
-    let others = other_talk i j mine mid exchanges rest after differ one.still (λ fd t. foreign fd (or_right _ _ t)) more in
+    let others = other_exchanges i j mine mid exchanges rest after differ one.still (λ fd t. foreign fd (or_right _ _ t)) more in
     record {
       same = λ p. others.same p ∙ one.same p;
       still = others.still;
@@ -259,11 +259,11 @@ adds-append fd [] b = refl
 adds-append fd (x ∷ a) b =
     ap (λ t. (if is_agreed x.1 then is_add fd x.0 else false) || t) (adds-append fd a b) ∙ or_assoc (if is_agreed x.1 then is_add fd x.0 else false) (adds fd a) (adds fd b)
 
-pub asks_first : (fd : ℕ) (a b : Exchanges) → asks_to_add fd a ≡ true → asks_to_add fd (a ++ b) ≡ true
-asks_first fd a b h = asks_to_add-append fd a b ∙ or_left _ _ h
+pub calls_first : (fd : ℕ) (a b : Exchanges) → asks_to_add fd a ≡ true → asks_to_add fd (a ++ b) ≡ true
+calls_first fd a b h = asks_to_add-append fd a b ∙ or_left _ _ h
 
-pub asks_then : (fd : ℕ) (a b : Exchanges) → asks_to_add fd b ≡ true → asks_to_add fd (a ++ b) ≡ true
-asks_then fd a b h = asks_to_add-append fd a b ∙ or_right _ _ h
+pub calls_then : (fd : ℕ) (a b : Exchanges) → asks_to_add fd b ≡ true → asks_to_add fd (a ++ b) ≡ true
+calls_then fd a b h = asks_to_add-append fd a b ∙ or_right _ _ h
 
 pub adds_first : (fd : ℕ) (a b : Exchanges) → adds fd a ≡ true → adds fd (a ++ b) ≡ true
 adds_first fd a b h = adds-append fd a b ∙ or_left _ _ h

@@ -8,7 +8,7 @@ use Rattle.event_manager.specs.Exchange.{Exchanges, ExchangesFit}
 use Rattle.event_manager.specs.Registry.{Registry, Step, Joined, NotJoined, Left, NotLeft, Replaced, NotReplaced, Requested, NotRequested, Steps, is_id, without_owner, ids_end}
 use Rattle.event_manager.specs.Projection.{only_values, projected_registrations, projected_registry, names, step_exchanges, asks_to_add, adds}
 use Rattle.event_manager.proofs.FiniteMaps.{get-without_owner, get_only, owned_by-without_owner, owned_by-disowned_other, only_outcome-insert_own, only_outcome-insert_other, only_outcome-remove_own, only_outcome-remove_other}
-use Rattle.event_manager.proofs.ProjectedExchanges.{IsMine, own_talk, other_talk, owned_alone, owned_from_alone}
+use Rattle.event_manager.proofs.ProjectedExchanges.{IsMine, own_exchanges, other_exchanges, owned_projected, owned_from_projected}
 
 -- an owner's map without an id's descriptors
 disowned_answer : (i j : ℕ) (o : Option ℕ) → cond (not (is_id j o)) o None ≡ Some i → o ≡ Some i
@@ -25,14 +25,14 @@ pub mine-without_owner : (i j : ℕ) (mine : ℕ → Bool) (owner : FinMap nat_c
 mine-without_owner i j mine owner m = record { own = λ q h. m.own q (from_disowned j owner q i h); other = λ q k differ h. m.other q k differ (from_disowned j owner q k h) }
 
 -- values, alone
-pub has_alone : {V : Type 0} (i : ℕ) (values : FinMap nat_cmp V) (v : V) → get values i ≡ Some v → get (only_values i values) i ≡ Some v
-has_alone i values v h = get_only i values i ∙ ap (λ b. cond b (get values i) None) (eq-eqb i i refl) ∙ h
+pub has_projected : {V : Type 0} (i : ℕ) (values : FinMap nat_cmp V) (v : V) → get values i ≡ Some v → get (only_values i values) i ≡ Some v
+has_projected i values v h = get_only i values i ∙ ap (λ b. cond b (get values i) None) (eq-eqb i i refl) ∙ h
 
-pub lacks_alone : {V : Type 0} (i : ℕ) (values : FinMap nat_cmp V) → get values i ≡ None → get (only_values i values) i ≡ None
-lacks_alone i values h = get_only i values i ∙ ap (λ b. cond b (get values i) None) (eq-eqb i i refl) ∙ h
+pub lacks_projected : {V : Type 0} (i : ℕ) (values : FinMap nat_cmp V) → get values i ≡ None → get (only_values i values) i ≡ None
+lacks_projected i values h = get_only i values i ∙ ap (λ b. cond b (get values i) None) (eq-eqb i i refl) ∙ h
 
-pub has_from_alone : {V : Type 0} (i : ℕ) (values : FinMap nat_cmp V) (v : V) → get (only_values i values) i ≡ Some v → get values i ≡ Some v
-has_from_alone i values v h = sym (get_only i values i ∙ ap (λ b. cond b (get values i) None) (eq-eqb i i refl)) ∙ h
+pub has_from_projected : {V : Type 0} (i : ℕ) (values : FinMap nat_cmp V) (v : V) → get (only_values i values) i ≡ Some v → get values i ≡ Some v
+has_from_projected i values v h = sym (get_only i values i ∙ ap (λ b. cond b (get values i) None) (eq-eqb i i refl)) ∙ h
 
 module _ {V : Type 0} (begins : V → Exchanges → V → Type 0) where
   -- a step of i's own
@@ -55,7 +55,7 @@ module _ {V : Type 0} (begins : V → Exchanges → V → Type 0) where
 
   own_joined : (i : ℕ) (mine : ℕ → Bool) (n : ℕ) (before after : Registry V) (value : V) (exchanges : Exchanges) (calls : List PollerCall) (held : V) → IsMine i mine before.registrations.owner → IsClaimed mine exchanges → (before.next ≤ i → n ≡ i) → Steps begins before (Joined value i exchanges calls held) after → OwnStep i mine n before (Joined value i exchanges calls held) after
   own_joined i mine n before after value exchanges calls held m claimed joins (registrations, capacity, is, fits, beg, e) =
-      let t = own_talk i mine [] before.registrations exchanges calls registrations m claimed fits in
+      let t = own_exchanges i mine [] before.registrations exchanges calls registrations m claimed fits in
       let k : n ≡ i = joins (le_of_eq (sym is)) in
       let grown : after.next ≡ before.next + 1 = ap (λ (r : Registry V). r.next) e in
       record {
@@ -77,8 +77,8 @@ module _ {V : Type 0} (begins : V → Exchanges → V → Type 0) where
     next = n;
     fits = (
       fds,
-      has_alone i before.values value has,
-      (is_owner.0, λ fd. ((λ c. owned_alone i before.registrations.owner fd ((is_owner.1 fd).0 c)), λ o. (is_owner.1 fd).1 (owned_from_alone i before.registrations.owner fd o))),
+      has_projected i before.values value has,
+      (is_owner.0, λ fd. ((λ c. owned_projected i before.registrations.owner fd ((is_owner.1 fd).0 c)), λ o. (is_owner.1 fd).1 (owned_from_projected i before.registrations.owner fd o))),
       deletes,
       ap (projected_registry i n) e ∙ ap₂ (λ (v : FinMap nat_cmp V) (o : FinMap nat_cmp ℕ). record { values = v; next = n; registrations = record { owner = o; endpoint = before.registrations.endpoint; pending = [] } }) (only_outcome-remove_own i before.values) (owned_by-without_owner i before.registrations.owner),
     );
@@ -90,22 +90,22 @@ module _ {V : Type 0} (begins : V → Exchanges → V → Type 0) where
   own_touched i mine n before after old new m joins (has, e) = record {
     next = n;
     fits = (
-      has_alone i before.values old has,
+      has_projected i before.values old has,
       ap (projected_registry i n) e ∙ ap (λ (v : FinMap nat_cmp V). record { values = v; next = n; registrations = projected_registrations i [] before.registrations }) (only_outcome-insert_own i before.values new),
     );
     still = subst (λ (r : Registry V). IsMine i mine r.registrations.owner) (sym e) m;
     joins = λ le. joins (subst (λ (r : Registry V). r.next ≤ i) e le);
   }
 
-  own_said : (i : ℕ) (mine : ℕ → Bool) (n : ℕ) (before after : Registry V) (exchanges : Exchanges) (calls : List PollerCall) → IsMine i mine before.registrations.owner → IsClaimed mine exchanges → (before.next ≤ i → n ≡ i) → Steps begins before (Requested i exchanges calls) after → OwnStep i mine n before (Requested i exchanges calls) after
-  own_said i mine n before after exchanges calls m claimed joins (value, registrations, has, fits, e) =
-      let t = own_talk i mine [] before.registrations exchanges calls registrations m claimed fits in
+  own_made : (i : ℕ) (mine : ℕ → Bool) (n : ℕ) (before after : Registry V) (exchanges : Exchanges) (calls : List PollerCall) → IsMine i mine before.registrations.owner → IsClaimed mine exchanges → (before.next ≤ i → n ≡ i) → Steps begins before (Requested i exchanges calls) after → OwnStep i mine n before (Requested i exchanges calls) after
+  own_made i mine n before after exchanges calls m claimed joins (value, registrations, has, fits, e) =
+      let t = own_exchanges i mine [] before.registrations exchanges calls registrations m claimed fits in
       record {
         next = n;
         fits = (
           value,
           projected_registrations i [] registrations,
-          has_alone i before.values value has,
+          has_projected i before.values value has,
           subst (λ p. ExchangesFit i (projected_registrations i [] before.registrations) exchanges calls (projected_registrations i p registrations)) (t.none refl) t.fits,
           ap (projected_registry i n) e,
         );
@@ -123,14 +123,14 @@ module _ {V : Type 0} (begins : V → Exchanges → V → Type 0) where
   own_step i mine n before (NotJoined value error) after named m claimed joins h = absurd (true≢false (sym named))
   own_step i mine n before (Left id value calls) after named m claimed joins h =
       subst (λ k. Steps begins before (Left k value calls) after → OwnStep i mine n before (Left k value calls) after) (sym (eqb-true id i named)) (own_left i mine n before after value calls m joins) h
-  own_step i mine n before (NotLeft id) after named m claimed joins h = unchanged i mine n before after (NotLeft id) m joins h.1 (λ e. (subst (λ k. get (only_values i before.values) k ≡ None) (sym (eqb-true id i named)) (lacks_alone i before.values (subst (λ k. get before.values k ≡ None) (eqb-true id i named) h.0)), e))
+  own_step i mine n before (NotLeft id) after named m claimed joins h = unchanged i mine n before after (NotLeft id) m joins h.1 (λ e. (subst (λ k. get (only_values i before.values) k ≡ None) (sym (eqb-true id i named)) (lacks_projected i before.values (subst (λ k. get before.values k ≡ None) (eqb-true id i named) h.0)), e))
   own_step i mine n before (Replaced id old new) after named m claimed joins h =
       subst (λ k. Steps begins before (Replaced k old new) after → OwnStep i mine n before (Replaced k old new) after) (sym (eqb-true id i named)) (own_touched i mine n before after old new m joins) h
-  own_step i mine n before (NotReplaced id) after named m claimed joins h = unchanged i mine n before after (NotReplaced id) m joins h.1 (λ e. (subst (λ k. get (only_values i before.values) k ≡ None) (sym (eqb-true id i named)) (lacks_alone i before.values (subst (λ k. get before.values k ≡ None) (eqb-true id i named) h.0)), e))
+  own_step i mine n before (NotReplaced id) after named m claimed joins h = unchanged i mine n before after (NotReplaced id) m joins h.1 (λ e. (subst (λ k. get (only_values i before.values) k ≡ None) (sym (eqb-true id i named)) (lacks_projected i before.values (subst (λ k. get before.values k ≡ None) (eqb-true id i named) h.0)), e))
   own_step i mine n before (Requested id exchanges calls) after named m claimed joins h =
       subst (λ k. Steps begins before (Requested k exchanges calls) after → OwnStep i mine n before (Requested k exchanges calls) after) (sym (eqb-true id i named))
-      (own_said i mine n before after exchanges calls m (claims_of mine exchanges (id == i) named claimed) joins) h
-  own_step i mine n before (NotRequested id) after named m claimed joins h = unchanged i mine n before after (NotRequested id) m joins h.1 (λ e. (subst (λ k. get (only_values i before.values) k ≡ None) (sym (eqb-true id i named)) (lacks_alone i before.values (subst (λ k. get before.values k ≡ None) (eqb-true id i named) h.0)), e))
+      (own_made i mine n before after exchanges calls m (claims_of mine exchanges (id == i) named claimed) joins) h
+  own_step i mine n before (NotRequested id) after named m claimed joins h = unchanged i mine n before after (NotRequested id) m joins h.1 (λ e. (subst (λ k. get (only_values i before.values) k ≡ None) (sym (eqb-true id i named)) (lacks_projected i before.values (subst (λ k. get before.values k ≡ None) (eqb-true id i named) h.0)), e))
 
   -- a step of a neighbour's
   pub record OtherStep (i : ℕ) (mine : ℕ → Bool) (before after : Registry V) : Type 0 where
@@ -138,8 +138,8 @@ module _ {V : Type 0} (begins : V → Exchanges → V → Type 0) where
     pub still : IsMine i mine after.registrations.owner
     pub later : before.next ≤ after.next
 
-  abbrev alone_of : ℕ → ℕ → FinMap nat_cmp V → Registrations → Registry V
-  alone_of i n values registrations = record { values = values; next = n; registrations = registrations }
+  abbrev projected_of : ℕ → ℕ → FinMap nat_cmp V → Registrations → Registry V
+  projected_of i n values registrations = record { values = values; next = n; registrations = registrations }
 
   other_same : (i : ℕ) (mine : ℕ → Bool) (before after : Registry V) → IsMine i mine before.registrations.owner → after ≡ before → OtherStep i mine before after
   other_same i mine before after m e = record {
@@ -148,15 +148,15 @@ module _ {V : Type 0} (begins : V → Exchanges → V → Type 0) where
     later = le_of_eq (sym (ap (λ (r : Registry V). r.next) e));
   }
 
-  said : (j : ℕ) (exchanges : Exchanges) (fd : ℕ) → adds fd exchanges ≡ true → adds fd (if j == j then exchanges else []) ≡ true
-  said j exchanges fd t = ap (λ b. adds fd (if b then exchanges else [])) (eq-eqb j j refl) ∙ t
+  made : (j : ℕ) (exchanges : Exchanges) (fd : ℕ) → adds fd exchanges ≡ true → adds fd (if j == j then exchanges else []) ≡ true
+  made j exchanges fd t = ap (λ b. adds fd (if b then exchanges else [])) (eq-eqb j j refl) ∙ t
 
   pub other_step : (i : ℕ) (mine : ℕ → Bool) (before : Registry V) (step : Step V) (after : Registry V) → names i step ≡ false → IsMine i mine before.registrations.owner → ((fd : ℕ) (j : ℕ) → j ≢ i → adds fd (step_exchanges j step) ≡ true → mine fd ≡ false) → Steps begins before step after → OtherStep i mine before after
   other_step i mine before (Joined value id exchanges calls held) after named m foreign (registrations, capacity, is, fits, beg, e) =
       let differ : id ≢ i = λ s. true≢false (sym (eq-eqb id i s) ∙ named) in
-      let t = other_talk i id mine before.registrations exchanges calls registrations differ m (λ fd a. foreign fd id differ (said id exchanges fd a)) fits in
+      let t = other_exchanges i id mine before.registrations exchanges calls registrations differ m (λ fd a. foreign fd id differ (made id exchanges fd a)) fits in
       record {
-        same = λ n. ap (projected_registry i n) e ∙ (λ k. alone_of i n (only_outcome-insert_other i id before.values held differ k) (t.same [] k));
+        same = λ n. ap (projected_registry i n) e ∙ (λ k. projected_of i n (only_outcome-insert_other i id before.values held differ k) (t.same [] k));
         still = subst (λ (r : Registry V). IsMine i mine r.registrations.owner) (sym e) t.still;
         later = let grown : after.next ≡ before.next + 1 = ap (λ (r : Registry V). r.next) e in omega arith;
       }
@@ -164,7 +164,7 @@ module _ {V : Type 0} (begins : V → Exchanges → V → Type 0) where
   other_step i mine before (Left id value calls) after named m foreign (fds, has, is_owner, deletes, e) =
       let differ : id ≢ i = λ s. true≢false (sym (eq-eqb id i s) ∙ named) in
       record {
-        same = λ n. ap (projected_registry i n) e ∙ (λ k. alone_of i n (only_outcome-remove_other i id before.values differ k) (record { owner = owned_by-disowned_other i id before.registrations.owner differ k; endpoint = before.registrations.endpoint; pending = [] }));
+        same = λ n. ap (projected_registry i n) e ∙ (λ k. projected_of i n (only_outcome-remove_other i id before.values differ k) (record { owner = owned_by-disowned_other i id before.registrations.owner differ k; endpoint = before.registrations.endpoint; pending = [] }));
         still = subst (λ (r : Registry V). IsMine i mine r.registrations.owner) (sym e) (mine-without_owner i id mine before.registrations.owner m);
         later = le_of_eq (sym (ap (λ (r : Registry V). r.next) e));
       }
@@ -172,16 +172,16 @@ module _ {V : Type 0} (begins : V → Exchanges → V → Type 0) where
   other_step i mine before (Replaced id old new) after named m foreign (has, e) =
       let differ : id ≢ i = λ s. true≢false (sym (eq-eqb id i s) ∙ named) in
       record {
-        same = λ n. ap (projected_registry i n) e ∙ (λ k. alone_of i n (only_outcome-insert_other i id before.values new differ k) (projected_registrations i [] before.registrations));
+        same = λ n. ap (projected_registry i n) e ∙ (λ k. projected_of i n (only_outcome-insert_other i id before.values new differ k) (projected_registrations i [] before.registrations));
         still = subst (λ (r : Registry V). IsMine i mine r.registrations.owner) (sym e) m;
         later = le_of_eq (sym (ap (λ (r : Registry V). r.next) e));
       }
   other_step i mine before (NotReplaced id) after named m foreign h = other_same i mine before after m h.1
   other_step i mine before (Requested id exchanges calls) after named m foreign (value, registrations, has, fits, e) =
       let differ : id ≢ i = λ s. true≢false (sym (eq-eqb id i s) ∙ named) in
-      let t = other_talk i id mine before.registrations exchanges calls registrations differ m (λ fd a. foreign fd id differ (said id exchanges fd a)) fits in
+      let t = other_exchanges i id mine before.registrations exchanges calls registrations differ m (λ fd a. foreign fd id differ (made id exchanges fd a)) fits in
       record {
-        same = λ n. ap (projected_registry i n) e ∙ (λ k. alone_of i n (only_values i before.values) (t.same [] k));
+        same = λ n. ap (projected_registry i n) e ∙ (λ k. projected_of i n (only_values i before.values) (t.same [] k));
         still = subst (λ (r : Registry V). IsMine i mine r.registrations.owner) (sym e) t.still;
         later = le_of_eq (sym (ap (λ (r : Registry V). r.next) e));
       }

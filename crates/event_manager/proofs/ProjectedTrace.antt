@@ -10,9 +10,9 @@ use Rattle.event_manager.specs.Iteration.{ManagerState, JobRun, IsAfterWait, Are
 use Rattle.event_manager.specs.Trace.{Effect, Stepped, Iterated, Entry, Matches, HasEffect, IsTrace}
 use Rattle.event_manager.specs.Projection.{projected_registry, projected_state, only_position, positions_exchanges, effect_exchanges, exchanges_in, asks_to_add, adds, stays, names, projected_effect, projection, projected_next, NonInterference}
 use Rattle.vmm_sys.specs.declared.errno.Errno.{Errno}
-use Rattle.event_manager.proofs.ProjectedExchanges.{IsMine, asks_first, asks_then, adds_first, adds_then, or_left, or_right}
+use Rattle.event_manager.proofs.ProjectedExchanges.{IsMine, calls_first, calls_then, adds_first, adds_then, or_left, or_right}
 use Rattle.event_manager.proofs.ProjectedSteps.{own_step, other_step}
-use Rattle.event_manager.proofs.ProjectedDispatch.{projected_dispatch, foreign_deals, woven_alike}
+use Rattle.event_manager.proofs.ProjectedDispatch.{projected_dispatch, foreign_positions, woven_alike}
 
 pub events_of-only_outcome : {V : Type 0} (i : ℕ) (positions : List (Position V)) → events_of (map (only_position i) positions) ≡ events_of positions
 events_of-only_outcome i [] = refl
@@ -29,16 +29,16 @@ module _ {V J R : Type 0} (begins : V → Exchanges → V → Type 0) (serves : 
   no_jobs before (job_run ∷ jobs) after same (mid, ticket, chosen, steps, more) = let m = jobs_grow (record { registry = mid; taken = before.taken + 1 }) jobs after more in absurd (omega arith)
 
   wait_grows : (before : ManagerState V) (waited : Result (List Event) Errno) (positions : List (Position V)) (jobs : List (JobRun V J R)) (after : ManagerState V) → IsAfterWait begins serves may before waited positions jobs after → before.taken ≤ after.taken
-  wait_grows before (Ok report) positions jobs after (mid, dealing, none, job_run) = jobs_grow (record before { registry = mid }) jobs after job_run
-  wait_grows before (Err errno) positions jobs after (no_deals, none, is) = le_of_eq (sym (ap (λ (s : ManagerState V). s.taken) is))
+  wait_grows before (Ok report) positions jobs after (mid, dispatch, none, job_run) = jobs_grow (record before { registry = mid }) jobs after job_run
+  wait_grows before (Err errno) positions jobs after (no_positions, none, is) = le_of_eq (sym (ap (λ (s : ManagerState V). s.taken) is))
 
   does_grow : (before : ManagerState V) (effect : Effect V J R) (after : ManagerState V) → HasEffect begins serves may before effect after → before.taken ≤ after.taken
   does_grow before (Stepped step) after h = le_of_eq (sym h.1)
   does_grow before (Iterated iteration) after h = wait_grows before iteration.waited iteration.positions iteration.jobs after h
 
-  run_grows : (before : ManagerState V) (trace : List (Entry V J R)) (after : ManagerState V) → IsTrace begins serves may before trace after → before.taken ≤ after.taken
-  run_grows before [] after is = le_of_eq (sym (ap (λ (s : ManagerState V). s.taken) is))
-  run_grows before (entry ∷ trace) after (mid, made, has_effect, more) = let a = does_grow before entry.effect mid has_effect in let b = run_grows mid trace after more in omega arith
+  trace_grows : (before : ManagerState V) (trace : List (Entry V J R)) (after : ManagerState V) → IsTrace begins serves may before trace after → before.taken ≤ after.taken
+  trace_grows before [] after is = le_of_eq (sym (ap (λ (s : ManagerState V). s.taken) is))
+  trace_grows before (entry ∷ trace) after (mid, made, has_effect, more) = let a = does_grow before entry.effect mid has_effect in let b = trace_grows mid trace after more in omega arith
 
   module _ (i : ℕ) (mine : ℕ → Bool) where
     abbrev IsClaimed : Exchanges → Type 0
@@ -53,19 +53,19 @@ module _ {V J R : Type 0} (begins : V → Exchanges → V → Type 0) (serves : 
       still : IsMine i mine after.registry.registrations.owner
       next : after.registry.next ≡ before.registry.next
 
-    wait_alone : (n : ℕ) (before : ManagerState V) (waited : Result (List Event) Errno) (positions : List (Position V)) (jobs : List (JobRun V J R)) (after : ManagerState V) → after.taken ≡ before.taken → IsMine i mine before.registry.registrations.owner → IsClaimed (positions_exchanges i positions) → Apart (λ j. positions_exchanges j positions) → IsAfterWait begins serves may before waited positions jobs after → TurnAlone n before waited positions jobs after
-    wait_alone n before (Err errno) positions jobs after same m claimed apart (no_deals, none, is) = record {
-      fits = (ap (map (only_position i)) no_deals, none, ap (projected_state i n) is);
+    wait_projected : (n : ℕ) (before : ManagerState V) (waited : Result (List Event) Errno) (positions : List (Position V)) (jobs : List (JobRun V J R)) (after : ManagerState V) → after.taken ≡ before.taken → IsMine i mine before.registry.registrations.owner → IsClaimed (positions_exchanges i positions) → Apart (λ j. positions_exchanges j positions) → IsAfterWait begins serves may before waited positions jobs after → TurnAlone n before waited positions jobs after
+    wait_projected n before (Err errno) positions jobs after same m claimed apart (no_positions, none, is) = record {
+      fits = (ap (map (only_position i)) no_positions, none, ap (projected_state i n) is);
       still = subst (λ (s : ManagerState V). IsMine i mine s.registry.registrations.owner) (sym is) m;
       next = ap (λ (s : ManagerState V). s.registry.next) is;
     }
-    wait_alone n before (Ok report) positions jobs after same m claimed apart (mid, dealing, none, job_run) =
+    wait_projected n before (Ok report) positions jobs after same m claimed apart (mid, dispatch, none, job_run) =
         let idle = no_jobs (record before { registry = mid }) jobs after same job_run in
-        let d = projected_dispatch serves i mine n [] before.registry [] [] positions (map (only_position i) positions) mid (woven_alike serves i mine n positions (foreign_deals serves i mine n before.registry [] positions mid m claimed apart dealing.1)) m claimed apart (λ fd h. refl) dealing.1 in
+        let d = projected_dispatch serves i mine n [] before.registry [] [] positions (map (only_position i) positions) mid (woven_alike serves i mine n positions (foreign_positions serves i mine n before.registry [] positions mid m claimed apart dispatch.1)) m claimed apart (λ fd h. refl) dispatch.1 in
         record {
           fits = (
             projected_registry i n mid,
-            (events_of-only_outcome i positions ∙ dealing.0, d.fits),
+            (events_of-only_outcome i positions ∙ dispatch.0, d.fits),
             none,
             subst (λ js. AreRun begins serves may (record (projected_state i n before) { registry = projected_registry i n mid }) js (projected_state i n after)) (sym idle.0) (ap (projected_state i n) idle.1),
           );
@@ -85,41 +85,41 @@ module _ {V J R : Type 0} (begins : V → Exchanges → V → Type 0) (serves : 
       still : IsMine i mine after.registry.registrations.owner
       joins : after.registry.next ≤ i → n ≡ i
 
-    deed_alone : (n : ℕ) (before : ManagerState V) (effect : Effect V J R) (after : ManagerState V) → after.taken ≡ before.taken → IsMine i mine before.registry.registrations.owner → IsClaimed (effect_exchanges i effect) → Apart (λ j. effect_exchanges j effect) → (before.registry.next ≤ i → n ≡ i) → HasEffect begins serves may before effect after → ((stays i effect ≡ true) × Kept n before effect after) ⊎ ((stays i effect ≡ false) × Dropped n before after)
-    deed_alone n before (Iterated iteration) after same m claimed apart joins h =
-        let t = wait_alone n before iteration.waited iteration.positions iteration.jobs after same m claimed apart h in
+    effect_projected : (n : ℕ) (before : ManagerState V) (effect : Effect V J R) (after : ManagerState V) → after.taken ≡ before.taken → IsMine i mine before.registry.registrations.owner → IsClaimed (effect_exchanges i effect) → Apart (λ j. effect_exchanges j effect) → (before.registry.next ≤ i → n ≡ i) → HasEffect begins serves may before effect after → ((stays i effect ≡ true) × Kept n before effect after) ⊎ ((stays i effect ≡ false) × Dropped n before after)
+    effect_projected n before (Iterated iteration) after same m claimed apart joins h =
+        let t = wait_projected n before iteration.waited iteration.positions iteration.jobs after same m claimed apart h in
         inl (refl, record { next = n; has_effect = t.fits; still = t.still; joins = λ le. joins (subst (λ k. k ≤ i) t.next le) })
-    deed_alone n before (Stepped step) after same m claimed apart joins h =
+    effect_projected n before (Stepped step) after same m claimed apart joins h =
         let at : (b : Bool) → names i step ≡ b → ((b ≡ true) × Kept n before (Stepped step) after) ⊎ ((b ≡ false) × Dropped n before after) = elim [
           | true ↦ λ e. let s = own_step begins i mine n before.registry step after.registry e m claimed joins h.0 in inl (refl, record { next = s.next; has_effect = (s.fits, h.1); still = s.still; joins = s.joins })
           | false ↦ λ e. let s = other_step begins i mine before.registry step after.registry e m apart h.0 in inr (refl, record { same = (λ k. record { registry = s.same n k; taken = h.1 k }); still = s.still; joins = λ le. joins (let l = s.later in omega arith) })
         ]
         in at (names i step) refl
 
-    says_alone : (effect : Effect V J R) (c : _) (r : _) → Matches effect c r → Matches (projected_effect i effect) c r
-    says_alone (Stepped step) c r h = h
-    says_alone (Iterated iteration) c r h = h
+    matches_projected : (effect : Effect V J R) (c : _) (r : _) → Matches effect c r → Matches (projected_effect i effect) c r
+    matches_projected (Stepped step) c r h = h
+    matches_projected (Iterated iteration) c r h = h
 
-    pub run_alone : (n : ℕ) (before : ManagerState V) (trace : List (Entry V J R)) (after : ManagerState V) → after.taken ≡ before.taken → IsMine i mine before.registry.registrations.owner → IsClaimed (exchanges_in i trace) → Apart (λ j. exchanges_in j trace) → (before.registry.next ≤ i → n ≡ i) → IsTrace begins serves may before trace after → (next : ℕ) × IsTrace begins serves may (projected_state i n before) (projection i trace) (projected_state i next after)
-    run_alone n before [] after same m claimed apart joins is = (n, ap (projected_state i n) is)
-    run_alone n before (entry ∷ trace) after same m claimed apart joins (mid, made, has_effect, more) =
+    pub trace_projected : (n : ℕ) (before : ManagerState V) (trace : List (Entry V J R)) (after : ManagerState V) → after.taken ≡ before.taken → IsMine i mine before.registry.registrations.owner → IsClaimed (exchanges_in i trace) → Apart (λ j. exchanges_in j trace) → (before.registry.next ≤ i → n ≡ i) → IsTrace begins serves may before trace after → (next : ℕ) × IsTrace begins serves may (projected_state i n before) (projection i trace) (projected_state i next after)
+    trace_projected n before [] after same m claimed apart joins is = (n, ap (projected_state i n) is)
+    trace_projected n before (entry ∷ trace) after same m claimed apart joins (mid, made, has_effect, more) =
         let a = does_grow before entry.effect mid has_effect in
-        let b = run_grows mid trace after more in
+        let b = trace_grows mid trace after more in
         let first : mid.taken ≡ before.taken = omega arith in
         let rest_same : after.taken ≡ mid.taken = omega arith in
-        let claimed1 : IsClaimed (effect_exchanges i entry.effect) = λ fd t. claimed fd (asks_first fd (effect_exchanges i entry.effect) (exchanges_in i trace) t) in
-        let claimed2 : IsClaimed (exchanges_in i trace) = λ fd t. claimed fd (asks_then fd (effect_exchanges i entry.effect) (exchanges_in i trace) t) in
+        let claimed1 : IsClaimed (effect_exchanges i entry.effect) = λ fd t. claimed fd (calls_first fd (effect_exchanges i entry.effect) (exchanges_in i trace) t) in
+        let claimed2 : IsClaimed (exchanges_in i trace) = λ fd t. claimed fd (calls_then fd (effect_exchanges i entry.effect) (exchanges_in i trace) t) in
         let apart1 : Apart (λ j. effect_exchanges j entry.effect) = λ fd j differ t. apart fd j differ (adds_first fd (effect_exchanges j entry.effect) (exchanges_in j trace) t) in
         let apart2 : Apart (λ j. exchanges_in j trace) = λ fd j differ t. apart fd j differ (adds_then fd (effect_exchanges j entry.effect) (exchanges_in j trace) t) in
-        elim (deed_alone n before entry.effect mid first m claimed1 apart1 joins has_effect) [
+        elim (effect_projected n before entry.effect mid first m claimed1 apart1 joins has_effect) [
           | inl p ↦
-              let rest = run_alone (p.1).next mid trace after rest_same (p.1).still claimed2 apart2 (p.1).joins more in (
+              let rest = trace_projected (p.1).next mid trace after rest_same (p.1).still claimed2 apart2 (p.1).joins more in (
                 rest.0,
                 subst (λ b. IsTrace begins serves may (projected_state i n before) (if b then record entry { effect = projected_effect i entry.effect } ∷ projection i trace else projection i trace) (projected_state i rest.0 after)) (sym p.0)
-                    (projected_state i (p.1).next mid, says_alone entry.effect entry.call entry.reply made, (p.1).has_effect, rest.1),
+                    (projected_state i (p.1).next mid, matches_projected entry.effect entry.call entry.reply made, (p.1).has_effect, rest.1),
               )
           | inr p ↦
-              let rest = run_alone n mid trace after rest_same (p.1).still claimed2 apart2 (p.1).joins more in (
+              let rest = trace_projected n mid trace after rest_same (p.1).still claimed2 apart2 (p.1).joins more in (
                 rest.0,
                 subst (λ b. IsTrace begins serves may (projected_state i n before) (if b then record entry { effect = projected_effect i entry.effect } ∷ projection i trace else projection i trace) (projected_state i rest.0 after)) (sym p.0)
                     (subst (λ s. IsTrace begins serves may s (projection i trace) (projected_state i rest.0 after)) (p.1).same rest.1),
@@ -142,7 +142,7 @@ module _ {V J R : Type 0} (begins : V → Exchanges → V → Type 0) (serves : 
   non_interference before trace after h i same apart =
       let mine : ℕ → Bool = λ fd. is_id i (get before.registry.registrations.owner fd) || asks_to_add fd (exchanges_in i trace) in
       let claims : (fd : ℕ) → mine fd ≡ true → Owns i before.registry.registrations fd ⊎ (asks_to_add fd (exchanges_in i trace) ≡ true) = λ fd e. elim (or_split (is_id i (get before.registry.registrations.owner fd)) (asks_to_add fd (exchanges_in i trace)) e) [ inl p ↦ inl (is_id_Some i _ p) | inr p ↦ inr p ] in
-      run_alone i mine (projected_next i before) before trace after same
+      trace_projected i mine (projected_next i before) before trace after same
       (record {
         own = λ fd e. or_left _ _ (ap (is_id i) e ∙ eq-eqb i i refl);
         other = λ fd j differ e. not_true _ (λ t. (apart fd j differ (claims fd t)).0 e);

@@ -17,9 +17,9 @@ delivered_alike i event (To id exchanges calls after) =
       | false ↦ λ e. refl
     ] refl
 
-talk_alike : {V : Type 0} (i : ℕ) (o : Outcome V) → outcome_exchanges i (only_outcome i o) ≡ outcome_exchanges i o
-talk_alike i Nobody = refl
-talk_alike i (To id exchanges calls after) =
+exchanges_alike : {V : Type 0} (i : ℕ) (o : Outcome V) → outcome_exchanges i (only_outcome i o) ≡ outcome_exchanges i o
+exchanges_alike i Nobody = refl
+exchanges_alike i (To id exchanges calls after) =
     elim (id == i) as (λ b. (id == i) ≡ b → outcome_exchanges i (if b then To id exchanges calls after else Nobody) ≡ (if b then exchanges else [])) [
       | true ↦ λ e. ap (λ b. if b then exchanges else []) e
       | false ↦ λ e. refl
@@ -29,29 +29,29 @@ deliveries_alike : {V : Type 0} (i : ℕ) (positions : List (Position V)) → de
 deliveries_alike i [] = refl
 deliveries_alike i (d ∷ positions) = ap₂ (λ xs ys. xs ++ ys) (delivered_alike i d.event d.outcome) (deliveries_alike i positions)
 
-talks_alike : {V : Type 0} (i : ℕ) (positions : List (Position V)) → positions_exchanges i (map (only_position i) positions) ≡ positions_exchanges i positions
-talks_alike i [] = refl
-talks_alike i (d ∷ positions) = ap₂ (λ xs ys. xs ++ ys) (talk_alike i d.outcome) (talks_alike i positions)
+all_exchanges_alike : {V : Type 0} (i : ℕ) (positions : List (Position V)) → positions_exchanges i (map (only_position i) positions) ≡ positions_exchanges i positions
+all_exchanges_alike i [] = refl
+all_exchanges_alike i (d ∷ positions) = ap₂ (λ xs ys. xs ++ ys) (exchanges_alike i d.outcome) (all_exchanges_alike i positions)
 
-unnamed_talk : {V : Type 0} (i : ℕ) (step : Step V) → names i step ≡ false → step_exchanges i step ≡ []
-unnamed_talk i (Joined value id exchanges calls held) e = ap (λ b. if b then exchanges else []) e
-unnamed_talk i (NotJoined value error) e = refl
-unnamed_talk i (Left id value calls) e = refl
-unnamed_talk i (NotLeft id) e = refl
-unnamed_talk i (Replaced id old new) e = refl
-unnamed_talk i (NotReplaced id) e = refl
-unnamed_talk i (Requested id exchanges calls) e = ap (λ b. if b then exchanges else []) e
-unnamed_talk i (NotRequested id) e = refl
+unnamed_exchanges : {V : Type 0} (i : ℕ) (step : Step V) → names i step ≡ false → step_exchanges i step ≡ []
+unnamed_exchanges i (Joined value id exchanges calls held) e = ap (λ b. if b then exchanges else []) e
+unnamed_exchanges i (NotJoined value error) e = refl
+unnamed_exchanges i (Left id value calls) e = refl
+unnamed_exchanges i (NotLeft id) e = refl
+unnamed_exchanges i (Replaced id old new) e = refl
+unnamed_exchanges i (NotReplaced id) e = refl
+unnamed_exchanges i (Requested id exchanges calls) e = ap (λ b. if b then exchanges else []) e
+unnamed_exchanges i (NotRequested id) e = refl
 
 module _ {V J R : Type 0} where
   -- a effect that stays, and one that doesn't
-  talk_kept : (i : ℕ) (effect : Effect V J R) → effect_exchanges i (projected_effect i effect) ≡ effect_exchanges i effect
-  talk_kept i (Stepped step) = refl
-  talk_kept i (Iterated iteration) = talks_alike i iteration.positions
+  exchanges_kept : (i : ℕ) (effect : Effect V J R) → effect_exchanges i (projected_effect i effect) ≡ effect_exchanges i effect
+  exchanges_kept i (Stepped step) = refl
+  exchanges_kept i (Iterated iteration) = all_exchanges_alike i iteration.positions
 
-  talk_dropped : (i : ℕ) (effect : Effect V J R) → stays i effect ≡ false → effect_exchanges i effect ≡ []
-  talk_dropped i (Stepped step) e = unnamed_talk i step e
-  talk_dropped i (Iterated iteration) e = absurd (true≢false e)
+  exchanges_dropped : (i : ℕ) (effect : Effect V J R) → stays i effect ≡ false → effect_exchanges i effect ≡ []
+  exchanges_dropped i (Stepped step) e = unnamed_exchanges i step e
+  exchanges_dropped i (Iterated iteration) e = absurd (true≢false e)
 
   deliveries_kept : (i : ℕ) (effect : Effect V J R) → effect_deliveries i (projected_effect i effect) ≡ effect_deliveries i effect
   deliveries_kept i (Stepped step) = refl
@@ -69,11 +69,11 @@ module _ {V J R : Type 0} where
   for_dropped i (Stepped step) e = e
   for_dropped i (Iterated iteration) e = refl
 
-  same_talk : (i : ℕ) (trace : List (Entry V J R)) → exchanges_in i (projection i trace) ≡ exchanges_in i trace
-  same_talk i [] = refl
-  same_talk i (entry ∷ trace) = elim (stays i entry.effect) as (λ b. stays i entry.effect ≡ b → exchanges_in i (if b then record entry { effect = projected_effect i entry.effect } ∷ projection i trace else projection i trace) ≡ effect_exchanges i entry.effect ++ exchanges_in i trace) [
-    | true ↦ λ e. ap₂ (λ xs ys. xs ++ ys) (talk_kept i entry.effect) (same_talk i trace)
-    | false ↦ λ e. same_talk i trace ∙ ap (λ xs. xs ++ exchanges_in i trace) (sym (talk_dropped i entry.effect e))
+  same_exchanges : (i : ℕ) (trace : List (Entry V J R)) → exchanges_in i (projection i trace) ≡ exchanges_in i trace
+  same_exchanges i [] = refl
+  same_exchanges i (entry ∷ trace) = elim (stays i entry.effect) as (λ b. stays i entry.effect ≡ b → exchanges_in i (if b then record entry { effect = projected_effect i entry.effect } ∷ projection i trace else projection i trace) ≡ effect_exchanges i entry.effect ++ exchanges_in i trace) [
+    | true ↦ λ e. ap₂ (λ xs ys. xs ++ ys) (exchanges_kept i entry.effect) (same_exchanges i trace)
+    | false ↦ λ e. same_exchanges i trace ∙ ap (λ xs. xs ++ exchanges_in i trace) (sym (exchanges_dropped i entry.effect e))
   ] refl
 
   same_deliveries : (i : ℕ) (trace : List (Entry V J R)) → deliveries i (projection i trace) ≡ deliveries i trace
@@ -94,6 +94,6 @@ module _ {V J R : Type 0} where
   projection_keeps trace after i next = (
     same_replies i trace,
     same_deliveries i trace,
-    same_talk i trace,
+    same_exchanges i trace,
     get_only i after.registry.values i ∙ ap (λ b. cond b (get after.registry.values i) None) (eq-eqb i i refl),
   )

@@ -61,10 +61,10 @@ owners_fit i registrations request answer calls after (by_manager h a e) = subst
 owners_fit i registrations request answer calls after (by_poller n h a r e) = subst (OwnersAfter i registrations) (sym e) (owners_same i registrations)
 owners_fit i registrations request answer calls after (by_agreement h a r e) = subst (OwnersAfter i registrations) (sym e) (owners_after i registrations request h)
 
-owners_talk : (i : ℕ) (registrations : Registrations) (exchanges : Exchanges) (calls : List PollerCall) (after : Registrations) → ExchangesFit i registrations exchanges calls after → OwnersAfter i registrations after
-owners_talk i registrations [] calls after h = subst (OwnersAfter i registrations) (sym h.1) (owners_same i registrations)
-owners_talk i registrations (exchange ∷ exchanges) calls after (first, rest, mid, joined, fits, more) =
-    owners_then i registrations mid after (owners_fit i registrations exchange.0 exchange.1 first mid fits) (owners_talk i mid exchanges rest after more)
+owners_exchanges : (i : ℕ) (registrations : Registrations) (exchanges : Exchanges) (calls : List PollerCall) (after : Registrations) → ExchangesFit i registrations exchanges calls after → OwnersAfter i registrations after
+owners_exchanges i registrations [] calls after h = subst (OwnersAfter i registrations) (sym h.1) (owners_same i registrations)
+owners_exchanges i registrations (exchange ∷ exchanges) calls after (first, rest, mid, joined, fits, more) =
+    owners_then i registrations mid after (owners_fit i registrations exchange.0 exchange.1 first mid fits) (owners_exchanges i mid exchanges rest after more)
 
 gone_answer : (i : ℕ) (o : Option ℕ) → is_id i (cond (not (is_id i o)) o None) ≡ false
 gone_answer i None = refl
@@ -120,9 +120,9 @@ module _ {V : Type 0} where
   sound_at before made e s = subst (λ (r : Registry V). IsSound r) (sym e) s
 
   -- an id in the map exchanges, and holds a value after it
-  sound_talk : (before : Registry V) (i next : ℕ) (held : V) (exchanges : Exchanges) (calls : List PollerCall) (from registrations : Registrations) → IsSound before → from.owner ≡ before.registrations.owner → from.endpoint ≡ before.registrations.endpoint → (i < next) → (before.next < next + 1) → ExchangesFit i from exchanges calls registrations → IsSound (record { values = insert before.values i held; next = next; registrations = registrations })
-  sound_talk before i next held exchanges calls from registrations s same same_end below up fits =
-      let o = owners_talk i from exchanges calls registrations fits in
+  sound_exchanges : (before : Registry V) (i next : ℕ) (held : V) (exchanges : Exchanges) (calls : List PollerCall) (from registrations : Registrations) → IsSound before → from.owner ≡ before.registrations.owner → from.endpoint ≡ before.registrations.endpoint → (i < next) → (before.next < next + 1) → ExchangesFit i from exchanges calls registrations → IsSound (record { values = insert before.values i held; next = next; registrations = registrations })
+  sound_exchanges before i next held exchanges calls from registrations s same same_end below up fits =
+      let o = owners_exchanges i from exchanges calls registrations fits in
       record {
         owners = λ fd j h. elim (o.from fd j h) [
           | inl p ↦ let v = s.owners fd j (ap (λ (w : FinMap nat_cmp ℕ). get w fd) (sym same) ∙ p) in has_insert j i before.values v.0 held v.1
@@ -137,7 +137,7 @@ module _ {V : Type 0} where
 
   sound_step : (begins : V → Exchanges → V → Type 0) (before : Registry V) (step : Step V) (after : Registry V) → IsSound before → Steps begins before step after → IsSound after
   sound_step begins before (Joined value id exchanges calls held) after s (registrations, capacity, is, fits, beg, e) =
-      sound_at after _ e (sound_talk before id (before.next + 1) held exchanges calls before.registrations registrations s refl refl (omega arith) (omega arith) fits)
+      sound_at after _ e (sound_exchanges before id (before.next + 1) held exchanges calls before.registrations registrations s refl refl (omega arith) (omega arith) fits)
   sound_step begins before (NotJoined value error) after s h = sound_at after before h.1 s
   sound_step begins before (Left id value calls) after s (fds, has, is_owner, deletes, e) = sound_at after _ e (record {
     owners = λ fd j h.
@@ -158,7 +158,7 @@ module _ {V : Type 0} where
   })
   sound_step begins before (NotReplaced id) after s h = sound_at after before h.1 s
   sound_step begins before (Requested id exchanges calls) after s (value, registrations, has, fits, e) =
-      let o = owners_talk id before.registrations exchanges calls registrations fits in
+      let o = owners_exchanges id before.registrations exchanges calls registrations fits in
       sound_at after _ e (record {
         owners = λ fd j h. elim (o.from fd j h) [ inl p ↦ s.owners fd j p | inr p ↦ (value, ap (get before.values) p ∙ has) ];
         given = s.given;
@@ -170,20 +170,20 @@ module _ {V : Type 0} where
   sound_outcome serves before earlier e later Nobody after s (nobody, is) = sound_at after _ is (record { owners = s.owners; given = s.given; endpoint_free = s.endpoint_free })
   sound_outcome serves before earlier e later (To i exchanges calls held) after s (value, registrations, for, serving, fits, is) =
       let below = s.given i value for.2 in
-      sound_at after _ is (sound_talk before i before.next held exchanges calls (record before.registrations { pending = still_pending earlier later }) registrations s refl refl below (omega arith) fits)
+      sound_at after _ is (sound_exchanges before i before.next held exchanges calls (record before.registrations { pending = still_pending earlier later }) registrations s refl refl below (omega arith) fits)
 
-  sound_deals : (serves : V → Event → Exchanges → V → Type 0) (before : Registry V) (earlier positions : List (Position V)) (after : Registry V) → IsSound before → AreDispatched serves before earlier positions after → IsSound after
-  sound_deals serves before earlier [] after s is = sound_at after _ is (record { owners = s.owners; given = s.given; endpoint_free = s.endpoint_free })
-  sound_deals serves before earlier (d ∷ positions) after s (mid, out, more) = sound_deals serves mid (earlier ++ d ∷ []) positions after (sound_outcome serves before earlier d.event (events_of positions) d.outcome mid s out) more
+  sound_positions : (serves : V → Event → Exchanges → V → Type 0) (before : Registry V) (earlier positions : List (Position V)) (after : Registry V) → IsSound before → AreDispatched serves before earlier positions after → IsSound after
+  sound_positions serves before earlier [] after s is = sound_at after _ is (record { owners = s.owners; given = s.given; endpoint_free = s.endpoint_free })
+  sound_positions serves before earlier (d ∷ positions) after s (mid, out, more) = sound_positions serves mid (earlier ++ d ∷ []) positions after (sound_outcome serves before earlier d.event (events_of positions) d.outcome mid s out) more
 
   -- the next id
   next_outcome : (serves : V → Event → Exchanges → V → Type 0) (before : Registry V) (earlier : List (Position V)) (e : Event) (later : List Event) (outcome : Outcome V) (after : Registry V) → IsOutcome serves before earlier e later outcome after → after.next ≡ before.next
   next_outcome serves before earlier e later Nobody after (nobody, is) = ap (λ (r : Registry V). r.next) is
   next_outcome serves before earlier e later (To i exchanges calls held) after (value, registrations, for, serving, fits, is) = ap (λ (r : Registry V). r.next) is
 
-  next_deals : (serves : V → Event → Exchanges → V → Type 0) (before : Registry V) (earlier positions : List (Position V)) (after : Registry V) → AreDispatched serves before earlier positions after → after.next ≡ before.next
-  next_deals serves before earlier [] after is = ap (λ (r : Registry V). r.next) is
-  next_deals serves before earlier (d ∷ positions) after (mid, out, more) = next_deals serves mid (earlier ++ d ∷ []) positions after more ∙ next_outcome serves before earlier d.event (events_of positions) d.outcome mid out
+  next_positions : (serves : V → Event → Exchanges → V → Type 0) (before : Registry V) (earlier positions : List (Position V)) (after : Registry V) → AreDispatched serves before earlier positions after → after.next ≡ before.next
+  next_positions serves before earlier [] after is = ap (λ (r : Registry V). r.next) is
+  next_positions serves before earlier (d ∷ positions) after (mid, out, more) = next_positions serves mid (earlier ++ d ∷ []) positions after more ∙ next_outcome serves before earlier d.event (events_of positions) d.outcome mid out
 
   given_step : (begins : V → Exchanges → V → Type 0) (before : Registry V) (step : Step V) (after : Registry V) → Steps begins before step after → AreGiven before.next (step ∷ []) after.next
   given_step begins before (Joined value id exchanges calls held) after (registrations, capacity, is, fits, beg, e) = (is, ap (λ (r : Registry V). r.next) e)
@@ -240,9 +240,9 @@ module _ {V : Type 0} where
       let differ = differs i id before value g for.2 in
       gone_at i after _ is (record { lacks = lacks_insert i id before.values held (λ t. differ (sym t)) g.lacks; given = g.given })
 
-  gone_deals : (serves : V → Event → Exchanges → V → Type 0) (i : ℕ) (before : Registry V) (earlier positions : List (Position V)) (after : Registry V) → IsGone i before → AreDispatched serves before earlier positions after → IsGone i after
-  gone_deals serves i before earlier [] after g is = gone_at i after _ is (record { lacks = g.lacks; given = g.given })
-  gone_deals serves i before earlier (d ∷ positions) after g (mid, out, more) = gone_deals serves i mid (earlier ++ d ∷ []) positions after (gone_outcome serves i before earlier d.event (events_of positions) d.outcome mid g out) more
+  gone_positions : (serves : V → Event → Exchanges → V → Type 0) (i : ℕ) (before : Registry V) (earlier positions : List (Position V)) (after : Registry V) → IsGone i before → AreDispatched serves before earlier positions after → IsGone i after
+  gone_positions serves i before earlier [] after g is = gone_at i after _ is (record { lacks = g.lacks; given = g.given })
+  gone_positions serves i before earlier (d ∷ positions) after g (mid, out, more) = gone_positions serves i mid (earlier ++ d ∷ []) positions after (gone_outcome serves i before earlier d.event (events_of positions) d.outcome mid g out) more
 
   left_is_gone : (begins : V → Exchanges → V → Type 0) (before : Registry V) (id : ℕ) (value : V) (calls : List PollerCall) (after : Registry V) → IsSound before → Steps begins before (Left id value calls) after → IsGone id after
   left_is_gone begins before id value calls after s (fds, has, is_owner, deletes, e) = gone_at id after _ e (record { lacks = removed_value id before.values; given = s.given id value has })
@@ -284,12 +284,12 @@ module _ {V J R : Type 0} (begins : V → Exchanges → V → Type 0) (serves : 
   }
 
   -- what leads to any continuation
-  follows_deals_then : (before : Registry V) (positions : List (Position V)) (mid : Registry V) (steps : List (Step V)) (after : Registry V) → AreDispatched serves before [] positions mid → Follows mid steps after → Follows before steps after
-  follows_deals_then before positions mid steps after h k = record {
-    sound = λ s. k.sound (sound_deals serves before [] positions mid s h);
-    given = subst (λ n. AreGiven n steps after.next) (next_deals serves before [] positions mid h) k.given;
-    gone = λ i g. k.gone i (gone_deals serves i before [] positions mid g h);
-    removed = λ s. k.removed (sound_deals serves before [] positions mid s h);
+  follows_positions_then : (before : Registry V) (positions : List (Position V)) (mid : Registry V) (steps : List (Step V)) (after : Registry V) → AreDispatched serves before [] positions mid → Follows mid steps after → Follows before steps after
+  follows_positions_then before positions mid steps after h k = record {
+    sound = λ s. k.sound (sound_positions serves before [] positions mid s h);
+    given = subst (λ n. AreGiven n steps after.next) (next_positions serves before [] positions mid h) k.given;
+    gone = λ i g. k.gone i (gone_positions serves i before [] positions mid g h);
+    removed = λ s. k.removed (sound_positions serves before [] positions mid s h);
   }
 
   follows_steps : (before : Registry V) (steps : List (Step V)) (mid : Registry V) (more : List (Step V)) (after : Registry V) → AllSteps begins before steps mid → Follows mid more after → Follows before (steps ++ more) after
@@ -303,18 +303,18 @@ module _ {V J R : Type 0} (begins : V → Exchanges → V → Type 0) (serves : 
       (follows_steps before.registry job_run.steps next (steps_of_jobs jobs ++ more) after steps (follows_jobs (record { registry = next; taken = before.taken + 1 }) jobs mid more after others k))
 
   follows_wait : (before : ManagerState V) (waited : Result (List Event) Errno) (positions : List (Position V)) (jobs : List (JobRun V J R)) (mid : ManagerState V) (more : List (Step V)) (after : Registry V) → IsAfterWait begins serves may before waited positions jobs mid → Follows mid.registry more after → Follows before.registry (steps_of_jobs jobs ++ more) after
-  follows_wait before (Ok report) positions jobs mid more after (dispatched, dealing, idle, job_run) k =
-      follows_deals_then before.registry positions dispatched (steps_of_jobs jobs ++ more) after dealing.1 (follows_jobs (record before { registry = dispatched }) jobs mid more after job_run k)
-  follows_wait before (Err errno) positions jobs mid more after (no_deals, no_jobs, is) k =
+  follows_wait before (Ok report) positions jobs mid more after (dispatched, dispatch, idle, job_run) k =
+      follows_positions_then before.registry positions dispatched (steps_of_jobs jobs ++ more) after dispatch.1 (follows_jobs (record before { registry = dispatched }) jobs mid more after job_run k)
+  follows_wait before (Err errno) positions jobs mid more after (no_positions, no_jobs, is) k =
       subst (λ js. Follows before.registry (steps_of_jobs js ++ more) after) (sym no_jobs) (subst (λ (s : ManagerState V). Follows s.registry more after) is k)
 
-  follows_deed : (before : ManagerState V) (effect : Effect V J R) (mid : ManagerState V) (more : List (Step V)) (after : Registry V) → HasEffect begins serves may before effect mid → Follows mid.registry more after → Follows before.registry (steps_of_effect effect ++ more) after
-  follows_deed before (Stepped step) mid more after h k = follows_cons before.registry step mid.registry more after h.0 k
-  follows_deed before (Iterated iteration) mid more after h k = follows_wait before iteration.waited iteration.positions iteration.jobs mid more after h k
+  follows_effect : (before : ManagerState V) (effect : Effect V J R) (mid : ManagerState V) (more : List (Step V)) (after : Registry V) → HasEffect begins serves may before effect mid → Follows mid.registry more after → Follows before.registry (steps_of_effect effect ++ more) after
+  follows_effect before (Stepped step) mid more after h k = follows_cons before.registry step mid.registry more after h.0 k
+  follows_effect before (Iterated iteration) mid more after h k = follows_wait before iteration.waited iteration.positions iteration.jobs mid more after h k
 
-  pub run_follows : (before : ManagerState V) (trace : List (Entry V J R)) (after : ManagerState V) → IsTrace begins serves may before trace after → Follows before.registry (steps_of trace) after.registry
-  run_follows before [] after is = follows_none before.registry after.registry (ap (λ (s : ManagerState V). s.registry) is)
-  run_follows before (entry ∷ trace) after (mid, made, has_effect, more) = follows_deed before entry.effect mid (steps_of trace) after.registry has_effect (run_follows mid trace after more)
+  pub trace_follows : (before : ManagerState V) (trace : List (Entry V J R)) (after : ManagerState V) → IsTrace begins serves may before trace after → Follows before.registry (steps_of trace) after.registry
+  trace_follows before [] after is = follows_none before.registry after.registry (ap (λ (s : ManagerState V). s.registry) is)
+  trace_follows before (entry ∷ trace) after (mid, made, has_effect, more) = follows_effect before entry.effect mid (steps_of trace) after.registry has_effect (trace_follows mid trace after more)
 
 -- a new manager
 pub new_is_sound : {V : Type 0} (endpoint : ℕ) → IsSound {V = V} (new_state endpoint).registry

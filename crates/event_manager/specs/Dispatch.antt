@@ -7,7 +7,7 @@ use Rattle.event_manager.specs.PollerCall.{PollerCall}
 use Rattle.event_manager.specs.Exchange.{Exchanges, ExchangesFit, removes}
 use Rattle.event_manager.specs.Registry.{Registry, HasId}
 
--- what became of an event: nobody got it, or this id did, with what it then said and its value after
+-- what became of an event: nobody got it; or this id did, with its exchanges, their poller calls, and its value after
 pub data Outcome (V : Type 0) : Type 0 where
   Nobody : Outcome V
   To : (id : ℕ) (exchanges : Exchanges) (calls : List PollerCall) (after : V) → Outcome V

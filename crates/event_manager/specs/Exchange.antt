@@ -33,11 +33,11 @@ operation_of (Add e) = operation.Add
 operation_of (Modify e) = operation.Modify
 operation_of (Remove e) = operation.Delete
 
--- the request as the poller is asked it
+-- the call of the poller for a request
 abbrev pub call_for : Request → Result (Unit {0}) Errno → PollerCall
 call_for request answer = Control (operation_of request) (event_of request).fd (event_of request) answer
 
--- whether the descriptor of an event may be added, as far as the registrations alone says
+-- whether the descriptor of an event may be added, as far as the registrations say
 abbrev pub IsVacant : Registrations → Event → Answer → Type 0
 IsVacant registrations e (Ok entry) = IsFree registrations e.fd × ¬ (e.fd ≡ registrations.endpoint)
 IsVacant registrations e (Err error) = (¬ IsFree registrations e.fd × (error ≡ FdAlreadyRegistered)) ⊎ (IsFree registrations e.fd × (e.fd ≡ registrations.endpoint) × (error ≡ Epoll (record { 0 = pos 17 })))
@@ -52,7 +52,7 @@ IsRefusedByManager i registrations (Add e) answer =
 IsRefusedByManager i registrations (Modify e) answer = ¬ Owns i registrations e.fd × (answer ≡ refused (pos 2))
 IsRefusedByManager i registrations (Remove e) answer = ¬ Owns i registrations e.fd × (answer ≡ refused (pos 2))
 
--- whether the poller is asked
+-- whether the request reaches the poller
 abbrev pub ReachesPoller : ℕ → Registrations → Request → Type 0
 ReachesPoller i registrations (Add e) = IsFree registrations e.fd × ¬ (e.fd ≡ registrations.endpoint)
 ReachesPoller i registrations (Modify e) = Owns i registrations e.fd
@@ -64,7 +64,7 @@ registrations_after i (Add e) registrations = record registrations { owner = map
 registrations_after i (Modify e) registrations = registrations
 registrations_after i (Remove e) registrations = record registrations { owner = map.remove registrations.owner e.fd; pending = not_on e.fd registrations.pending }
 
--- From a registrations, id i may get this answer to the request, after these asks, and leave this registrations.
+-- From these registrations, id i may get this answer to the request after these poller calls, and leave the registrations after.
 pub data Fits (i : ℕ) (registrations : Registrations) (request : Request) (answer : Answer) (calls : List PollerCall) (after : Registrations) : Type 0 where
   by_manager : IsRefusedByManager i registrations request answer → calls ≡ [] → after ≡ registrations → Fits i registrations request answer calls after
   by_poller : (number : ℤ) → ReachesPoller i registrations request → calls ≡ call_for request (Err (record { 0 = number })) ∷ [] → answer ≡ refused number → after ≡ registrations → Fits i registrations request answer calls after
@@ -74,13 +74,13 @@ pub data Fits (i : ℕ) (registrations : Registrations) (request : Request) (ans
 abbrev pub Exchanges : Type 0
 Exchanges = List (Request × Answer)
 
--- the exchanges of id i fits, each request from the registrations that the one before it left
+-- the exchanges of id i fit, each request from the registrations that the one before it left
 abbrev pub ExchangesFit : ℕ → Registrations → Exchanges → List PollerCall → Registrations → Type 0
 ExchangesFit i registrations [] calls after = (calls ≡ []) × (after ≡ registrations)
 ExchangesFit i registrations (exchange ∷ exchanges) calls after =
     (first : List PollerCall) × (rest : List PollerCall) × (mid : Registrations) × (calls ≡ first ++ rest) × Fits i registrations exchange.0 exchange.1 first mid × ExchangesFit i mid exchanges rest after
 
--- whether the exchange is an agreed Remove of the descriptor; whether the exchanges holds one
+-- whether the exchange is an agreed Remove of the descriptor; whether the exchanges hold one
 abbrev pub is_removal : ℕ → Request → Answer → Bool
 is_removal fd (Remove e) (Ok entry) = e.fd == fd
 is_removal fd (Remove e) (Err error) = false

@@ -74,6 +74,6 @@ abbrev pub calls_of_jobs : {V J R : Type 0} → List (JobRun V J R) → List Pol
 calls_of_jobs [] = []
 calls_of_jobs (job_run ∷ jobs) = calls_of_steps job_run.steps ++ calls_of_jobs jobs
 
--- the asks of a iteration, room being the manager's capacity
+-- the poller calls of an iteration, by the manager's capacity
 abbrev pub calls_of_iteration : {V J R : Type 0} → ℕ → Iteration V J R → List PollerCall
 calls_of_iteration capacity iteration = Wait iteration.ms capacity iteration.waited ∷ calls_of_positions iteration.positions ++ calls_of_jobs iteration.jobs

@@ -10,7 +10,7 @@ pub data PollerCall : Type 0 where
   Wait : (ms : ℤ) (capacity : ℕ) → Result (List Event) Errno → PollerCall
 
 -- controls: which answer and state a ctl may give from a state, an operation, a descriptor and an event.
--- waits: which report or refusal, and which state, a wait may give from a state, the milliseconds and the room.
+-- waits: which report or refusal, and which state, a wait may give from a state, the milliseconds and the capacity.
 abbrev pub Controls : Type 0 → Type 1
 Controls P = P → ControlOperation → ℕ → Event → Result (Unit {0}) Errno → P → Type 0
 
@@ -18,7 +18,7 @@ abbrev pub Waits : Type 0 → Type 1
 Waits P = P → ℤ → ℕ → Result (List Event) Errno → P → Type 0
 
 module _ {P : Type 0} (controls : Controls P) (waits : Waits P) where
-  -- the asks, in order, lead from the first state to the last
+  -- the calls, in order, lead from the first state to the last
   abbrev pub Leads : P → List PollerCall → P → Type 0
   Leads before [] after = after ≡ before
   Leads before (Control operation fd event answer ∷ calls) after = (mid : P) × controls before operation fd event answer mid × Leads mid calls after

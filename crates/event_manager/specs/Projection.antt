@@ -1,4 +1,4 @@
--- A run with all that belongs to other ids taken out.
+-- The projection of a trace to one id: all that belongs to other ids is taken out.
 use Rattle.std.specs.Prelude.{◌≡◌, ◌≢◌, ℕ, nat_lt, ◌==◌, Bool, true, false, ◌||◌, List, [], ◌∷◌, ◌++◌, map, Ok, Err, IsTrue, ◌⊎◌, if◌then◌else◌}
 use Rattle.std.specs.FinMap as finite
 use Rattle.std.specs.Ordering.{nat_cmp}
@@ -67,7 +67,7 @@ abbrev pub projection : {V J R : Type 0} → ℕ → List (Entry V J R) → List
 projection i [] = []
 projection i (entry ∷ trace) = if stays i entry.effect then record entry { effect = projected_effect i entry.effect } ∷ projection i trace else projection i trace
 
--- what id i says in a run, in order
+-- the exchanges of id i in a trace, in order
 abbrev pub step_exchanges : {V : Type 0} → ℕ → Step V → Exchanges
 step_exchanges i (Joined value id exchanges calls held) = if id == i then exchanges else []
 step_exchanges i (NotJoined value error) = []

@@ -78,7 +78,7 @@ module _ {V : Type 0} (begins : V → Exchanges → V → Type 0) where
       (value : V) × (registrations : Registrations) × HasId before id value × ExchangesFit id before.registrations exchanges calls registrations × (after ≡ record before { registrations = registrations })
   Steps before (NotRequested id) after = LacksId before id × (after ≡ before)
 
--- the asks that a step made
+-- the poller calls that a step made
 abbrev pub calls_of : {V : Type 0} → Step V → List PollerCall
 calls_of (Joined value id exchanges calls held) = calls
 calls_of (NotJoined value error) = []

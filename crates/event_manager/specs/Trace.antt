@@ -49,7 +49,7 @@ module _ {V J R : Type 0} (begins : V → Exchanges → V → Type 0) (serves : 
   IsTrace before [] after = after ≡ before
   IsTrace before (entry ∷ trace) after = (mid : ManagerState V) × Matches entry.effect entry.call entry.reply × HasEffect before entry.effect mid × IsTrace mid trace after
 
--- the asks of a run, in order
+-- the poller calls of a trace, in order
 abbrev pub calls_of_effect : {V J R : Type 0} → ℕ → Effect V J R → List PollerCall
 calls_of_effect capacity (Stepped step) = calls_of step
 calls_of_effect capacity (Iterated iteration) = calls_of_iteration capacity iteration

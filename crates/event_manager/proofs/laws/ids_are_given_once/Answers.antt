@@ -1,8 +1,8 @@
-use Rattle.event_manager.proofs.Soundness.{run_follows}
+use Rattle.event_manager.proofs.Soundness.{trace_follows}
 use Rattle.event_manager.proofs.laws.ids_are_given_once.Goals as goal
 
 pub returns : goal.returns
 returns g c = record {
-  given = λ before trace after h. (run_follows g.S.MutEventSubscriber.begins g.S.MutEventSubscriber.serves g.J.Job.may before trace after h).given;
-  removed = λ before trace after h s. (run_follows g.S.MutEventSubscriber.begins g.S.MutEventSubscriber.serves g.J.Job.may before trace after h).removed s;
+  given = λ before trace after h. (trace_follows g.S.MutEventSubscriber.begins g.S.MutEventSubscriber.serves g.J.Job.may before trace after h).given;
+  removed = λ before trace after h s. (trace_follows g.S.MutEventSubscriber.begins g.S.MutEventSubscriber.serves g.J.Job.may before trace after h).removed s;
 }

@@ -26,7 +26,7 @@ returns g c =
     let ready_entry = c.in-Some.ensures in
     let wrote = c.get_mut.follows.holds c.process.new.self in
     let found = c.in-Some-get_mut.ensures.value in
-    let told = c.process.ensures in
+    let called = c.process.ensures in
     let same = insert_of_tree nat_cmp_total nat_cmp-IsAntisymmetric c.args.self.now.subscribers (c.get_mut.follows.lender c.process.new.self) c.in-Some-owner.id c.process.new.self (wrote.3 (rw (← found) refl)) in
-    served_position _ c.args.self.now _ _ ready_entry.0 c.next_ready.new.self c.in-Some-owner.id c.in-Some-get_mut.subscriber.now c.process.new.self told.0 told.1
-    (rw c.if-ready_entry.false at ready_entry.1) ready_entry.2 (sym c.owner.ensures.value ∙ c.in-Some-owner.is) (get_of_tree nat_cmp_total c.args.self.now.subscribers c.in-Some-owner.id ∙ sym found) (rw c.of_entry.ensures at told.2) told.3.made same refl
+    served_position _ c.args.self.now _ _ ready_entry.0 c.next_ready.new.self c.in-Some-owner.id c.in-Some-get_mut.subscriber.now c.process.new.self called.0 called.1
+    (rw c.if-ready_entry.false at ready_entry.1) ready_entry.2 (sym c.owner.ensures.value ∙ c.in-Some-owner.is) (get_of_tree nat_cmp_total c.args.self.now.subscribers c.in-Some-owner.id ∙ sym found) (rw c.of_entry.ensures at called.2) called.3.made same refl

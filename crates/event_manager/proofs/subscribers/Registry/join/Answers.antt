@@ -19,7 +19,7 @@ returns-in-Err g c =
 
 pub returns : goal.returns
 returns g c =
-    let told = c.init.ensures in
+    let called = c.init.ensures in
     let id = c.args.self.now.next in
     let first = insert_of_tree nat_cmp_total nat_cmp-IsAntisymmetric c.args.self.now.subscribers c.insert.new.self id c.args.subscriber c.in-Ok.ensures.updates in
     let wrote = c.get_mut.follows.holds c.init.new.self in
@@ -27,14 +27,14 @@ returns g c =
     let second = insert_of_tree nat_cmp_total nat_cmp-IsAntisymmetric c.insert.new.self (c.get_mut.follows.lender c.init.new.self) id c.init.new.self (wrote.3 (rw (← found) refl)) in
     let values = second ∙ ap (λ m. insert m id c.init.new.self) first ∙ insert_twice _ id c.args.subscriber c.init.new.self in
     let was = some_is _ _ (found ∙ sym (get_of_tree nat_cmp_total c.insert.new.self id) ∙ ap (λ m. get m id) first ∙ get_same _ id c.args.subscriber) in
-    let began = subst (λ v. g.S.MutEventSubscriber.begins v told.0 c.init.new.self) was told.2 in
+    let began = subst (λ v. g.S.MutEventSubscriber.begins v called.0 c.init.new.self) was called.2 in
     let after = registrations_of c.init.new.ops.epoll.now.registrations in
-    let fits = idle_fits id (registrations_of c.args.self.now.epoll.registrations) told.0 told.1 after told.3.made.fits in (
-      Joined c.args.subscriber id told.0 told.1 c.init.new.self,
-      (told.0, told.1, c.init.new.self, refl),
+    let fits = idle_fits id (registrations_of c.args.self.now.epoll.registrations) called.0 called.1 after called.3.made.fits in (
+      Joined c.args.subscriber id called.0 called.1 c.init.new.self,
+      (called.0, called.1, c.init.new.self, refl),
       record {
         stepped = (_, omega (arith, c.if-self.false), refl, fits, began, λ k. record { values = values k; next = id + 1; registrations = record after { pending = [] } });
-        led = told.3.made.led;
-        same_capacity = told.3.made.same_capacity;
+        led = called.3.made.led;
+        same_capacity = called.3.made.same_capacity;
       },
     )
