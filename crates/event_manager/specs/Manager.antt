@@ -1,16 +1,23 @@
 -- A manager, seen by the definitions, and how one is made.
-use Rattle.std.specs.Prelude.{◌≡◌, ℕ, ◌<◌, ◌≤◌, Result, Ok, Err}
+use Rattle.std.specs.Prelude.{◌≡◌, ℕ, ◌<◌, ◌≤◌, unsigned_abs, Result, Ok, Err}
 use Rattle.vmm_sys.specs.declared.epoll.ControlOperation.TheVariants as operation
+use Rattle.vmm_sys.specs.EventFd.{descriptor_of}
+use Rattle.vmm_sys.specs.declared.eventfd.EventFd.{EventFd}
 use Rattle.event_manager.specs.Event.{Event}
 use Rattle.event_manager.specs.PollerCall.{Controls}
 use Rattle.event_manager.specs.LoopState.{LoopState, new_loop}
 use Rattle.event_manager.specs.Subscribers.{loop_state}
 use Rattle.event_manager.specs.declared.error.Error.{Error}
-use Rattle.event_manager.specs.declared.error.Error.TheVariants.{ChannelSend, ChannelRecv, EventFd, Epoll, FdAlreadyRegistered, InvalidId, InvalidCapacity, OutOfMemory, IdsUsedUp, TicketsUsedUp}
+use Rattle.event_manager.specs.declared.error.Error.TheVariants.{ChannelSend, ChannelRecv, Epoll, FdAlreadyRegistered, InvalidId, InvalidCapacity, OutOfMemory, IdsUsedUp, TicketsUsedUp}
+use Rattle.event_manager.specs.declared.error.Error.TheVariants as error
 use Rattle.event_manager.specs.declared.manager.EventManager.{EventManager}
 
 abbrev pub state_of : {S P : Type 0} → EventManager S P → LoopState S P
 state_of m = loop_state m.registry
+
+-- the number of the endpoint's descriptor
+abbrev pub endpoint_of : EventFd → ℕ
+endpoint_of event_fd = unsigned_abs (descriptor_of event_fd)
 
 -- the largest capacity: as many entries of 12 bytes as 2147483647 bytes hold
 abbrev pub max_capacity : ℕ
@@ -28,7 +35,7 @@ module _ {P : Type 0} (controls : Controls P) (poller : P) (endpoint capacity : 
   IsMakingRefused (Epoll errno) = (capacity ≤ max_capacity) × (after : P) × controls poller operation.Add endpoint (endpoint_event endpoint) (Err errno) after
   IsMakingRefused ChannelSend = ⊥
   IsMakingRefused ChannelRecv = ⊥
-  IsMakingRefused (EventFd errno) = ⊥
+  IsMakingRefused (error.EventFd errno) = ⊥
   IsMakingRefused FdAlreadyRegistered = ⊥
   IsMakingRefused InvalidId = ⊥
   IsMakingRefused IdsUsedUp = ⊥

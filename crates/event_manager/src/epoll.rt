@@ -65,6 +65,7 @@ pub(crate) struct Registrations {
     cancelled: Vec<bool>,
     at: usize,
     count: usize,
+    endpoint_ready: bool,
 }
 
 impl Model for Registrations {
@@ -105,6 +106,7 @@ impl Registrations {
             cancelled,
             at: 0,
             count: 0,
+            endpoint_ready: false,
         })
     }
 
@@ -172,9 +174,20 @@ impl Registrations {
                 cancelled: self.cancelled[self.at],
             };
             self.at += 1;
+            let is_endpoint = fd_of(&ready_entry.entry) == self.endpoint;
+            self.endpoint_ready = self.endpoint_ready | is_endpoint;
             return Some(ready_entry);
         }
         None
+    }
+
+    /// Whether an entry of the batch was on the endpoint's descriptor; answered once.
+    pub(crate) fn take_endpoint_ready(&mut self) -> bool
+        ensures { self.new ≡ self.old }
+    {
+        let was_ready = self.endpoint_ready;
+        self.endpoint_ready = false;
+        was_ready
     }
 
     /// The id that owns the descriptor of an entry.
@@ -198,6 +211,7 @@ impl Registrations {
     {
         self.at = 0;
         self.count = 0;
+        self.endpoint_ready = false;
         match poller.wait_into(ms, &mut self.buffer) {
             Ok(count) => {
                 clear_marks(&mut self.cancelled, count);

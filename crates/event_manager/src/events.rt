@@ -53,7 +53,7 @@ impl Events {
 
     /// The event of a source's descriptor, with the empty set and data 0.
     pub fn empty<T: AsRawFd>(source: &T) -> Self
-        ensures { result ≡ record { fd = T.descriptor source.now; payload = 0; set = 0 } }
+        ensures { result ≡ record { fd = unsigned_abs (T.descriptor source.now); payload = 0; set = 0 } }
     {
         Events::empty_raw(source.as_raw_fd())
     }
@@ -68,7 +68,7 @@ impl Events {
 
     /// The event of a source's descriptor, with this set and data 0.
     pub fn new<T: AsRawFd>(source: &T, events: EventSet) -> Self
-        ensures { result ≡ record { fd = T.descriptor source.now; payload = 0; set = bits_of events } }
+        ensures { result ≡ record { fd = unsigned_abs (T.descriptor source.now); payload = 0; set = bits_of events } }
     {
         Events::new_raw(source.as_raw_fd(), events)
     }
@@ -85,7 +85,7 @@ impl Events {
 
     /// The event of a source's descriptor, with this set and data.
     pub fn with_data<T: AsRawFd>(source: &T, data: u32, events: EventSet) -> Self
-        ensures { result ≡ record { fd = T.descriptor source.now; payload = «data»; set = bits_of events } }
+        ensures { result ≡ record { fd = unsigned_abs (T.descriptor source.now); payload = «data»; set = bits_of events } }
     {
         Events::with_data_raw(source.as_raw_fd(), data, events)
     }

@@ -1,12 +1,12 @@
 //! The event manager: a loop that waits and dispatches.
 
-ghost use Rattle.std.specs.Prelude.{◌≡◌, ℕ, ◌≤ℤ◌, pos, negsuc, unsigned_abs, IfErr, IfOk, OnOk, Result, Ok};
+ghost use Rattle.std.specs.Prelude.{◌≡◌, ℕ, negsuc, IfErr, IfOk};
 ghost use Rattle.std.specs.Borrow.{sem, LendsSoOk};
 ghost use Rattle.event_manager.specs.Registry.{Step, HasId, LacksId};
 ghost use Rattle.event_manager.specs.Requests.{StandsFor};
 ghost use Rattle.event_manager.specs.LoopState.{HasStepped, IsJoin, IsLoopIteration, with_value};
 ghost use Rattle.event_manager.specs.Subscribers.{loop_state};
-ghost use Rattle.event_manager.specs.Manager.{state_of, IsMade};
+ghost use Rattle.event_manager.specs.Manager.{state_of, endpoint_of, IsMade};
 
 use crate::events::{EventOps, Events};
 use crate::poller::{BoxedPoller, EventPoller};
@@ -15,7 +15,8 @@ use crate::{Error, Result};
 use std::alloc::Global;
 use std::sync::Wait;
 use std::time::Clock;
-use vmm_sys::epoll::{ControlOperation, EventSet, RawFd};
+use vmm_sys::epoll::{ControlOperation, EventSet};
+use vmm_sys::eventfd::EventFd;
 
 /// The largest capacity of a manager: 2147483647 bytes in entries of 12 bytes each, rounded down.
 pub const MAX_READY_EVENTS_CAPACITY: usize = 178956970;
@@ -94,48 +95,47 @@ impl<S: MutEventSubscriber + Drop, P: EventPoller> SubscriberOps for Registry<S,
 #[derive(Drop)]
 pub struct EventManager<S, P = BoxedPoller> {
     registry: Registry<S, P>,
+    event_fd: EventFd,
 }
 
 impl<S: MutEventSubscriber, P: EventPoller> EventManager<S, P> {
     /// A manager with capacity 256, as [`new_with_capacity`](EventManager::new_with_capacity) makes it.
-    pub fn new(alloc: Global, poller: P, endpoint: RawFd) -> Result<Self>
+    pub fn new(alloc: Global, poller: P, event_fd: EventFd) -> Result<Self>
     where
         S: Drop,
         P: Drop,
-        requires { pos 0 ≤ℤ endpoint }
-        ensures { IsMade P.controls poller (unsigned_abs endpoint) 256 result }
+        ensures { IsMade P.controls poller (endpoint_of event_fd) 256 result }
     {
-        EventManager::new_with_capacity(alloc, poller, endpoint, DEFAULT_CAPACITY)
+        EventManager::new_with_capacity(alloc, poller, event_fd, DEFAULT_CAPACITY)
     }
 
-    /// A manager with no subscriber, whose batches have up to `capacity` events.
+    /// A manager with no subscriber, whose batches have up to `capacity` events. Its endpoint is `event_fd`.
     ///
-    /// The poller is asked to add the endpoint's descriptor, from 0 up, with the set `IN` and the descriptor as word.
-    /// Capacity 0 passes here, and is left to the poller's `wait`.
+    /// The poller is asked to add the endpoint's descriptor with the set `IN` and the descriptor as word. Capacity 0
+    /// passes here, and is left to the poller's `wait`.
     ///
-    /// Refused, in this order, the poller then dropped: `InvalidCapacity` above [`MAX_READY_EVENTS_CAPACITY`];
-    /// `OutOfMemory`; `Epoll` with the number that the poller answers.
+    /// Refused, in this order, poller and `event_fd` then dropped: `InvalidCapacity` above
+    /// [`MAX_READY_EVENTS_CAPACITY`]; `OutOfMemory`; `Epoll` with the number that the poller answers.
     pub fn new_with_capacity(
         alloc: Global,
         poller: P,
-        endpoint: RawFd,
+        event_fd: EventFd,
         capacity: usize,
     ) -> Result<Self>
     where
         S: Drop,
         P: Drop,
-        requires { pos 0 ≤ℤ endpoint }
-        ensures { IsMade P.controls poller (unsigned_abs endpoint) capacity result }
+        ensures { IsMade P.controls poller (endpoint_of event_fd) capacity result }
     {
         if capacity > MAX_READY_EVENTS_CAPACITY {
             return Err(Error::InvalidCapacity);
         }
-        let events = Events::new_raw(endpoint, EventSet::IN);
+        let events = Events::new(&event_fd, EventSet::IN);
         let Ok(mut registry) = Registry::new(alloc, poller, events.number(), capacity) else {
             return Err(Error::OutOfMemory);
         };
         match registry.epoll.ctl(ControlOperation::Add, events) {
-            Ok(()) => Ok(EventManager { registry }),
+            Ok(()) => Ok(EventManager { registry, event_fd }),
             Err(e) => Err(Error::Epoll(e)),
         }
     }
@@ -151,15 +151,20 @@ impl<S: MutEventSubscriber, P: EventPoller> EventManager<S, P> {
     ///
     /// Each event goes, in the order of the report and once, to the subscriber that owns its descriptor at its turn,
     /// unless a `remove` of that descriptor has succeeded since the wait; else to nobody. Events on the endpoint's
-    /// descriptor go to nobody. Answers how many events were reported, cancelled ones and those of nobody included.
+    /// descriptor go to nobody; where there was one, the endpoint's `EventFd` is read once, after all deliveries.
+    /// Answers how many events were reported, cancelled ones and those of nobody included.
     ///
     /// An interrupted wait (`EINTR`) answers 0; one that is refused with another number is `Epoll` with it. Then nobody
     /// is called and nothing changes but the poller. A run whose wait succeeded answers `Ok`, and takes no memory of
     /// the manager's.
-    pub fn run_with_timeout<R: Wait + Clock>(&mut self, ms: i32, _rt: &R) -> Result<usize>
+    pub fn run_with_timeout<R: Wait + Clock>(&mut self, ms: i32, rt: &R) -> Result<usize>
         ensures { IsLoopIteration S.serves P.controls P.waits (state_of self.old) ms result (state_of self.new) }
     {
-        self.registry.run_with_timeout(ms)
+        let count = self.registry.run_with_timeout(ms)?;
+        if self.registry.epoll.registrations.take_endpoint_ready() {
+            let _ = self.event_fd.read(rt);
+        }
+        Ok(count)
     }
 }
 

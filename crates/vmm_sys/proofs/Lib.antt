@@ -1,1 +1,4 @@
 pub mod Firsts
+pub mod Picks
+pub mod Places
+pub mod Service

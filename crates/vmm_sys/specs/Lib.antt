@@ -4,3 +4,9 @@ pub mod Poller
 pub mod Lists
 pub mod Codes
 pub mod ScriptPoller
+pub mod Table
+pub mod TablePoller
+pub mod ServiceBound
+pub mod SharedTable
+pub mod EventFd
+pub mod Line

@@ -1,22 +1,29 @@
-//! What a poller is asked, and what it reports.
+//! What a poller is given and what it reports, and the poller over a shared table.
 
-ghost use Rattle.std.specs.Prelude.{◌≡◌, pos};
+ghost use Rattle.std.specs.Prelude.{◌≡◌, ◌≤ℤ◌, pos, ℤ, IsOkUnless};
+ghost use base.Stored.{gnil};
+ghost use Rattle.vmm_sys.specs.SharedTable.{MayCtl, MayWait};
 
+use crate::errno::Errno;
 pub use crate::event_set::EventSet;
+use crate::poller::Poller;
+use crate::shared_table::{TableOwner, another_owner, new_table};
+use std::alloc::Global;
+use std::sync::Wait;
+use std::time::{Clock, Duration};
 
 /// A file descriptor. Numbers from 0 up stand for descriptors, others for none.
 pub type RawFd = i32;
 
 /// What has a file descriptor.
 pub trait AsRawFd {
-    ghost use Rattle.std.specs.Prelude.{ℕ};
-
-    /// The number of its descriptor.
-    ghost descriptor: { Self → ℕ };
+    /// The descriptor of a value.
+    ghost descriptor: { Self → ℤ };
 
     /// Its descriptor, from 0 up.
     fn as_raw_fd(&self) -> RawFd
-        ensures { result ≡ pos (descriptor self.now) };
+        ensures descriptor { result ≡ descriptor self.now }
+        ensures from_0_up { pos 0 ≤ℤ result };
 }
 
 /// What is done to an interest list.
@@ -30,7 +37,8 @@ pub enum ControlOperation {
     Delete,
 }
 
-/// An entry of a report, or what is wanted of a descriptor: a set of events, and a word of the caller's own.
+/// An entry of a report, or what is wanted of a descriptor: a set of events, and a word of the
+/// caller's own.
 #[derive(Clone, Copy, PartialEq, Eq, Debug)]
 pub struct EpollEvent {
     set: EventSet,
@@ -69,7 +77,8 @@ impl EpollEvent {
         self.word
     }
 
-    /// The low 32 bits of the word read as a signed number: the descriptor, where the word was packed with one.
+    /// The low 32 bits of the word read as a signed number: the descriptor, where the word was
+    /// packed with one.
     pub fn fd(&self) -> RawFd
         ensures { result ≡ fd_of self.now }
     {
@@ -77,27 +86,67 @@ impl EpollEvent {
     }
 }
 
-#[cfg(test)]
-mod tests {
-    use super::*;
+/// A poller over a [`Table`](crate::table::Table) that others share: other `Epoll`s,
+/// [`EventFd`](crate::eventfd::EventFd)s and [`Line`](crate::line::Line)s, on this thread and on
+/// others.
+///
+/// It keeps a handle of its maker's: its calls may wait for the table's lock. Each call is one step
+/// of the table, with the table's refusals; a wait is one or more.
+#[derive(Drop)]
+pub struct Epoll<R> {
+    pub(crate) table: TableOwner,
+    rt: R,
+}
 
-    #[test]
-    fn set_word_and_descriptor(rt: HostRuntime) {
-        let set = EventSet::IN | EventSet::HANG_UP;
-        // The words of descriptor 5 with 42 above it, of 2147483647 and of -1 with nothing, and of all bits.
-        let table = [
-            (180388626437, 5),
-            (2147483647, 2147483647),
-            (4294967295, -1),
-            (2147483648, -2147483648),
-            (u64::MAX, -1),
-        ];
-        for (word, fd) in table {
-            let event = EpollEvent::new(set, word);
-            assert_eq!(rt; event.event_set(), set);
-            assert_eq!(rt; event.events(), 0x11);
-            assert_eq!(rt; event.data(), word);
-            assert_eq!(rt; event.fd(), fd);
+impl<R: Wait + Clock + Clone + Send + Drop> Epoll<R> {
+    /// A poller over a new table without descriptors. `ENOMEM`: memory was refused.
+    pub fn new(rt: R, alloc: Global) -> Result<Epoll<R>, Errno>
+        ensures { IsOkUnless result Errno.ENOMEM }
+    {
+        let table = new_table(alloc)?;
+        Ok(Epoll { table, rt })
+    }
+
+    /// A poller over the same table. `ENOMEM`: one more owner of the table, or a copy of the
+    /// handle, was refused.
+    pub fn try_clone(&self) -> Result<Epoll<R>, Errno>
+        ensures { IsOkUnless result Errno.ENOMEM }
+    {
+        let table = another_owner(&self.table)?;
+        match self.rt.clone() {
+            Ok(rt) => Ok(Epoll { table, rt }),
+            Err(_) => Err(Errno::ENOMEM),
         }
     }
 }
+
+impl<R: Wait + Clock + Clone + Send + Drop> Poller for Epoll<R> {
+    // Others change the table at any time, so a state of this poller says nothing.
+    ghost meaning = { λ _. gnil };
+
+    ghost may_ctl = { MayCtl };
+
+    ghost may_wait = { MayWait };
+
+    /// As [`Table::ctl`](crate::table::Table::ctl).
+    fn ctl(&mut self, op: ControlOperation, fd: RawFd, event: EpollEvent) -> Result<(), Errno> {
+        self.table.ctl(op, fd, event, &self.rt)
+    }
+
+    /// As [`Table::wait`](crate::table::Table::wait), tried until something is ready where `ms` is
+    /// negative, and once where it is 0.
+    ///
+    /// Else it is tried, and where nothing is ready tried once more, after so many milliseconds at
+    /// most: the second try comes as soon as the table was changed, so 0 may be answered early.
+    /// `EINVAL`, at once: the buffer has no room.
+    fn wait(&mut self, ms: i32, buffer: &mut [EpollEvent]) -> Result<usize, Errno> {
+        if ms < 0 {
+            return self.table.wait_until_ready(buffer, &self.rt);
+        }
+        let limit = Duration::from_millis(ms as u64);
+        self.table.wait_at_most(limit, buffer, &self.rt)
+    }
+}
+
+#[cfg(test)]
+mod tests;

@@ -18,7 +18,7 @@ impl Errno {
     /// The wait was interrupted.
     pub const EINTR: Errno = Errno(4);
 
-    /// The descriptor isn't open, or isn't of the kind that the call asks for.
+    /// The descriptor isn't open, or isn't of the kind that the call is for.
     pub const EBADF: Errno = Errno(9);
 
     /// The call would have to wait.

@@ -42,7 +42,17 @@ impl Flags for EventSet {
 
     ghost exact = { ⊤ };
 
-    ghost table = { (codes "IN", 0x1) ∷ (codes "PRIORITY", 0x2) ∷ (codes "OUT", 0x4) ∷ (codes "ERROR", 0x8) ∷ (codes "HANG_UP", 0x10) ∷ (codes "READ_HANG_UP", 0x2000) ∷ (codes "EXCLUSIVE", 0x10000000) ∷ (codes "WAKE_UP", 0x20000000) ∷ (codes "ONE_SHOT", 0x40000000) ∷ (codes "EDGE_TRIGGERED", 0x80000000) ∷ [] };
+    ghost table = { (codes "IN", 0x1)
+        ∷ (codes "PRIORITY", 0x2)
+        ∷ (codes "OUT", 0x4)
+        ∷ (codes "ERROR", 0x8)
+        ∷ (codes "HANG_UP", 0x10)
+        ∷ (codes "READ_HANG_UP", 0x2000)
+        ∷ (codes "EXCLUSIVE", 0x10000000)
+        ∷ (codes "WAKE_UP", 0x20000000)
+        ∷ (codes "ONE_SHOT", 0x40000000)
+        ∷ (codes "EDGE_TRIGGERED", 0x80000000)
+        ∷ [] };
 
     ghost set_of = { λ s. s.0 };
 

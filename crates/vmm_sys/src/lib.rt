@@ -1,11 +1,20 @@
-//! Event sets, packed events and pollers: what an event loop needs of `vmm-sys-util`, without a kernel.
+//! Event sets, packed events and pollers: what an event loop needs of `vmm-sys-util`, without a
+//! kernel.
 //!
-//! A [`poller::Poller`] is asked to change an interest list and to wait for events.
-//! [`script_poller::ScriptPoller`] answers what it was told to.
+//! A [`poller::Poller`] keeps an interest list and reports events. [`script_poller::ScriptPoller`]
+//! answers what it was told to. [`table::Table`] keeps counters and lines of its own and an
+//! interest list in them; [`epoll::Epoll`] is such a table that threads share, with
+//! [`eventfd::EventFd`] and [`line::Line`] for its descriptors.
 #![tactic(auto)]
 
 pub mod epoll;
 pub mod errno;
 pub mod event_set;
+pub mod eventfd;
+pub mod line;
 pub mod poller;
 pub mod script_poller;
+mod shared_table;
+pub mod table;
+#[cfg(test)]
+mod tests;

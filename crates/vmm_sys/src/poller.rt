@@ -12,8 +12,9 @@ use crate::errno::Errno;
 
 /// Keeps an interest list, and reports which of its descriptors have something.
 ///
-/// Each type of pollers states two relations between its states and answers.
-/// Through a `dyn Poller` the state is seen as a tree of numbers, its meaning; a call leaves the relations of an object as they are.
+/// Each type of pollers states two relations between its states and answers. Through a `dyn Poller`
+/// the state is seen as a tree of numbers, its meaning; a call leaves the relations of an object as
+/// they are.
 pub trait Poller: Drop {
     /// The state.
     ghost meaning: { Self → Gv };
@@ -21,7 +22,8 @@ pub trait Poller: Drop {
     /// From a state: which answer `ctl` may give, and which state it may leave.
     ghost may_ctl: { Gv → ControlOperation → ℤ → EpollEvent → Result (Unit {0}) Errno → Gv → Type 0 };
 
-    /// From a state, with a time limit and a room: which answer and entries `wait` may give, and which state it may leave.
+    /// From a state, with a time limit and a room: which answer and entries `wait` may give, and
+    /// which state it may leave.
     ghost may_wait: { Gv → ℤ → ℕ → Result ℕ Errno → List EpollEvent → Gv → Type 0 };
 
     /// Changes the interest in `fd`. For `Delete` the event is without effect.
@@ -30,9 +32,10 @@ pub trait Poller: Drop {
 
     /// Writes a report into the front of the buffer, and answers the number of its entries.
     ///
-    /// `ms` limits the wait: none where it is negative, no wait where it is 0, else so many milliseconds.
-    /// What stands in the buffer past the count is free.
+    /// `ms` limits the wait: none where it is negative, no wait where it is 0, else so many
+    /// milliseconds. What stands in the buffer past the count is free.
     fn wait(&mut self, ms: i32, buffer: &mut [EpollEvent]) -> Result<usize, Errno>
         ensures count_fits { IfOk result (λ n. n ≤ length buffer.old) }
-        ensures answer { may_wait (meaning self.old) ms (length buffer.old) result (reported result buffer.new) (meaning self.new) };
+        ensures answer { may_wait (meaning self.old) ms (length buffer.old) result (reported result buffer.new)
+            (meaning self.new) };
 }

@@ -18,10 +18,12 @@ pub struct Refusal {
     errno: Errno,
 }
 
-/// A poller whose reports, faults and refusals are said beforehand; it is no poller of the system's.
+/// A poller whose reports, faults and refusals are said beforehand; it is no poller of the
+/// system's.
 ///
-/// Waits take the pushed reports and faults in the order of pushing. A `ctl` is refused once for each pushed refusal
-/// of its operation and descriptor, and else agreed. Time limits are without effect: no call waits.
+/// Waits take the pushed reports and faults in the order of pushing. A `ctl` is refused once for
+/// each pushed refusal of its operation and descriptor, and else agreed. Time limits are without
+/// effect: no call waits.
 #[derive(Drop)]
 pub struct ScriptPoller {
     answers: VecDeque<Result<Vec<EpollEvent>, Errno>>,
@@ -81,7 +83,8 @@ impl ScriptPoller {
         self.push(Err(errno))
     }
 
-    /// Keeps a refusal: one `ctl` of this operation and descriptor is to answer `errno`, after those pushed before.
+    /// Keeps a refusal: one `ctl` of this operation and descriptor is to answer `errno`, after
+    /// those pushed before.
     ///
     /// `ENOMEM`: memory was refused; the script is as it was.
     pub fn push_refusal(
@@ -123,7 +126,8 @@ impl ScriptPoller {
     // Takes the next report or fault; what doesn't fit of a report stays the next one.
     fn take_answer(&mut self, buffer: &mut [EpollEvent]) -> Result<usize, Errno>
         ensures answer { result ≡ count_of (next_answer self.old.answers (length buffer.old)) }
-        ensures entries { buffer.new ≡ (let events = entries_of (next_answer self.old.answers (length buffer.old)) in events ++ drop (length events) buffer.old) }
+        ensures entries { let events = entries_of (next_answer self.old.answers (length buffer.old)) in
+            buffer.new ≡ events ++ drop (length events) buffer.old }
         ensures after { self.new ≡ after_wait self.old (length buffer.old) }
     {
         if buffer.is_empty() {
@@ -150,15 +154,16 @@ impl Poller for ScriptPoller {
 
     ghost may_wait = { MayWait };
 
-    /// Answers the first kept refusal of this operation and descriptor, which is then used up. Without one the answer is `Ok`.
+    /// Answers the first kept refusal of this operation and descriptor, which is then used up.
+    /// Without one the answer is `Ok`.
     fn ctl(&mut self, op: ControlOperation, fd: RawFd, _event: EpollEvent) -> Result<(), Errno> {
         self.strike_refusal(op, fd)
     }
 
     /// Gives the next report or fault. `EINVAL`: the buffer has no room, and the script stays.
     ///
-    /// Of a report longer than the buffer the first events are given, and the others stay as the next report.
-    /// With nothing left the answer is `Ok(0)`.
+    /// Of a report longer than the buffer the first events are given, and the others stay as the
+    /// next report. With nothing left the answer is `Ok(0)`.
     fn wait(&mut self, _ms: i32, buffer: &mut [EpollEvent]) -> Result<usize, Errno> {
         self.take_answer(buffer)
     }

@@ -1,20 +1,25 @@
-use Rattle.std.proofs.Common.{refl, sym, ap, ◌∙◌, inr, arith, ◌+◌, subst, []}
+use Rattle.std.proofs.Common.{◌≡◌, ℕ, List, refl, sym, ap, ◌∙◌, inr, arith, ◌+◌, subst, []}
 use Rattle.std.specs.Cmp.{nat_cmp_total}
 use Rattle.std.specs.FinMap.{nat_cmp-IsAntisymmetric}
 use Rattle.event_manager.proofs.TreeMaps.{insert_of_tree, insert_twice, get_of_tree, get_same, some_is}
 use Rattle.event_manager.proofs.ExchangeLemmas.{idle_fits}
 use Rattle.event_manager.specs.Registry.{Joined, NotJoined}
-use Rattle.event_manager.specs.Subscribers.{idle}
+use Rattle.event_manager.specs.Subscribers.{idle, registry_of}
+use Rattle.event_manager.specs.declared.subscribers.Registry.{Registry}
 use Rattle.event_manager.specs.declared.error.Error.TheVariants.{OutOfMemory}
 use Rattle.event_manager.specs.RegistrationState.{registrations_of}
 use Rattle.std.specs.FinMap.{insert, from_entries, get}
 use Rattle.std.specs.Ordering.{nat_cmp}
 use Rattle.event_manager.proofs.subscribers.Registry.join.Goals as goal
 
+-- the same entries are the same registry
+same_registry : {S P : Type 0} (r : Registry S P) (es : List (ℕ × S)) → es ≡ r.subscribers.entries
+    → idle (record { values = from_entries {R = nat_cmp} es; next = r.next; registrations = registrations_of r.epoll.registrations }) ≡ idle (registry_of r)
+same_registry r es same = ap (λ xs. idle (record { values = from_entries {R = nat_cmp} xs; next = r.next; registrations = registrations_of r.epoll.registrations })) same
+
 pub returns-in-Err : goal.returns-in-Err
 returns-in-Err g c =
-    let r = c.args.self.now in
-    let same = ap (λ es. idle (record { values = from_entries {R = nat_cmp} es; next = r.next; registrations = registrations_of r.epoll.registrations })) c.in-Err.ensures.err in
+    let same = same_registry c.args.self.now _ c.in-Err.ensures.err in
     (NotJoined c.args.subscriber OutOfMemory, refl, record { stepped = (inr (omega (arith, c.if-self.false), refl), same); led = refl; same_capacity = refl })
 
 pub returns : goal.returns

@@ -1,0 +1,97 @@
+//! A counter of a shared table.
+
+ghost use Rattle.std.specs.Prelude.{◌≡◌, ◌≤ℤ◌, pos, IsErr, IfErr};
+
+use crate::epoll::{AsRawFd, Epoll, RawFd};
+use crate::errno::Errno;
+use crate::shared_table::{TableOwner, another_owner};
+use std::sync::Wait;
+
+/// A counter in the table of an [`Epoll`], with values from 0 to 18446744073709551614.
+///
+/// It stands in for Linux's `eventfd`, and never waits for its value. Each call is one step of the
+/// table, under its lock.
+#[derive(Drop)]
+pub struct EventFd {
+    table: TableOwner,
+    fd: RawFd,
+    ghost from_0_up: { pos 0 ≤ℤ fd },
+}
+
+impl EventFd {
+    ghost use Rattle.vmm_sys.specs.SharedTable.{AnswersOfSome};
+    ghost use Rattle.vmm_sys.specs.Table.{write_of, read_of};
+    ghost use Rattle.vmm_sys.specs.EventFd.{descriptor_of, IsOpeningError};
+
+    /// Opens a counter of this value.
+    ///
+    /// `EINVAL`: the value is 18446744073709551615. `EMFILE`: the table gave number 2147483647.
+    /// `ENOMEM`: memory, or one more owner of the table, was refused. A refused call opens nothing.
+    pub fn new<R: Wait>(epoll: &Epoll<R>, value: u64, rt: &R) -> Result<EventFd, Errno>
+        ensures too_high { value ≡ 18446744073709551615 → IsErr result }
+        ensures errors { IfErr result (IsOpeningError value) }
+    {
+        let table = another_owner(&epoll.table)?;
+        let fd = table.add_counter(value, rt)?;
+        Ok(EventFd { table, fd })
+    }
+
+    /// Takes the value, which is then 0. `EAGAIN`: it is 0.
+    pub fn read<R: Wait>(&self, rt: &R) -> Result<u64, Errno>
+        ensures { AnswersOfSome (λ t. read_of t (descriptor_of self.now)) result }
+    {
+        self.table.read(self.fd, rt)
+    }
+
+    /// Adds to the value; `value` may be 0.
+    ///
+    /// `EINVAL`: `value` is 18446744073709551615. `EAGAIN`: the sum is above 18446744073709551614.
+    /// A refusal leaves the value.
+    pub fn write<R: Wait>(&self, value: u64, rt: &R) -> Result<(), Errno>
+        ensures { AnswersOfSome (λ t. write_of t (descriptor_of self.now) value) result }
+    {
+        self.table.write(self.fd, value, rt)
+    }
+}
+
+impl AsRawFd for EventFd {
+    ghost use Rattle.vmm_sys.specs.EventFd.{descriptor_of};
+
+    ghost descriptor = { descriptor_of };
+
+    fn as_raw_fd(&self) -> RawFd {
+        self.fd
+    }
+}
+
+#[cfg(test)]
+mod tests {
+    use super::*;
+    use std::test::Fail;
+
+    #[test]
+    fn highest_value(rt: HostRuntime) -> Result<(), Fail> {
+        let epoll = Epoll::new(rt, rt.alloc())?;
+        let event_fd = EventFd::new(&epoll, 18446744073709551614, &rt)?;
+        assert_eq!(rt; event_fd.write(1, &rt), Err(Errno::EAGAIN));
+        assert_eq!(rt;
+            event_fd.write(18446744073709551615, &rt),
+            Err(Errno::EINVAL)
+        );
+        assert_eq!(rt; event_fd.read(&rt), Ok(18446744073709551614));
+        assert_eq!(rt; event_fd.read(&rt), Err(Errno::EAGAIN));
+        Ok(())
+    }
+
+    #[test]
+    fn counters_of_one_table_are_apart(rt: HostRuntime) -> Result<(), Fail> {
+        let epoll = Epoll::new(rt, rt.alloc())?;
+        let first = EventFd::new(&epoll, 0, &rt)?;
+        let second = EventFd::new(&epoll, 1, &rt)?;
+        assert_eq!(rt; first.write(5, &rt), Ok(()));
+        assert_eq!(rt; first.write(7, &rt), Ok(()));
+        assert_eq!(rt; second.read(&rt), Ok(1));
+        assert_eq!(rt; first.read(&rt), Ok(12));
+        Ok(())
+    }
+}

@@ -1,0 +1,83 @@
+//! A line of a shared table.
+
+ghost use Rattle.std.specs.Prelude.{◌≤ℤ◌, pos, IfErr};
+
+use crate::epoll::{AsRawFd, Epoll, EventSet, RawFd};
+use crate::errno::Errno;
+use crate::shared_table::{TableOwner, another_owner};
+use std::sync::Wait;
+
+/// A descriptor in the table of an [`Epoll`] whose state is set; it stands in for a socket or a
+/// pipe.
+///
+/// Each call is one step of the table, under its lock.
+#[derive(Drop)]
+pub struct Line {
+    table: TableOwner,
+    fd: RawFd,
+    ghost from_0_up: { pos 0 ≤ℤ fd },
+}
+
+impl Line {
+    ghost use Rattle.vmm_sys.specs.SharedTable.{AnswersOfSome};
+    ghost use Rattle.vmm_sys.specs.Table.{set_line_of};
+    ghost use Rattle.vmm_sys.specs.Line.{descriptor_of, IsOpeningError};
+
+    /// Opens a line with the empty set.
+    ///
+    /// `EMFILE`: the table gave number 2147483647. `ENOMEM`: memory, or one more owner of the
+    /// table, was refused. A refused call opens nothing.
+    pub fn new<R: Wait>(epoll: &Epoll<R>, rt: &R) -> Result<Line, Errno>
+        ensures { IfErr result IsOpeningError }
+    {
+        let table = another_owner(&epoll.table)?;
+        let fd = table.add_line(rt)?;
+        Ok(Line { table, fd })
+    }
+
+    /// Sets the state; it is never refused.
+    pub fn set<R: Wait>(&self, set: EventSet, rt: &R) -> Result<(), Errno>
+        ensures { AnswersOfSome (λ t. set_line_of t (descriptor_of self.now) set) result }
+    {
+        self.table.set_line(self.fd, set, rt)
+    }
+}
+
+impl AsRawFd for Line {
+    ghost use Rattle.vmm_sys.specs.Line.{descriptor_of};
+
+    ghost descriptor = { descriptor_of };
+
+    fn as_raw_fd(&self) -> RawFd {
+        self.fd
+    }
+}
+
+#[cfg(test)]
+mod tests {
+    use super::*;
+    use crate::epoll::{ControlOperation, EpollEvent};
+    use crate::poller::Poller;
+    use std::test::Fail;
+
+    #[test]
+    fn reports_what_was_set(rt: HostRuntime) -> Result<(), Fail> {
+        let mut epoll = Epoll::new(rt, rt.alloc())?;
+        let first = Line::new(&epoll, &rt)?;
+        let second = Line::new(&epoll, &rt)?;
+        for line in [&first, &second] {
+            let event = EpollEvent::new(EventSet::IN, 4);
+            assert_eq!(rt;
+                epoll.ctl(ControlOperation::Add, line.as_raw_fd(), event),
+                Ok(())
+            );
+        }
+        assert_eq!(rt; second.set(EventSet::IN | EventSet::OUT, &rt), Ok(()));
+        let mut buffer = [EpollEvent::new(EventSet::empty(), 0); 2];
+        assert_eq!(rt; epoll.wait(0, &mut buffer), Ok(1));
+        assert_eq!(rt; buffer[0], EpollEvent::new(EventSet::IN, 4));
+        assert_eq!(rt; second.set(EventSet::empty(), &rt), Ok(()));
+        assert_eq!(rt; epoll.wait(0, &mut buffer), Ok(0));
+        Ok(())
+    }
+}

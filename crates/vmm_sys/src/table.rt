@@ -1,0 +1,421 @@
+//! The in-process table: counters and lines, and a list of interests in them.
+
+ghost use Rattle.std.specs.Prelude.{◌≡◌, ◌<◌, ◌≤◌, ◌^◌, length, ◌++◌, take, drop, filter, map, slice_get, IsSome, IfSome};
+ghost use Rattle.vmm_sys.specs.EventSet.{bits_of};
+ghost use Rattle.vmm_sys.specs.Lists.{put_last};
+ghost use Rattle.vmm_sys.specs.Table.{new_table, state_of, state_at, is_ready, entry_of as entry_in, opened, source_of as source_in, with_source, place_of as place_in, changed, has_mode, Answers, AnswersWithMemory, ChangeAnswers, ctl_of, wait_of, write_of, read_of, set_line_of, open_of, add_counter_of, add_line_of, filled, counted, chosen, moved_back, first_ready, first_ready_last};
+ghost use Rattle.vmm_sys.specs.ServiceBound.{Ctl, Wait, MovesForward, EachStepMovesForward, ReportedWithinRooms, ReportedWithinWaits};
+ghost use Rattle.vmm_sys.specs.TablePoller.{table_code, MayCtl, MayWait};
+
+use crate::epoll::{ControlOperation, EpollEvent, RawFd};
+use crate::errno::Errno;
+use crate::event_set::EventSet;
+use crate::poller::Poller;
+use std::alloc::Global;
+use std::marker::Model;
+
+/// The highest value of a counter.
+const HIGHEST: u64 = 18446744073709551614;
+
+/// How many descriptors a table opens: their numbers are those of an `i32` from 0 up.
+const DESCRIPTORS: usize = 2147483648;
+
+/// What a descriptor of a [`Table`] stands for; the contracts of the table speak of it.
+#[derive(Clone, Copy)]
+pub enum Source {
+    /// A number from 0 to 18446744073709551614 that is written to and read.
+    Counter(u64),
+    /// A set of events that is set.
+    Line(EventSet),
+}
+
+impl Source {
+    fn state(&self) -> EventSet
+        ensures { bits_of result ≡ state_of self.now }
+    {
+        match *self {
+            Source::Counter(value) => {
+                let read = if value > 0 {
+                    EventSet::IN
+                } else {
+                    EventSet::empty()
+                };
+                let write = if value < HIGHEST {
+                    EventSet::OUT
+                } else {
+                    EventSet::empty()
+                };
+                read.union(write)
+            }
+            Source::Line(set) => set,
+        }
+    }
+}
+
+/// What is wanted of a descriptor, and the word to report it with; the contracts of [`Table`] speak
+/// of it.
+#[derive(Clone, Copy)]
+pub struct Interest {
+    descriptor: usize,
+    event: EpollEvent,
+}
+
+/// Descriptors, numbered from 0 in the order of opening, and a list of interests in them; it stands
+/// in for `epoll`.
+///
+/// A descriptor is a counter or a line, and is never closed. The state of a counter is `IN` where
+/// its value is above 0 and `OUT` where it is below 18446744073709551614; that of a line is the set
+/// last given to [`Table::set_line`], at first the empty one.
+///
+/// An interest is ready where its descriptor's state has something of what is wanted, or `ERROR` or
+/// `HANG_UP`: that is what is reported, with the interest's word. It is level-triggered, as Linux's
+/// `epoll` is without a mode: a ready interest is reported again until it isn't ready any more. No
+/// mode is offered.
+///
+/// A refused call leaves the table as it was. Where several refusals apply, the first of the call's
+/// list is answered.
+#[derive(Drop)]
+pub struct Table {
+    sources: Vec<Source>,
+    interests: Vec<Interest>,
+    limit: usize,
+}
+
+impl Model for Table {
+    ghost use Rattle.std.specs.Prelude.{◌≤◌, ◌^◌};
+    ghost use Rattle.vmm_sys.specs.Table.{TableState};
+
+    ghost Value = { TableState };
+
+    ghost view = { λ t. record { sources = t.sources.items; interests = t.interests.items; limit = t.limit } };
+
+    ghost invariant = { λ t. t.limit ≤ 2 ^ 31 };
+}
+
+impl Table {
+    /// A table without descriptors, which may open 2147483648.
+    pub fn new(alloc: Global) -> Table
+        ensures { result ≡ new_table }
+    {
+        Table {
+            sources: Vec::new(alloc),
+            interests: Vec::new(alloc),
+            limit: DESCRIPTORS,
+        }
+    }
+
+    /// A table that may open this many descriptors, for tests of where the numbers end.
+    #[cfg(test)]
+    pub(crate) fn with_limit(alloc: Global, limit: usize) -> Table
+        requires { limit ≤ 2 ^ 31 }
+    {
+        Table {
+            sources: Vec::new(alloc),
+            interests: Vec::new(alloc),
+            limit,
+        }
+    }
+
+    fn open(&mut self, source: Source) -> Result<RawFd, Errno>
+        ensures { AnswersWithMemory (open_of self.old source) self.old result self.new }
+    {
+        let number = self.sources.len();
+        if number >= self.limit {
+            return Err(Errno::EMFILE);
+        }
+        match self.sources.push(source) {
+            Ok(()) => Ok(number as RawFd),
+            Err(_) => Err(Errno::ENOMEM),
+        }
+    }
+
+    /// Opens a counter of this value; the answer is its descriptor.
+    ///
+    /// `EINVAL`: the value is 18446744073709551615. `EMFILE`: number 2147483647 was given.
+    /// `ENOMEM`: memory was refused.
+    pub fn add_counter(&mut self, value: u64) -> Result<RawFd, Errno>
+        ensures { AnswersWithMemory (add_counter_of self.old value) self.old result self.new }
+    {
+        if value == u64::MAX {
+            return Err(Errno::EINVAL);
+        }
+        self.open(Source::Counter(value))
+    }
+
+    /// Opens a line with the empty set; the answer is its descriptor.
+    ///
+    /// `EMFILE`: number 2147483647 was given. `ENOMEM`: memory was refused.
+    pub fn add_line(&mut self) -> Result<RawFd, Errno>
+        ensures { AnswersWithMemory (add_line_of self.old) self.old result self.new }
+    {
+        self.open(Source::Line(EventSet::empty()))
+    }
+
+    /// Puts an interest in as the last one, changes it at its place, or takes it out. For `Delete`
+    /// the event is without effect.
+    ///
+    /// `EBADF`: `fd` was never opened. `EINVAL`: `Add` or `Modify` of an event with one of the four
+    /// modes. `EEXIST`: `Add` where `fd` has an interest. `ENOENT`: `Modify` or `Delete` where it
+    /// has none. `ENOMEM`: memory was refused to an `Add`.
+    pub fn ctl(&mut self, op: ControlOperation, fd: RawFd, event: EpollEvent) -> Result<(), Errno>
+        ensures answer { ChangeAnswers op (ctl_of self.old op fd event) self.old result self.new }
+        ensures forward { MovesForward self.old (Ctl op fd event) self.new }
+    {
+        let Some(descriptor) = self.descriptor(fd) else {
+            return Err(Errno::EBADF);
+        };
+        if has_mode(op, event) {
+            return Err(Errno::EINVAL);
+        }
+        let place = self.place_of(descriptor);
+        self.change(op, Interest { descriptor, event }, place)
+    }
+
+    /// Reports the first ready interests, as many as the buffer has room for, and moves them to the
+    /// back in the order of the report.
+    ///
+    /// The answer is their number, which may be 0; entries of the buffer past it stay. Each
+    /// interest is looked at once at most, and no memory is requested. `EINVAL`: the buffer has no
+    /// room.
+    pub fn wait(&mut self, buffer: &mut [EpollEvent]) -> Result<usize, Errno>
+        ensures answer { Answers (counted (wait_of self.old (length buffer.old))) self.old result self.new }
+        ensures entries { buffer.new ≡ filled (wait_of self.old (length buffer.old)) buffer.old }
+        ensures forward { MovesForward self.old (Wait (length buffer.old)) self.new }
+    {
+        if buffer.is_empty() {
+            return Err(Errno::EINVAL);
+        }
+        Ok(self.report_ready(buffer))
+    }
+
+    /// Adds to a counter; `value` may be 0.
+    ///
+    /// `EBADF`: `fd` is no counter. `EINVAL`: `value` is 18446744073709551615. `EAGAIN`: the sum is
+    /// above 18446744073709551614.
+    pub fn write(&mut self, fd: RawFd, value: u64) -> Result<(), Errno>
+        ensures { Answers (write_of self.old fd value) self.old result self.new }
+    {
+        let Some(Source::Counter(held)) = self.source(fd) else {
+            return Err(Errno::EBADF);
+        };
+        if value == u64::MAX {
+            return Err(Errno::EINVAL);
+        }
+        match held.checked_add(value) {
+            Some(sum) if sum <= HIGHEST => {
+                self.replace(fd, Source::Counter(sum));
+                Ok(())
+            }
+            _ => Err(Errno::EAGAIN),
+        }
+    }
+
+    /// Takes the value of a counter, which is then 0.
+    ///
+    /// `EBADF`: `fd` is no counter. `EAGAIN`: its value is 0.
+    pub fn read(&mut self, fd: RawFd) -> Result<u64, Errno>
+        ensures { Answers (read_of self.old fd) self.old result self.new }
+    {
+        let Some(Source::Counter(held)) = self.source(fd) else {
+            return Err(Errno::EBADF);
+        };
+        if held == 0 {
+            return Err(Errno::EAGAIN);
+        }
+        self.replace(fd, Source::Counter(0));
+        Ok(held)
+    }
+
+    /// Sets the state of a line. Modes in it are kept, and never reported, as no interest has one.
+    ///
+    /// `EBADF`: `fd` is no line.
+    pub fn set_line(&mut self, fd: RawFd, set: EventSet) -> Result<(), Errno>
+        ensures { Answers (set_line_of self.old fd set) self.old result self.new }
+    {
+        let Some(Source::Line(_)) = self.source(fd) else {
+            return Err(Errno::EBADF);
+        };
+        self.replace(fd, Source::Line(set));
+        Ok(())
+    }
+
+    // Reports the first ready interests and moves them to the back.
+    fn report_ready(&mut self, buffer: &mut [EpollEvent]) -> usize
+        ensures count { result ≡ length (chosen self.old (length buffer.old)) }
+        ensures entries { let entries = map (entry_in self.old.sources) (chosen self.old (length buffer.old)) in
+            buffer.new ≡ entries ++ drop result buffer.old }
+        ensures moved { self.new ≡ moved_back self.old (length buffer.old) }
+    {
+        report(&self.sources, self.interests.as_mut_slice(), buffer)
+    }
+
+    // The number of an open descriptor.
+    fn descriptor(&self, fd: RawFd) -> Option<usize>
+        ensures { result ≡ opened self.now fd }
+    {
+        if fd < 0 {
+            return None;
+        }
+        let number = fd as usize;
+        if number < self.sources.len() {
+            Some(number)
+        } else {
+            None
+        }
+    }
+
+    fn source(&self, fd: RawFd) -> Option<Source>
+        ensures { result ≡ source_in self.now fd }
+    {
+        if fd < 0 {
+            return None;
+        }
+        self.sources.get(fd as usize).copied()
+    }
+
+    fn replace(&mut self, fd: RawFd, source: Source)
+        requires { IsSome (source_in self.old fd) }
+        ensures { self.new ≡ with_source self.old fd source }
+    {
+        if fd >= 0 {
+            let number = fd as usize;
+            self.sources[number] = source;
+        }
+    }
+
+    // The place of a descriptor's interest in the list.
+    fn place_of(&self, descriptor: usize) -> Option<usize>
+        ensures first { result ≡ place_in self.now descriptor }
+        ensures bound { IfSome result (λ k. k < length self.now.interests) }
+    {
+        self.interests
+            .iter()
+            .position(|i| i.descriptor == descriptor)
+    }
+
+    fn change(
+        &mut self,
+        op: ControlOperation,
+        interest: Interest,
+        place: Option<usize>,
+    ) -> Result<(), Errno>
+        requires { IfSome place (λ k. k < length self.old.interests) }
+        ensures { ChangeAnswers op (changed self.old op interest place) self.old result self.new }
+    {
+        match (op, place) {
+            (ControlOperation::Add, None) => {
+                if self.interests.push(interest).is_err() {
+                    return Err(Errno::ENOMEM);
+                }
+            }
+            (ControlOperation::Add, Some(_)) => return Err(Errno::EEXIST),
+            (ControlOperation::Modify, Some(at)) => self.interests[at] = interest,
+            (ControlOperation::Delete, Some(at)) => {
+                let _gone = self.interests.remove(at);
+            }
+            (ControlOperation::Modify, None) => return Err(Errno::ENOENT),
+            (ControlOperation::Delete, None) => return Err(Errno::ENOENT),
+        }
+        Ok(())
+    }
+}
+
+impl Poller for Table {
+    ghost meaning = { λ t. table_code.code t };
+
+    ghost may_ctl = { MayCtl };
+
+    ghost may_wait = { MayWait };
+
+    fn ctl(&mut self, op: ControlOperation, fd: RawFd, event: EpollEvent) -> Result<(), Errno> {
+        Table::ctl(self, op, fd, event)
+    }
+
+    /// As [`Table::wait`]; the time limit is without effect, and nothing is waited for.
+    fn wait(&mut self, _ms: i32, buffer: &mut [EpollEvent]) -> Result<usize, Errno> {
+        Table::wait(self, buffer)
+    }
+}
+
+// Whether an event that is added or that replaces one has a mode.
+fn has_mode(op: ControlOperation, event: EpollEvent) -> bool
+    ensures { result ≡ has_mode op event }
+{
+    let modes = EventSet::EXCLUSIVE
+        .union(EventSet::WAKE_UP)
+        .union(EventSet::ONE_SHOT)
+        .union(EventSet::EDGE_TRIGGERED);
+    match op {
+        ControlOperation::Delete => false,
+        _ => event.event_set().intersects(modes),
+    }
+}
+
+fn state_at(sources: &[Source], descriptor: usize) -> EventSet
+    ensures { bits_of result ≡ state_at (slice_get sources.now descriptor) }
+{
+    match sources.get(descriptor) {
+        Some(source) => source.state(),
+        None => EventSet::empty(),
+    }
+}
+
+// The entry of an interest: its set is empty where the interest isn't ready.
+fn entry_of(sources: &[Source], interest: Interest) -> EpollEvent
+    ensures { result ≡ entry_in sources.now interest }
+{
+    let always = EventSet::ERROR.union(EventSet::HANG_UP);
+    let wanted = interest.event.event_set().union(always);
+    let state = state_at(sources, interest.descriptor);
+    EpollEvent::new(wanted.intersection(state), interest.event.data())
+}
+
+// Moves the interest at a place to the back.
+fn move_to_back(interests: &mut [Interest], at: usize)
+    requires { at < length interests.old }
+    ensures { interests.new ≡ put_last interests.old at }
+{
+    interests[at..].rotate_left(1);
+}
+
+// Writes the entries of the first ready interests, as many as there is room for, and moves these to
+// the back.
+fn report(sources: &[Source], interests: &mut [Interest], buffer: &mut [EpollEvent]) -> usize
+    ensures count { result ≡ length (first_ready sources.now interests.old (length buffer.old)) }
+    ensures interests { interests.new ≡ first_ready_last sources.now interests.old (length buffer.old) }
+    ensures buffer { let entries = map (entry_in sources.now) (first_ready sources.now interests.old (length buffer.old)) in
+        buffer.new ≡ entries ++ drop result buffer.old }
+{
+    let mut at = 0;
+    let mut count = 0;
+    for k in 0..interests.len() {
+        if count == buffer.len() {
+            break;
+        }
+        let entry = entry_of(sources, interests[at]);
+        if entry.event_set().is_empty() {
+            at += 1;
+        } else {
+            buffer[count] = entry;
+            count += 1;
+            move_to_back(interests, at);
+        }
+    }
+    count
+}
+
+/// States how long an interest of a [`Table`] may have to wait for its report; it does nothing.
+///
+/// No call gives an interest a later place, unless it deletes or reports it, and a wait that
+/// doesn't report a ready one moves it forward by the length of its buffer. So an interest with `a`
+/// others before it that isn't deleted and is ready at each of the waits is reported by the time
+/// the lengths of the buffers add up to more than `a`; with buffers of one length `c` above 0, in
+/// one of the first `a / c + 1` waits. It holds of any list of calls, refused ones included.
+pub fn service_bound()
+    ensures forward { EachStepMovesForward }
+    ensures within_rooms { ReportedWithinRooms }
+    ensures within_waits { ReportedWithinWaits }
+{}
+
+#[cfg(test)]
+mod tests;
