@@ -13,25 +13,30 @@ module _ {A : Type 0} (p : A → Bool) where
   At (x ∷ xs) zero = p x ≡ true
   At (x ∷ xs) (suc a) = (p x ≡ false) × At xs a
 
+  -- the position of the first one that passes, by whether the element in front does
   at_by : (b : Bool) (x : A) (xs : List A) → p x ≡ b → (position_or_len p xs < length xs → At xs (position_or_len p xs)) → position_or_len p (x ∷ xs) < length (x ∷ xs) → At (x ∷ xs) (position_or_len p (x ∷ xs))
   at_by true x xs e ih h = simp e
   at_by false x xs e ih h =
       let n : position_or_len p (x ∷ xs) ≡ suc (position_or_len p xs) = simp (e, one-add) in
       rw n (e, ih (omega arith))
 
+  -- a position in the list is that place
   at_len : (xs : List A) → position_or_len p xs < length xs → At xs (position_or_len p xs)
   at_len [] h = absurd (omega (arith, h))
   at_len (x ∷ xs) h = at_by (p x) x xs refl (at_len xs) h
 
+  -- what `position` answers says how its test came out
   some_is : (b : Bool) (k n : ℕ) → cond b (Some n) None ≡ Some k → (b ≡ true) × (n ≡ k)
   some_is true k n e = (refl, cc)
   some_is false k n e = cc
 
+  -- `position` answers that place
   pub At-from_position : (xs : List A) (a : ℕ) → position p xs ≡ Some a → At xs a
   At-from_position xs a e =
       let s = some_is (ltb (position_or_len p xs) (length xs)) a (position_or_len p xs) e in
       rw s.1 at (at_len xs (ltb-true (position_or_len p xs) (length xs) s.0))
 
+  -- and that place is what it answers
   len_at : (xs : List A) (a : ℕ) → At xs a → (position_or_len p xs ≡ a) × (a < length xs)
   len_at [] a h = absurd h
   len_at (x ∷ xs) zero h = (simp h, omega arith)
@@ -43,6 +48,7 @@ module _ {A : Type 0} (p : A → Bool) where
       let t : ltb (position_or_len p xs) (length xs) ≡ true = lt-ltb (position_or_len p xs) (length xs) (omega arith) in
       rw (t, r.0) refl
 
+  -- more elements behind it leave the place
   pub At-append : (xs ys : List A) (a : ℕ) → At xs a → At (xs ++ ys) a
   At-append [] ys a h = absurd h
   At-append (x ∷ xs) ys zero h = h
@@ -72,14 +78,17 @@ module _ {A : Type 0} (p : A → Bool) where
   Here q (x ∷ xs) zero = q x ≡ true
   Here q (x ∷ xs) (suc a) = Here q xs a
 
+  -- a test that `find`'s element passes is passed at that place
   pub Here-from_find : (q : A → Bool) (xs : List A) (a : ℕ) (x : A) → At xs a → find p xs ≡ Some x → q x ≡ true → Here q xs a
   Here-from_find q [] a x h e t = absurd h
   Here-from_find q (y ∷ xs) zero x h e t = let s : Some y ≡ Some x = simp h at e in let u : y ≡ x = cc in rw u t
   Here-from_find q (y ∷ xs) (suc a) x h e t = Here-from_find q xs a x h.1 (simp h.0 at e) t
 
+  -- the first one that passes p is among the first c that pass q, or stays the first one in what is left of xs, no later, and earlier by c where it passes q
   abbrev Left : (A → Bool) → List A → ℕ → ℕ → Type 0
   Left q xs a c = Any (λ x. p x ≡ true) (take c (filter q xs)) ⊎ ((b : ℕ) × At (without_first q xs c) b × (b ≤ a) × (Here q xs a → b + c ≤ a))
 
+  -- the cases of an element in front, by whether it passes q and whether it passes p
   any_more : (x : A) (xs : List A) → Any (λ y. p y ≡ true) xs → Any (λ y. p y ≡ true) (x ∷ xs)
   any_more x xs r = (suc r.0, r.1, (let lt = r.2 in omega arith), r.3, r.4)
 
@@ -99,7 +108,7 @@ module _ {A : Type 0} (p : A → Bool) where
   walk_on true q x xs a c e pn ih = walk_yes q x xs a c e pn (ih c)
   walk_on false q x xs a c e pn ih = walk_no q x xs a c e pn (ih (suc c))
 
-  -- the first element that passes p is among the first c that pass q, or it is still the first one, and no later
+  -- taking the first c that pass q out of a list
   pub without_first-At : (q : A → Bool) (xs : List A) (a c : ℕ) → At xs a → Left q xs a c
   without_first-At q [] a c h = absurd h
   without_first-At q (x ∷ xs) a zero h = inr (a, h, omega arith, (λ k. omega arith))

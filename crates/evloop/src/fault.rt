@@ -1,0 +1,77 @@
+//! Why the program ends with a failure.
+
+use std::alloc::{AllocError, AllocFailed};
+use thiserror::Error;
+
+/// Why a script was not run to its end. Its text is what the program prints on standard error after
+/// `evloop: `.
+#[derive(Debug, Drop, PartialEq, Error)]
+pub enum Fault {
+    /// The first bad line of the script, counted from 1. Nothing was run.
+    #[error("line {0}: bad script")]
+    BadScript(usize),
+
+    /// The script could not be read to its end, or is not UTF-8. Nothing was run.
+    #[error("cannot read the script")]
+    CannotRead,
+
+    /// A line of the program's own could not be written.
+    #[error("cannot write")]
+    CannotWrite,
+
+    /// A request for memory was refused.
+    #[error("out of memory")]
+    OutOfMemory,
+
+    /// The manager could not be made, for another reason than memory.
+    #[error(transparent)]
+    Manager(event_manager::Error),
+}
+
+impl From<event_manager::Error> for Fault {
+    fn from(error: event_manager::Error) -> Fault {
+        match error {
+            event_manager::Error::OutOfMemory => Fault::OutOfMemory,
+            _ => Fault::Manager(error),
+        }
+    }
+}
+
+impl<T: Drop> From<AllocFailed<T>> for Fault {
+    fn from(_error: AllocFailed<T>) -> Fault {
+        Fault::OutOfMemory
+    }
+}
+
+impl From<AllocError> for Fault {
+    fn from(_error: AllocError) -> Fault {
+        Fault::OutOfMemory
+    }
+}
+
+#[cfg(test)]
+mod tests {
+    use super::*;
+    use event_manager::Error;
+    use std::test::Fail;
+    use vmm_sys::errno::Errno;
+
+    #[test]
+    fn faults_have_their_texts(rt: HostRuntime) -> Result<(), Fail> {
+        let table = [
+            (Fault::BadScript(1), "line 1: bad script"),
+            (Fault::BadScript(20001), "line 20001: bad script"),
+            (Fault::CannotRead, "cannot read the script"),
+            (Fault::CannotWrite, "cannot write"),
+            (Fault::OutOfMemory, "out of memory"),
+            (
+                Fault::Manager(Error::Epoll(Errno(22))),
+                "event_manager: failed to manage epoll file descriptor: os error 22",
+            ),
+        ];
+        for (fault, want) in table {
+            assert_eq!(rt; fault.to_string(rt.alloc())?.as_str(), want);
+        }
+        Ok(())
+    }
+}

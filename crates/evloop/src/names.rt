@@ -1,0 +1,107 @@
+//! Event sets by the names of their members.
+
+use bitflags::Flags;
+use std::fmt;
+use vmm_sys::epoll::EventSet;
+
+/// The set that `word` names: `-` is the empty set, and else names are joined by `+`, in any order and
+/// any number of times each. `None` for any other text.
+pub fn event_set(word: &str) -> Option<EventSet> {
+    if word == "-" {
+        return Some(EventSet::empty());
+    }
+    let mut set = EventSet::empty();
+    for name in word.split('+') {
+        set = set.union(<EventSet as Flags>::from_name(name)?);
+    }
+    Some(set)
+}
+
+/// Prints an event set: its names in the order of growing bits joined by `+`, or `-` where it is empty.
+/// Bits without a name are left out.
+#[derive(Clone, Copy)]
+pub struct SetNames(pub EventSet);
+
+impl fmt::Display for SetNames {
+    fn fmt<W: fmt::Write>(&self, f: &mut fmt::Formatter<W>) -> fmt::Result {
+        let mut is_first = true;
+        for (name, _) in self.0.iter_names() {
+            if !is_first {
+                f.write_str("+")?;
+            }
+            f.write_str(name)?;
+            is_first = false;
+        }
+        if is_first {
+            f.write_str("-")?;
+        }
+        Ok(())
+    }
+}
+
+#[cfg(test)]
+mod tests {
+    use super::*;
+    use std::test::Fail;
+
+    const ALL: &str =
+        "IN+PRIORITY+OUT+ERROR+HANG_UP+READ_HANG_UP+EXCLUSIVE+WAKE_UP+ONE_SHOT+EDGE_TRIGGERED";
+
+    const ALL_BACKWARDS: &str =
+        "EDGE_TRIGGERED+ONE_SHOT+WAKE_UP+EXCLUSIVE+READ_HANG_UP+HANG_UP+ERROR+OUT+PRIORITY+IN";
+
+    #[test]
+    fn names_give_their_bits(rt: HostRuntime) {
+        let table = [
+            ("-", 0),
+            ("IN", 0x1),
+            ("PRIORITY", 0x2),
+            ("OUT", 0x4),
+            ("ERROR", 0x8),
+            ("HANG_UP", 0x10),
+            ("READ_HANG_UP", 0x2000),
+            ("EXCLUSIVE", 0x1000_0000),
+            ("WAKE_UP", 0x2000_0000),
+            ("ONE_SHOT", 0x4000_0000),
+            ("EDGE_TRIGGERED", 0x8000_0000),
+            ("IN+OUT", 0x5),
+            ("OUT+IN", 0x5),
+            ("IN+IN", 0x1),
+            ("OUT+IN+OUT", 0x5),
+            (ALL, 0xF000_201F),
+            (ALL_BACKWARDS, 0xF000_201F),
+        ];
+        for (word, bits) in table {
+            let set = event_set(word);
+            assert_eq!(rt; set.map(|set| set.bits()), Some(bits), "{word}");
+        }
+    }
+
+    #[test]
+    fn other_texts_are_no_sets(rt: HostRuntime) {
+        let words = [
+            "", "+", "IN+", "+IN", "IN++OUT", "--", "-+IN", "IN+-", "in", "Out", "IN ", "IN|OUT",
+            "IN,OUT", "RDHUP", "ALL", "0x1", "1", "IN+NONE",
+        ];
+        for word in words {
+            assert_eq!(rt; event_set(word), None, "{word:?}");
+        }
+    }
+
+    #[test]
+    fn sets_are_printed_in_the_order_of_bits(rt: HostRuntime) -> Result<(), Fail> {
+        let table = [
+            (0, "-"),
+            (0x1, "IN"),
+            (0x5, "IN+OUT"),
+            (0x2018, "ERROR+HANG_UP+READ_HANG_UP"),
+            (0x8000_0002, "PRIORITY+EDGE_TRIGGERED"),
+            (0xF000_201F, ALL),
+        ];
+        for (bits, want) in table {
+            let text = SetNames(EventSet::from_bits_retain(bits)).to_string(rt.alloc())?;
+            assert_eq!(rt; text.as_str(), want);
+        }
+        Ok(())
+    }
+}

@@ -1,0 +1,204 @@
+//! The grammar of one line.
+
+ghost use Rattle.std.specs.Prelude.{◌≡◌, ◌≤◌, ◌<◌, ◌↔◌, ◌/◌, ◌^◌, IsTrue, IfSome, IfOk, All, length, codes, Some, vec_len};
+ghost use Rattle.evloop.specs.Name.{IsName, IsNameByte};
+ghost use Rattle.std.specs.Str.Parse.{digits_value};
+ghost use Rattle.vmm_sys.specs.EpollEvent.{low_half_signed};
+
+use crate::names::event_set;
+use crate::number::{descriptor, errno, payload, signed_descriptor};
+use crate::script::Refusal;
+use event_manager::{Events, Request};
+use std::alloc::{AllocError, AllocFailed, Global};
+use vmm_sys::epoll::{ControlOperation, EpollEvent, RawFd};
+
+/// The longest name of a subscriber, in characters.
+const MAX_NAME: usize = 32;
+
+/// What one line says.
+#[derive(Drop)]
+pub(super) enum Line<'a> {
+    /// No word, or a comment.
+    Blank,
+    Sub {
+        name: &'a str,
+        additions: Vec<Events>,
+    },
+    Ask {
+        name: &'a str,
+        requests: Vec<Request>,
+    },
+    Run,
+    Batch(Vec<EpollEvent>),
+    Interrupt,
+    Refuse(Refusal),
+}
+
+/// Why a line can't be taken.
+#[derive(Drop)]
+pub(super) enum LineError {
+    /// The grammar does not have it.
+    Bad,
+    OutOfMemory,
+}
+
+impl From<AllocError> for LineError {
+    fn from(_error: AllocError) -> LineError {
+        LineError::OutOfMemory
+    }
+}
+
+impl<T: Drop> From<AllocFailed<T>> for LineError {
+    fn from(_error: AllocFailed<T>) -> LineError {
+        LineError::OutOfMemory
+    }
+}
+
+/// Reads a line by itself: whether its names are joined is left to the caller.
+pub(super) fn read<'a>(alloc: Global, line: &'a str) -> Result<Line<'a>, LineError> {
+    let words = words(alloc, line)?;
+    match words.as_slice() {
+        [] => Ok(Line::Blank),
+        [first, ..] if first.starts_with('#') => Ok(Line::Blank),
+        ["sub", name, rest @ ..] if is_name(name) => Ok(Line::Sub {
+            name,
+            additions: additions(alloc, rest)?,
+        }),
+        ["ask", name, rest @ ..] if is_name(name) && !rest.is_empty() => Ok(Line::Ask {
+            name,
+            requests: requests(alloc, rest)?,
+        }),
+        ["run"] => Ok(Line::Run),
+        ["batch", items @ ..] => Ok(Line::Batch(events(alloc, items)?)),
+        ["intr"] => Ok(Line::Interrupt),
+        ["refuse", operation, fd, errno] => match refusal(operation, fd, errno) {
+            Some(refusal) => Ok(Line::Refuse(refusal)),
+            None => Err(LineError::Bad),
+        },
+        _ => Err(LineError::Bad),
+    }
+}
+
+// The words of a line: what stands between spaces, tabs and carriage returns.
+fn words<'a>(alloc: Global, line: &'a str) -> Result<Vec<&'a str>, AllocError>
+    ensures { IfOk result (λ words. All (λ word. 0 < length word.now) words.items) }
+{
+    line.split([' ', '\t', '\r'])
+        .filter(|word| !word.is_empty())
+        .collect(alloc)
+}
+
+// An ASCII letter, a digit or an underscore.
+fn is_name_byte(byte: u8) -> bool
+    ensures { IsTrue result ↔ IsNameByte byte }
+{
+    byte.is_ascii_alphanumeric() || byte == b'_'
+}
+
+// Whether the word is a name: 1 to 32 ASCII letters, digits and underscores.
+fn is_name(word: &str) -> bool
+    ensures { IsTrue result ↔ IsName word.now }
+{
+    !word.is_empty() && word.len() <= MAX_NAME && word.bytes().all(is_name_byte)
+}
+
+// A descriptor, a set and data, by their words.
+fn registration(fd: &str, set: &str, data: &str) -> Option<Events>
+    ensures { IfSome result (λ e. (e.fd ≡ digits_value 10 fd.now) × (e.payload ≡ digits_value 10 «data».now)) }
+{
+    let fd = descriptor(fd)?;
+    let set = event_set(set)?;
+    Some(Events::with_data_raw(fd, payload(data)?, set))
+}
+
+// The request that the words begin with, and how many words it takes.
+fn leading_request(words: &[&str]) -> Option<(Request, usize)>
+    ensures { IfSome result (λ p. (0 < p.1) × (p.1 ≤ length words.now)) }
+{
+    match words {
+        ["add", fd, set, data, ..] => Some((Request::Add(registration(fd, set, data)?), 4)),
+        ["modify", fd, set, data, ..] => Some((Request::Modify(registration(fd, set, data)?), 4)),
+        ["remove", fd, ..] => Some((Request::Remove(Events::empty_raw(descriptor(fd)?)), 2)),
+        _ => None,
+    }
+}
+
+// All words as requests.
+fn requests(alloc: Global, words: &[&str]) -> Result<Vec<Request>, LineError> {
+    let mut requests = Vec::new(alloc);
+    let mut at = 0;
+    while at < words.len() {
+        let Some((request, count)) = leading_request(&words[at..]) else {
+            return Err(LineError::Bad);
+        };
+        requests.push(request)?;
+        at += count;
+    }
+    Ok(requests)
+}
+
+// All words as requests to add.
+fn additions(alloc: Global, words: &[&str]) -> Result<Vec<Events>, LineError> {
+    let mut additions = Vec::new(alloc);
+    for request in words.chunks(4) {
+        let ["add", fd, set, data] = request else {
+            return Err(LineError::Bad);
+        };
+        let Some(events) = registration(fd, set, data) else {
+            return Err(LineError::Bad);
+        };
+        additions.push(events)?;
+    }
+    Ok(additions)
+}
+
+// A descriptor and data as the word of an event: the descriptor modulo 2^32 is its low half.
+fn word_of(fd: RawFd, payload: u32) -> u64
+    ensures low { low_half_signed result ≡ fd }
+    ensures high { result / 2 ^ 32 ≡ payload }
+{
+    u64::from(payload) << 32 | u64::from(fd.cast_unsigned())
+}
+
+// A reported event, as `FD:SET:DATA`.
+fn event(item: &str) -> Option<EpollEvent> {
+    let (fd, rest) = item.split_once(':')?;
+    let (set, data) = rest.split_once(':')?;
+    let word = word_of(signed_descriptor(fd)?, payload(data)?);
+    Some(EpollEvent::new(event_set(set)?, word))
+}
+
+// All words as reported events.
+fn events(alloc: Global, items: &[&str]) -> Result<Vec<EpollEvent>, LineError>
+    ensures { IfOk result (λ events. vec_len events ≡ length items.now) }
+{
+    let mut events = Vec::new(alloc);
+    for item in items {
+        let Some(event) = event(item) else {
+            return Err(LineError::Bad);
+        };
+        events.push(event)?;
+    }
+    Ok(events)
+}
+
+fn operation(word: &str) -> Option<ControlOperation>
+    ensures add { (result ≡ Some ControlOperation.Add) ↔ (word.now ≡ codes "add") }
+    ensures modify { (result ≡ Some ControlOperation.Modify) ↔ (word.now ≡ codes "modify") }
+    ensures delete { (result ≡ Some ControlOperation.Delete) ↔ (word.now ≡ codes "delete") }
+{
+    match word {
+        "add" => Some(ControlOperation::Add),
+        "modify" => Some(ControlOperation::Modify),
+        "delete" => Some(ControlOperation::Delete),
+        _ => None,
+    }
+}
+
+fn refusal(word: &str, fd: &str, number: &str) -> Option<Refusal> {
+    Some(Refusal {
+        operation: operation(word)?,
+        fd: descriptor(fd)?,
+        errno: errno(number)?,
+    })
+}
