@@ -11,6 +11,8 @@ pub mod ProjectedExchanges
 pub mod ProjectedSteps
 pub mod ProjectedTrace
 pub mod ProjectionKept
+pub mod Releasing
 pub mod Soundness
 pub mod TreeMaps
 pub mod StepExchangeLemmas
+pub mod Watching

@@ -13,8 +13,10 @@ pub mod ReadyList
 pub mod RegistrationState
 pub mod Registrations
 pub mod Registry
+pub mod Releasing
 pub mod Requests
 pub mod Trace
+pub mod WatchLists
 pub mod ErrorText
 pub mod Manager
 pub mod StepExchanges

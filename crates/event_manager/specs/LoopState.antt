@@ -4,10 +4,11 @@ use Rattle.std.specs.FinMap as map
 use Rattle.vmm_sys.specs.declared.errno.Errno.{Errno}
 use Rattle.event_manager.specs.declared.error.Error.{Error}
 use Rattle.event_manager.specs.declared.error.Error.TheVariants.{InvalidId}
+use Rattle.event_manager.specs.declared.events.Request.{Request}
 use Rattle.event_manager.specs.Event.{Event}
 use Rattle.event_manager.specs.PollerCall.{PollerCall, Wait, Controls, Waits, Leads}
-use Rattle.event_manager.specs.Exchange.{Exchanges}
-use Rattle.event_manager.specs.Registry.{Registry, Step, Steps, Joined, NotJoined, Left, NotLeft, calls_of}
+use Rattle.event_manager.specs.Exchange.{Exchanges, Answer}
+use Rattle.event_manager.specs.Registry.{Registry, Step, Steps, Joined, NotJoined, Left, NotLeft, Requested, NotRequested, calls_of}
 use Rattle.event_manager.specs.Dispatch.{Position, IsDispatch}
 use Rattle.event_manager.specs.Iteration.{AllSteps, calls_of_steps, calls_of_positions, answer_of}
 
@@ -51,6 +52,11 @@ IsJoin value (Err error) step = step ≡ NotJoined value error
 abbrev pub IsLeave : {S : Type 0} → ℕ → Result S Error → Step S → Type 0
 IsLeave id (Ok value) step = (calls : List PollerCall) × (step ≡ Left id value calls)
 IsLeave id (Err error) step = (error ≡ InvalidId) × (step ≡ NotLeft id)
+
+-- the step of one request, by what it answered
+abbrev pub IsRequest : {S : Type 0} → ℕ → Request → Result Answer Error → Step S → Type 0
+IsRequest id request (Ok answer) step = (calls : List PollerCall) × (step ≡ Requested id ((request, answer) ∷ []) calls)
+IsRequest id request (Err error) step = (error ≡ InvalidId) × (step ≡ NotRequested id)
 
 module _ {S P : Type 0} (serves : S → Event → Exchanges → S → Type 0) (controls : Controls P) (waits : Waits P) where
   -- a refused wait changes nothing but the poller; after another its report is dispatched

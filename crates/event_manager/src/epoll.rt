@@ -1,17 +1,20 @@
 //! The registrations beside the poller that keeps the interest list.
 
-ghost use Rattle.std.specs.Prelude.{◌≡◌, ℕ, ◌≤◌, ◌<◌, ◌^◌, length, List, [], ◌∷◌, ◌++◌, false, drop, replicate, OnOk, IfErr, IfOk, IfSome, Result, Bool, IsTrue, ◌↔◌, MatchOption};
+ghost use Rattle.std.specs.Prelude.{◌≡◌, ℕ, ◌≤◌, ◌<◌, ◌^◌, length, List, [], ◌∷◌, ◌++◌, false, drop, replicate, OnOk, IfErr, IfOk, IfSome, Result, Bool, IsTrue, ◌↔◌, MatchOption, All};
 ghost use Rattle.std.specs.FinMap as map;
 ghost use Rattle.event_manager.specs.Event.{Event};
 ghost use Rattle.event_manager.specs.PollerCall.{Control, Wait, Leads};
-ghost use Rattle.event_manager.specs.Registrations.{Owns};
+ghost use Rattle.event_manager.specs.Registrations.{Owns, IsFree};
+ghost use Rattle.event_manager.specs.Registry.{AreOwnedBy, without_owner};
 ghost use Rattle.event_manager.specs.Exchange.{IsVacant};
 ghost use Rattle.event_manager.specs.ReadyList.{event_of_entry, ready_of};
 ghost use Rattle.event_manager.specs.RegistrationState.{registrations_of, cancel_on, HasWaited};
+ghost use Rattle.event_manager.specs.Releasing.{IsWithout, HasReleased};
 ghost use Rattle.vmm_sys.specs.declared.errno.Errno.{Errno};
 
 use crate::events::Events;
 use crate::poller::EventPoller;
+use crate::watch_lists::WatchLists;
 use crate::{Error, Result};
 use std::alloc::{AllocError, Global};
 use std::collections::BTreeMap;
@@ -41,6 +44,15 @@ fn cancel_entries(buffer: &[EpollEvent], cancelled: &mut [bool], at: usize, coun
     }
 }
 
+/// Takes the descriptors out of the map.
+fn remove_all(owner: &mut BTreeMap<u32, u64>, fds: &[u32])
+    ensures { IsWithout fds.now owner.old owner.new }
+{
+    for fd in fds {
+        let _ = owner.remove(fd);
+    }
+}
+
 /// Clears the first `count` marks.
 fn clear_marks(cancelled: &mut [bool], count: usize)
     requires { count ≤ length cancelled.old }
@@ -56,10 +68,11 @@ pub(crate) struct ReadyEntry {
     pub(crate) cancelled: bool,
 }
 
-/// Who owns which descriptor, and what is still to come of the current batch.
+/// Who owns which descriptor, both ways, and what is still to come of the current batch.
 #[derive(Drop)]
 pub(crate) struct Registrations {
     owner: BTreeMap<u32, u64>,
+    watched: WatchLists,
     endpoint: u32,
     buffer: Vec<EpollEvent>,
     cancelled: Vec<bool>,
@@ -73,6 +86,7 @@ impl Model for Registrations {
     ghost use Rattle.std.specs.FinMap as map;
     ghost use Rattle.event_manager.specs.RegistrationState.{RegistrationState, registration_state_code};
     ghost use Rattle.event_manager.specs.ReadyList.{ready_of, AreDescriptors};
+    ghost use Rattle.event_manager.specs.WatchLists.{AreWatched};
 
     ghost Value = { RegistrationState };
 
@@ -85,7 +99,7 @@ impl Model for Registrations {
       ready = ready_of b.buffer.items b.cancelled.items b.at b.count;
     } };
 
-    ghost invariant = { λ b. (b.at ≤ b.count) × (b.count ≤ vec_len b.buffer) × (vec_len b.cancelled ≡ vec_len b.buffer) × AreDescriptors b.owner };
+    ghost invariant = { λ b. (b.at ≤ b.count) × (b.count ≤ vec_len b.buffer) × (vec_len b.cancelled ≡ vec_len b.buffer) × AreDescriptors b.owner × AreWatched b.owner b.watched };
 }
 
 impl Registrations {
@@ -101,6 +115,7 @@ impl Registrations {
         let cancelled = vec![in alloc; false; capacity]?;
         Ok(Registrations {
             owner: BTreeMap::new(alloc),
+            watched: WatchLists::new(alloc),
             endpoint,
             buffer,
             cancelled,
@@ -136,23 +151,46 @@ impl Registrations {
         }
     }
 
-    /// Enters the id as the owner of the descriptor.
+    /// Enters the id as the owner of the descriptor, and the descriptor in its watch list. Where memory is refused,
+    /// both stay as they were.
     pub(crate) fn register(&mut self, events: Events, id: u64) -> Result<()>
+        requires { IsFree (registrations_of self.old) events.fd }
         ensures ok { OnOk result (self.new ≡ record self.old { owner = map.insert self.old.owner events.fd id }) }
         ensures err { IfErr result (λ e. (e ≡ Error.OutOfMemory) × (self.new ≡ self.old)) }
     {
-        match self.owner.insert(events.number(), id) {
+        let fd = events.number();
+        match self.owner.insert(fd, id) {
             Ok(_) => {}
             Err(_) => return Err(Error::OutOfMemory),
         }
-        Ok(())
+        match self.watched.push(id, fd) {
+            Ok(()) => Ok(()),
+            Err(_) => {
+                let _ = self.owner.remove(&fd);
+                Err(Error::OutOfMemory)
+            }
+        }
     }
 
-    /// Frees the descriptor.
-    pub(crate) fn unregister(&mut self, events: Events)
+    /// Frees a descriptor of the id's. Takes no memory.
+    pub(crate) fn unregister(&mut self, events: Events, id: u64)
+        requires { Owns id (registrations_of self.old) events.fd }
         ensures { self.new ≡ record self.old { owner = map.remove self.old.owner events.fd } }
     {
-        let _ = self.owner.remove(&events.number());
+        let fd = events.number();
+        let _ = self.owner.remove(&fd);
+        self.watched.remove(id, fd);
+    }
+
+    /// Frees all descriptors of the id, and answers them in the order in which they were added. Takes no memory.
+    pub(crate) fn take_watched(&mut self, id: u64) -> Vec<u32>
+        ensures owned { AreOwnedBy id (registrations_of self.old) result.items }
+        ensures are_descriptors { All (λ fd. fd < 2 ^ 31) result.items }
+        ensures freed { self.new ≡ record self.old { owner = without_owner id self.old.owner } }
+    {
+        let fds = self.watched.take(id);
+        remove_all(&mut self.owner, &fds);
+        fds
     }
 
     /// Cancels the events on the descriptor that are still to come.
@@ -241,5 +279,17 @@ impl<P: EventPoller> EpollWrapper<P> {
         ensures led { Leads P.controls P.waits self.old.poller (Control op events.fd events result ∷ []) self.new.poller }
     {
         self.poller.control(op, events.number(), events)
+    }
+
+    /// Frees all descriptors of the id, and asks the poller one Delete for each, in the order in which they were added
+    /// and whatever it answers. Takes no memory, and time in the descriptors of this id alone.
+    pub(crate) fn release(&mut self, id: u64)
+        ensures { HasReleased P.controls P.waits self.old self.new id }
+    {
+        let fds = self.registrations.take_watched(id);
+        for fd in &fds {
+            let event = Events::empty_raw(0);
+            let _ = self.poller.control(ControlOperation::Delete, *fd, event);
+        }
     }
 }

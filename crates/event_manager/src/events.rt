@@ -185,7 +185,7 @@ impl<'a, P: EventPoller> EventOps<'a, P> {
         match epoll.ctl(ControlOperation::Add, events) {
             Ok(()) => Ok(()),
             Err(e) => {
-                epoll.registrations.unregister(events);
+                epoll.registrations.unregister(events, self.id);
                 Err(Error::Epoll(e))
             }
         }
@@ -222,7 +222,7 @@ impl<'a, P: EventPoller> EventOps<'a, P> {
         }
         match epoll.ctl(ControlOperation::Delete, events) {
             Ok(()) => {
-                epoll.registrations.unregister(events);
+                epoll.registrations.unregister(events, self.id);
                 epoll.registrations.cancel(events);
                 Ok(())
             }

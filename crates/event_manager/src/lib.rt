@@ -14,7 +14,10 @@ pub mod jobs;
 pub mod laws;
 pub mod manager;
 pub mod poller;
+#[cfg(test)]
+mod subscriber_tests;
 pub mod subscribers;
+mod watch_lists;
 pub mod wrappers;
 
 pub use boxed_subscriber::{BoxedSubscriber, StepInput, StepSubscriber};

@@ -4,11 +4,11 @@ ghost use Rattle.std.specs.Prelude.{◌≡◌, ℕ, negsuc, IfErr, IfOk};
 ghost use Rattle.std.specs.Borrow.{sem, LendsSoOk};
 ghost use Rattle.event_manager.specs.Registry.{Step, HasId, LacksId};
 ghost use Rattle.event_manager.specs.Requests.{StandsFor};
-ghost use Rattle.event_manager.specs.LoopState.{HasStepped, IsJoin, IsLoopIteration, with_value};
+ghost use Rattle.event_manager.specs.LoopState.{HasStepped, IsJoin, IsLeave, IsRequest, IsLoopIteration, with_value};
 ghost use Rattle.event_manager.specs.Subscribers.{loop_state};
 ghost use Rattle.event_manager.specs.Manager.{state_of, endpoint_of, IsMade};
 
-use crate::events::{EventOps, Events};
+use crate::events::{EventOps, Events, Request};
 use crate::poller::{BoxedPoller, EventPoller};
 use crate::subscribers::{MutEventSubscriber, Registry, SubscriberId};
 use crate::{Error, Result};
@@ -49,6 +49,15 @@ pub trait SubscriberOps {
         ensures { (step : Step Self.Subscriber) × IsJoin subscriber result step
             × HasStepped Self.Subscriber.begins Self.Poller.controls Self.Poller.waits (seen self.old) step (seen self.new) };
 
+    /// Takes the subscriber of the id out, and answers it. The poller is asked one Delete (with the empty set, data 0 and
+    /// descriptor 0 as event) for each of its descriptors; the answers are ignored, and all its descriptors are free.
+    /// The id is never given again. Takes no memory.
+    ///
+    /// `InvalidId` where there is none.
+    fn remove_subscriber(&mut self, id: SubscriberId) -> Result<Self::Subscriber>
+        ensures { (step : Step Self.Subscriber) × IsLeave id result step
+            × HasStepped Self.Subscriber.begins Self.Poller.controls Self.Poller.waits (seen self.old) step (seen self.new) };
+
     /// Lends the subscriber of the id. Takes no memory. `InvalidId` where there is none.
     fn subscriber_mut(&mut self, id: SubscriberId) -> Result<&mut Self::Subscriber>
         ensures* lent { sem 𝓛 (LendsSoOk Self.row Self.Subscriber.row self.entry result (λ n w. seen n ≡ with_value (seen self.old) id w) (λ n. seen n ≡ seen self.old)) }
@@ -59,6 +68,14 @@ pub trait SubscriberOps {
     fn event_ops(&mut self, id: SubscriberId) -> Result<EventOps<Self::Poller>>
         ensures found { IfOk result (λ ops. StandsFor ops id (seen self.old)) }
         ensures lost { IfErr result (λ e. (e ≡ Error.InvalidId) × LacksId (seen self.old).registry id) };
+
+    /// Makes one request under the id, as its [`EventOps`] does: the inner result is the answer to the request. Here a
+    /// caller also knows what becomes of the subscribers and registrations.
+    ///
+    /// `InvalidId` where no subscriber has the id; then the poller isn't asked.
+    fn request(&mut self, id: SubscriberId, request: Request) -> Result<Result<()>>
+        ensures { (step : Step Self.Subscriber) × IsRequest id request result step
+            × HasStepped Self.Subscriber.begins Self.Poller.controls Self.Poller.waits (seen self.old) step (seen self.new) };
 }
 
 impl<S: MutEventSubscriber + Drop, P: EventPoller> SubscriberOps for Registry<S, P> {
@@ -70,6 +87,10 @@ impl<S: MutEventSubscriber + Drop, P: EventPoller> SubscriberOps for Registry<S,
 
     fn add_subscriber(&mut self, subscriber: S) -> Result<SubscriberId> {
         self.join(subscriber)
+    }
+
+    fn remove_subscriber(&mut self, id: SubscriberId) -> Result<S> {
+        self.leave(id.number())
     }
 
     fn subscriber_mut(&mut self, id: SubscriberId) -> Result<&mut S> {
@@ -88,6 +109,18 @@ impl<S: MutEventSubscriber + Drop, P: EventPoller> SubscriberOps for Registry<S,
             });
         }
         Err(Error::InvalidId)
+    }
+
+    fn request(&mut self, id: SubscriberId, request: Request) -> Result<Result<()>> {
+        let id = id.number();
+        if !self.subscribers.contains_key(&id) {
+            return Err(Error::InvalidId);
+        }
+        let mut ops = EventOps {
+            epoll: &mut self.epoll,
+            id,
+        };
+        Ok(ops.request(request))
     }
 }
 
@@ -179,11 +212,19 @@ impl<S: MutEventSubscriber + Drop, P: EventPoller> SubscriberOps for EventManage
         self.registry.add_subscriber(subscriber)
     }
 
+    fn remove_subscriber(&mut self, id: SubscriberId) -> Result<S> {
+        self.registry.remove_subscriber(id)
+    }
+
     fn subscriber_mut(&mut self, id: SubscriberId) -> Result<&mut S> {
         self.registry.subscriber_mut(id)
     }
 
     fn event_ops(&mut self, id: SubscriberId) -> Result<EventOps<P>> {
         self.registry.event_ops(id)
+    }
+
+    fn request(&mut self, id: SubscriberId, request: Request) -> Result<Result<()>> {
+        self.registry.request(id, request)
     }
 }

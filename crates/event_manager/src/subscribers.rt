@@ -8,7 +8,7 @@ ghost use Rattle.event_manager.specs.Exchange.{Exchanges};
 ghost use Rattle.event_manager.specs.Registry.{Step, HasId, LacksId};
 ghost use Rattle.event_manager.specs.RegistrationState.{all_pending};
 ghost use Rattle.event_manager.specs.Requests.{AreMadeThrough};
-ghost use Rattle.event_manager.specs.LoopState.{HasStepped, IsJoin, IsLoopIteration, new_loop};
+ghost use Rattle.event_manager.specs.LoopState.{HasStepped, IsJoin, IsLeave, IsLoopIteration, new_loop};
 ghost use Rattle.event_manager.specs.Subscribers.{TakesPosition, IsDispatched, loop_state};
 
 use crate::epoll::{EpollWrapper, Registrations};
@@ -126,6 +126,23 @@ impl<S: MutEventSubscriber, P: EventPoller> Registry<S, P> {
         })
     }
 
+    /// As [`new`](Registry::new), with another next id.
+    #[cfg(test)]
+    pub(crate) fn with_next_id(
+        alloc: Global,
+        poller: P,
+        endpoint: u32,
+        capacity: usize,
+        next: u64,
+    ) -> std::result::Result<Self, AllocError>
+    where
+        P: Drop,
+    {
+        let mut registry = Registry::new(alloc, poller, endpoint, capacity)?;
+        registry.next = next;
+        Ok(registry)
+    }
+
     /// Takes one position of the batch: hands its event to the owner of its descriptor, where there is one and the
     /// event isn't cancelled. False where no position is left.
     fn dispatch_next(&mut self) -> bool
@@ -204,5 +221,19 @@ impl<S: MutEventSubscriber, P: EventPoller> Registry<S, P> {
         held.init(&mut ops);
         self.next += 1;
         Ok(SubscriberId { number: id })
+    }
+
+    /// Lets the subscriber of the id go, with all its descriptors. Takes no memory.
+    pub(crate) fn leave(&mut self, id: u64) -> Result<S>
+        ensures { (step : Step S) × IsLeave id result step
+            × HasStepped S.begins P.controls P.waits (loop_state self.old) step (loop_state self.new) }
+    {
+        match self.subscribers.remove(&id) {
+            Some(subscriber) => {
+                self.epoll.release(id);
+                Ok(subscriber)
+            }
+            None => Err(Error::InvalidId),
+        }
     }
 }

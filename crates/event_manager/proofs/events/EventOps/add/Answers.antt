@@ -3,8 +3,8 @@ use Rattle.vmm_sys.specs.declared.epoll.ControlOperation.TheVariants as operatio
 use Rattle.event_manager.specs.Exchange.{by_manager, by_poller, by_agreement}
 use Rattle.event_manager.specs.PollerCall.{Control}
 use Rattle.event_manager.specs.declared.events.Request.TheVariants.{Add}
-use Rattle.std.specs.FinMap.{remove}
-use Rattle.event_manager.proofs.TreeMaps.{remove_insert, with_owner}
+use Rattle.std.specs.FinMap.{remove, get}
+use Rattle.event_manager.proofs.TreeMaps.{remove_insert, with_owner, get_same}
 use Rattle.event_manager.proofs.ExchangeLemmas.{one_made_through, kept, refused_by_manager, cancel_removed_other}
 use Rattle.event_manager.specs.RegistrationState.{RegistrationState, registrations_of}
 use Rattle.event_manager.proofs.events.EventOps.add.Goals as goal
@@ -37,3 +37,8 @@ returns-in-Err-ctl g c =
     let same = c.unregister.ensures ∙ ap (λ (b : RegistrationState). record b { owner = remove b.owner c.args.events.fd }) (c.ctl.ensures.registrations ∙ c.in-Ok-register.ensures.ok)
     ∙ with_owner s _ _ (remove_insert s.owner c.args.events.fd c.args.self.now.id vacant.0) in
     (Control operation.Add c.args.events.fd c.args.events (Err c.in-Err-ctl.e) ∷ [], kept refl refl same (λ fd. refl) (by_poller c.in-Err-ctl.e.0 vacant refl refl refl) led)
+
+pub unregister-requires : goal.unregister-requires
+unregister-requires g c =
+    let s = c.args.self.now.epoll.now.registrations in
+    ap (λ (b : RegistrationState). get b.owner c.args.events.fd) (c.ctl.ensures.registrations ∙ c.in-Ok-register.ensures.ok) ∙ get_same s.owner c.args.events.fd c.args.self.now.id
