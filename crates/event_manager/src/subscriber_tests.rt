@@ -10,9 +10,12 @@ use crate::subscribers::{MutEventSubscriber, Registry, SubscriberId};
 use crate::{Error, Result};
 use std::alloc::{AllocError, Global};
 use std::process::Abort;
+use std::sync::Wait;
 use std::test::Fail;
-use vmm_sys::epoll::{ControlOperation, EpollEvent, EventSet};
+use std::time::Clock;
+use vmm_sys::epoll::{ControlOperation, Epoll, EpollEvent, EventSet};
 use vmm_sys::errno::Errno;
+use vmm_sys::eventfd::EventFd;
 use vmm_sys::poller::Poller;
 use vmm_sys::script_poller::ScriptPoller;
 
@@ -175,7 +178,7 @@ fn leaving_frees_whatever_the_poller_answers(rt: HostRuntime) -> std::result::Re
     let mut script = ScriptPoller::new(alloc);
     script.push_refusal(ControlOperation::Delete, 4, Errno(22))?;
     let poller: Box<dyn Poller + Send> = Box::new(alloc, script)?;
-    let mut manager: EventManager<Pair> = EventManager::new(alloc, BoxedPoller(poller), 9)?;
+    let mut manager: EventManager<Pair> = EventManager::new(alloc, BoxedPoller(poller), endpoint_9(&rt, alloc)?)?;
     let id = manager.add_subscriber(make_pair(3, 4))?;
     let neighbour = manager.add_subscriber(make_pair(5, 6))?;
     let taken = Err(Error::FdAlreadyRegistered);
@@ -225,6 +228,21 @@ fn requests_and_answers() -> [(Request, Result<()>); 14] {
     ]
 }
 
+/// A counter of descriptor 9, in a table that nobody polls.
+fn endpoint_9<R: Wait + Clock + Clone + Send + Drop>(
+    rt: &R,
+    alloc: Global,
+) -> std::result::Result<EventFd, Errno> {
+    let Ok(handle) = rt.clone() else {
+        return Err(Errno::ENOMEM);
+    };
+    let epoll = Epoll::new(handle, alloc)?;
+    for _ in 0..9 {
+        EventFd::new(&epoll, 0, rt)?;
+    }
+    EventFd::new(&epoll, 0, rt)
+}
+
 /// The script of the poller of [`requests_and_answers`].
 fn refusing_script(alloc: Global) -> std::result::Result<ScriptPoller, Errno> {
     let mut script = ScriptPoller::new(alloc);
@@ -238,7 +256,7 @@ fn refusing_script(alloc: Global) -> std::result::Result<ScriptPoller, Errno> {
 fn a_request_is_answered_by_the_table(rt: HostRuntime) -> std::result::Result<(), Fail> {
     let alloc = rt.alloc();
     let poller: Box<dyn Poller + Send> = Box::new(alloc, refusing_script(alloc)?)?;
-    let mut manager: EventManager<Pair> = EventManager::new(alloc, BoxedPoller(poller), 9)?;
+    let mut manager: EventManager<Pair> = EventManager::new(alloc, BoxedPoller(poller), endpoint_9(&rt, alloc)?)?;
     let id = manager.add_subscriber(make_pair(3, 4))?;
     let _ = manager.add_subscriber(make_pair(5, 6))?;
     expect_answers(&rt, &mut manager, id, &requests_and_answers());
@@ -249,7 +267,7 @@ fn a_request_is_answered_by_the_table(rt: HostRuntime) -> std::result::Result<()
 fn event_ops_answers_by_the_same_table(rt: HostRuntime) -> std::result::Result<(), Fail> {
     let alloc = rt.alloc();
     let poller: Box<dyn Poller + Send> = Box::new(alloc, refusing_script(alloc)?)?;
-    let mut manager: EventManager<Pair> = EventManager::new(alloc, BoxedPoller(poller), 9)?;
+    let mut manager: EventManager<Pair> = EventManager::new(alloc, BoxedPoller(poller), endpoint_9(&rt, alloc)?)?;
     let id = manager.add_subscriber(make_pair(3, 4))?;
     let _ = manager.add_subscriber(make_pair(5, 6))?;
     for (request, answer) in requests_and_answers() {
