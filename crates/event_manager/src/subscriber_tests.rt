@@ -178,7 +178,11 @@ fn leaving_frees_whatever_the_poller_answers(rt: HostRuntime) -> std::result::Re
     let mut script = ScriptPoller::new(alloc);
     script.push_refusal(ControlOperation::Delete, 4, Errno(22))?;
     let poller: Box<dyn Poller + Send> = Box::new(alloc, script)?;
-    let mut manager: EventManager<Pair> = EventManager::new(alloc, BoxedPoller(poller), endpoint_9(&rt, alloc)?)?;
+    let mut manager: EventManager<Pair> = EventManager::new(
+        alloc,
+        BoxedPoller(poller),
+        endpoint_9(&rt, alloc)?,
+    )?;
     let id = manager.add_subscriber(make_pair(3, 4))?;
     let neighbour = manager.add_subscriber(make_pair(5, 6))?;
     let taken = Err(Error::FdAlreadyRegistered);
@@ -256,7 +260,11 @@ fn refusing_script(alloc: Global) -> std::result::Result<ScriptPoller, Errno> {
 fn a_request_is_answered_by_the_table(rt: HostRuntime) -> std::result::Result<(), Fail> {
     let alloc = rt.alloc();
     let poller: Box<dyn Poller + Send> = Box::new(alloc, refusing_script(alloc)?)?;
-    let mut manager: EventManager<Pair> = EventManager::new(alloc, BoxedPoller(poller), endpoint_9(&rt, alloc)?)?;
+    let mut manager: EventManager<Pair> = EventManager::new(
+        alloc,
+        BoxedPoller(poller),
+        endpoint_9(&rt, alloc)?,
+    )?;
     let id = manager.add_subscriber(make_pair(3, 4))?;
     let _ = manager.add_subscriber(make_pair(5, 6))?;
     expect_answers(&rt, &mut manager, id, &requests_and_answers());
@@ -267,7 +275,11 @@ fn a_request_is_answered_by_the_table(rt: HostRuntime) -> std::result::Result<()
 fn event_ops_answers_by_the_same_table(rt: HostRuntime) -> std::result::Result<(), Fail> {
     let alloc = rt.alloc();
     let poller: Box<dyn Poller + Send> = Box::new(alloc, refusing_script(alloc)?)?;
-    let mut manager: EventManager<Pair> = EventManager::new(alloc, BoxedPoller(poller), endpoint_9(&rt, alloc)?)?;
+    let mut manager: EventManager<Pair> = EventManager::new(
+        alloc,
+        BoxedPoller(poller),
+        endpoint_9(&rt, alloc)?,
+    )?;
     let id = manager.add_subscriber(make_pair(3, 4))?;
     let _ = manager.add_subscriber(make_pair(5, 6))?;
     for (request, answer) in requests_and_answers() {
