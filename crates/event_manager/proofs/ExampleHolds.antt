@@ -1,4 +1,4 @@
--- The example is a run.
+-- The example is a trace.
 use Rattle.std.proofs.Common.{◌≡◌, ℕ, true≢false, refl, ap, [], ◌∷◌, Some, None, Ok, lit<, nat_cmp, ◌==◌}
 use Rattle.std.specs.FinMap.{get, insert, remove, empty, get-empty, get-insert, get-remove}
 use Rattle.std.specs.Cmp.{nat_cmp_total}

@@ -31,7 +31,7 @@ frees_answer i (Some j) = elim (j == i) as (λ b. cond (not b) (Some j) None ≡
 pub frees_exactly : (i : ℕ) (registrations : Registrations) → FreesExactly i registrations (record registrations { owner = without_owner i registrations.owner })
 frees_exactly i registrations fd = get-without_owner i registrations.owner fd ∙ frees_answer i (get registrations.owner fd)
 
--- what j has of a registrations
+-- what j has of the registrations
 pub record IsKept (j : ℕ) (before after : Registrations) : Type 0 where
   pub same : (fd : ℕ) → is_id j (get after.owner fd) ≡ is_id j (get before.owner fd)
   pub same_pending : pending_of j after ≡ pending_of j before

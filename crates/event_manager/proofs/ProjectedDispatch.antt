@@ -1,4 +1,4 @@
--- A dispatch, seen by one id alone.
+-- The projection of a dispatch.
 use Rattle.std.proofs.Common.{◌≡◌, ◌≢◌, ℕ, Bool, true, false, ◌||◌, refl, sym, ◌∙◌, ap, subst, Some, inl, inr, nat_cmp, List, [], ◌∷◌, ◌++◌, map, true≢false, if◌then◌else◌, eq-eqb}
 use Rattle.std.specs.FinMap.{FinMap, get}
 use Rattle.std.proofs.lemmas.Bool.Decides.{eqb_tells}
@@ -12,7 +12,7 @@ use Rattle.event_manager.proofs.FiniteMaps.{only_outcome-insert_own, only_outcom
 use Rattle.event_manager.proofs.ProjectedExchanges.{IsMine, own_exchanges, other_exchanges, owned_projected, owned_from_projected, projected_is_own, or_assoc, calls_first, calls_then, adds_first, adds_then}
 use Rattle.event_manager.proofs.ProjectedSteps.{has_projected, has_from_projected}
 
--- the real positions and those of the projected run: those on descriptors of i's are in both, in one
+-- the positions and those of the projection: those on descriptors of i's are in both, in one
 -- order; of the others each list has its own
 pub data Woven {V : Type 0} (i : ℕ) (mine : ℕ → Bool) : List (Position V) → List (Position V) → Type 0 where
   ends : Woven i mine [] []
@@ -20,7 +20,7 @@ pub data Woven {V : Type 0} (i : ℕ) (mine : ℕ → Bool) : List (Position V) 
   skipped : (d : Position V) {a b : List (Position V)} → mine d.event.fd ≡ false → Woven i mine a b → Woven i mine (d ∷ a) b
   added : (d : Position V) {a b : List (Position V)} → mine d.event.fd ≡ false → only_outcome i d.outcome ≡ Nobody → Woven i mine a b → Woven i mine a (only_position i d ∷ b)
 
--- the registry alone, with these events pending
+-- the projected registry, with these events pending
 abbrev projected_with : {V : Type 0} → ℕ → ℕ → List Event → Registry V → Registry V
 projected_with i n pending r = record { values = only_values i r.values; next = n; registrations = projected_registrations i pending r.registrations }
 
@@ -118,7 +118,7 @@ module _ {V : Type 0} (serves : V → Event → Exchanges → V → Type 0) (i :
             }
       ]
 
-  -- one position that the projected run alone has
+  -- one position that only the projection has
   one_added : (before : Registry V) (pending : List Event) (removed : List (Position V)) (e : Event) (later : List Event) → mine e.fd ≡ false → IsMine i mine before.registrations.owner → IsOutcome serves (projected_with i n pending before) removed e later Nobody (projected_with i n (still_pending removed later) before)
   one_added before pending removed e later there m = (
     (λ j v for. true≢false (sym (m.own e.fd (owned_from_projected i before.registrations.owner e.fd (subst (λ k. get (owned_by i before.registrations.owner) e.fd ≡ Some k) (projected_is_own i j before.registrations.owner e.fd for.0) for.0))) ∙ there)),
@@ -194,7 +194,7 @@ module _ {V : Type 0} (serves : V → Event → Exchanges → V → Type 0) (i :
       let p = first (mine d.event.fd) refl in
       (p.0, foreign_positions mid (earlier ++ d ∷ []) real after p.1 (λ fd t. claimed fd (calls_then fd (outcome_exchanges i d.outcome) (positions_exchanges i real) t)) (λ fd j differ t. foreign fd j differ (adds_then fd (outcome_exchanges j d.outcome) (positions_exchanges j real) t)) more)
 
-  -- where the projected run positions in the order of the run
+  -- where the projection is in the order of the trace
   pub woven_alike : (real : List (Position V)) → Foreign real → Woven i mine real (map (only_position i) real)
   unfolding Foreign
   woven_alike [] f = ends

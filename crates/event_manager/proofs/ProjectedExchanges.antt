@@ -1,4 +1,4 @@
--- What a exchanges of one id does, seen alone; what a neighbour's does.
+-- The projection of one id's exchanges, and of a neighbour's.
 use Rattle.std.proofs.Common.{◌≡◌, ◌≢◌, ℕ, cond, Bool, true, false, ◌||◌, refl, sym, ◌∙◌, ap, subst, arith, Some, None, Option, inl, inr, nat_cmp, Err, List, [], ◌∷◌, ◌++◌, true≢false, if◌then◌else◌, ◌==◌, eq-eqb}
 use Rattle.std.specs.FinMap.{FinMap, get, insert, remove, get-insert, get-remove}
 use Rattle.std.specs.Cmp.{nat_cmp_total}
@@ -34,7 +34,7 @@ owned_from_projected i owner fd e = own_answer i (get owner fd) (sym (get-owned_
 pub owned_projected : (i : ℕ) (owner : FinMap nat_cmp ℕ) (fd : ℕ) → get owner fd ≡ Some i → get (owned_by i owner) fd ≡ Some i
 owned_projected i owner fd e = get-owned_by i owner fd ∙ own_stays i (get owner fd) e
 
--- alone, no one else owns anything
+-- in the projection no one else owns anything
 projected_answer : (i j : ℕ) (o : Option ℕ) → cond (is_id i o) o None ≡ Some j → j ≡ i
 projected_answer i j None e = cc
 projected_answer i j (Some k) e = grind (arith, nat_tests)

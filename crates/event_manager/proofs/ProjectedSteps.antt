@@ -1,4 +1,4 @@
--- A step of one id, seen alone; a step of another.
+-- The projection of one id's step, and of another's.
 use Rattle.std.proofs.Common.{◌≡◌, ◌≢◌, ℕ, ◌+◌, ◌<◌, ◌≤◌, ◌==◌, cond, Bool, true, false, not, refl, sym, ◌∙◌, ap, ap₂, subst, arith, Some, None, Option, inl, inr, nat_cmp, List, [], true≢false, if◌then◌else◌, eq-eqb, eqb-true, le_of_eq}
 use Rattle.std.specs.FinMap.{FinMap, get}
 use Rattle.std.proofs.lemmas.Bool.Decides.{eqb_tells}
@@ -24,7 +24,7 @@ from_disowned j owner fd k h = disowned_answer k j (get owner fd) (sym (get-with
 pub mine-without_owner : (i j : ℕ) (mine : ℕ → Bool) (owner : FinMap nat_cmp ℕ) → IsMine i mine owner → IsMine i mine (without_owner j owner)
 mine-without_owner i j mine owner m = record { own = λ q h. m.own q (from_disowned j owner q i h); other = λ q k differ h. m.other q k differ (from_disowned j owner q k h) }
 
--- values, alone
+-- projected values
 pub has_projected : {V : Type 0} (i : ℕ) (values : FinMap nat_cmp V) (v : V) → get values i ≡ Some v → get (only_values i values) i ≡ Some v
 has_projected i values v h = get_only i values i ∙ ap (λ b. cond b (get values i) None) (eq-eqb i i refl) ∙ h
 

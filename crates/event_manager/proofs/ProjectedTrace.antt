@@ -1,4 +1,4 @@
--- A run, seen by one id alone: the projected law.
+-- The projection of a trace is a trace: non-interference.
 use Rattle.std.proofs.Common.{◌≡◌, ◌≢◌, ℕ, ◌+◌, ◌≤◌, Bool, true, false, ◌||◌, refl, sym, ◌∙◌, ap, subst, Some, None, Option, ◌⊎◌, inl, inr, List, [], ◌∷◌, map, true≢false, if◌then◌else◌, eq-eqb, eqb-true, le-ltb, le_of_eq, arith, Ok, Err, Result}
 use Rattle.std.specs.FinMap.{get}
 use Rattle.event_manager.specs.Event.{Event}
@@ -47,7 +47,7 @@ module _ {V J R : Type 0} (begins : V → Exchanges → V → Type 0) (serves : 
     abbrev Apart : (ℕ → Exchanges) → Type 0
     Apart exchanges = (fd : ℕ) (j : ℕ) → j ≢ i → adds fd (exchanges j) ≡ true → mine fd ≡ false
 
-    -- a iteration
+    -- an iteration
     record TurnAlone (n : ℕ) (before : ManagerState V) (waited : Result (List Event) Errno) (positions : List (Position V)) (jobs : List (JobRun V J R)) (after : ManagerState V) : Type 0 where
       fits : IsAfterWait begins serves may (projected_state i n before) waited (map (only_position i) positions) jobs (projected_state i n after)
       still : IsMine i mine after.registry.registrations.owner

@@ -1,4 +1,4 @@
--- What the projected run keeps of i.
+-- What the projection keeps of i.
 use Rattle.std.proofs.Common.{◌≡◌, ℕ, ◌==◌, cond, true, false, refl, sym, ◌∙◌, ap, ap₂, List, [], ◌∷◌, ◌++◌, map, if◌then◌else◌, eq-eqb, true≢false, None}
 use Rattle.std.specs.FinMap.{get}
 use Rattle.event_manager.specs.Event.{Event}
@@ -44,7 +44,7 @@ unnamed_exchanges i (Requested id exchanges calls) e = ap (λ b. if b then excha
 unnamed_exchanges i (NotRequested id) e = refl
 
 module _ {V J R : Type 0} where
-  -- a effect that stays, and one that doesn't
+  -- an effect that stays, and one that doesn't
   exchanges_kept : (i : ℕ) (effect : Effect V J R) → effect_exchanges i (projected_effect i effect) ≡ effect_exchanges i effect
   exchanges_kept i (Stepped step) = refl
   exchanges_kept i (Iterated iteration) = all_exchanges_alike i iteration.positions

@@ -1,4 +1,4 @@
--- What holds of every state that a run reaches, and of the ids that it gives.
+-- What holds of every state that a trace reaches, and of the ids that it gives.
 use Rattle.std.proofs.Common.{◌≡◌, ◌≢◌, ℕ, ◌+◌, ◌<◌, ◌==◌, cond, Bool, true, false, not, refl, sym, ◌∙◌, ap, subst, Some, None, Option, ◌⊎◌, inl, inr, nat_cmp, List, [], ◌∷◌, ◌++◌, true≢false, eq-eqb, arith, Ok, Err, Result, append_assoc, lt_irrefl, is_eq, Equal}
 use Rattle.std.specs.FinMap.{FinMap, get, insert, remove, get-insert, get-remove, get-empty}
 use Rattle.std.specs.Cmp.{nat_cmp_total, nat_cmp_is}
@@ -19,7 +19,7 @@ use Rattle.event_manager.proofs.FiniteMaps.{fd_tells, get-without_owner}
 use Rattle.event_manager.proofs.ProjectedSteps.{from_disowned}
 use Rattle.event_manager.proofs.Isolation.{insert_other_value, remove_other_value}
 
--- what a exchanges of id i does to the owners
+-- what the exchanges of id i do to the owners
 record OwnersAfter (i : ℕ) (before after : Registrations) : Type 0 where
   from : (fd : ℕ) (j : ℕ) → Owns j after fd → Owns j before fd ⊎ (j ≡ i)
   endpoint_free : IsFree before before.endpoint → IsFree after after.endpoint
@@ -119,7 +119,7 @@ module _ {V : Type 0} where
   sound_at : (before made : Registry V) → before ≡ made → IsSound made → IsSound before
   sound_at before made e s = subst (λ (r : Registry V). IsSound r) (sym e) s
 
-  -- an id in the map exchanges, and holds a value after it
+  -- an id in the map has exchanges, and holds a value after them
   sound_exchanges : (before : Registry V) (i next : ℕ) (held : V) (exchanges : Exchanges) (calls : List PollerCall) (from registrations : Registrations) → IsSound before → from.owner ≡ before.registrations.owner → from.endpoint ≡ before.registrations.endpoint → (i < next) → (before.next < next + 1) → ExchangesFit i from exchanges calls registrations → IsSound (record { values = insert before.values i held; next = next; registrations = registrations })
   sound_exchanges before i next held exchanges calls from registrations s same same_end below up fits =
       let o = owners_exchanges i from exchanges calls registrations fits in

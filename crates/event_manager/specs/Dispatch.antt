@@ -21,19 +21,19 @@ abbrev pub exchanges_of : {V : Type 0} → Outcome V → Exchanges
 exchanges_of Nobody = []
 exchanges_of (To id exchanges calls after) = exchanges
 
--- whether the exchanges of one of these positions holds an agreed Remove of the descriptor
+-- whether the exchanges of one of these positions hold an agreed Remove of the descriptor
 abbrev pub is_removed : {V : Type 0} → ℕ → List (Position V) → Bool
 is_removed fd [] = false
 is_removed fd (position ∷ positions) = removes fd (exchanges_of position.outcome) || is_removed fd positions
 
--- the later events whose descriptor no exchanges of the earlier positions removed
+-- the later events whose descriptor no exchange of the earlier positions removed
 abbrev pub still_pending : {V : Type 0} → List (Position V) → List Event → List Event
 still_pending earlier later = filter (λ e. not (is_removed e.fd earlier)) later
 
 abbrev pub events_of : {V : Type 0} → List (Position V) → List Event
 events_of positions = map (λ position. position.event) positions
 
--- the event is for id i, which holds this value: i owns its descriptor now, and no earlier exchanges removed it
+-- the event is for id i, which holds this value: i owns its descriptor now, and no earlier exchange removed it
 abbrev pub IsFor : {V : Type 0} → Registry V → List (Position V) → Event → ℕ → V → Type 0
 IsFor registry earlier event i value = Owns i registry.registrations event.fd × (is_removed event.fd earlier ≡ false) × HasId registry i value
 
@@ -41,7 +41,7 @@ IsFor registry earlier event i value = Owns i registry.registrations event.fd ×
 abbrev pub dispatch_order : {V : Type 0} → Registrations → List (Position V) → List (Position V)
 dispatch_order registrations positions = positions
 
--- serves: what a subscriber may say to an event, from its value before to its value after.
+-- serves: which exchanges a subscriber may have on an event, from its value before to its value after.
 module _ {V : Type 0} (serves : V → Event → Exchanges → V → Type 0) where
   -- the outcome of one position, between the earlier ones and the later events
   abbrev pub IsOutcome : Registry V → List (Position V) → Event → List Event → Outcome V → Registry V → Type 0

@@ -1,4 +1,4 @@
--- What users rely on, of every run.
+-- What users rely on, of every trace.
 use Rattle.std.specs.Prelude.{◌≡◌, ◌≢◌, ℕ, ◌+◌, ◌<◌, List, [], ◌∷◌, ◌++◌, filter, ◌↔◌, None, if◌then◌else◌}
 use Rattle.std.specs.FinMap as map
 use Rattle.event_manager.specs.Event.{Event}
@@ -22,7 +22,7 @@ pub record IsSound {V : Type 0} (registry : Registry V) : Type 0 where
   pub given : (i : ℕ) (value : V) → HasId registry i value → i < registry.next
   pub endpoint_free : IsFree registry.registrations registry.registrations.endpoint
 
--- all steps of a run, those of its jobs too
+-- all steps of a trace, those of its jobs too
 abbrev pub steps_of_jobs : {V J R : Type 0} → List (JobRun V J R) → List (Step V)
 steps_of_jobs [] = []
 steps_of_jobs (job_run ∷ jobs) = job_run.steps ++ steps_of_jobs jobs

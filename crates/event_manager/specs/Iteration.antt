@@ -22,7 +22,7 @@ pub record JobRun (V J R : Type 0) : Type 0 where
   pub steps : List (Step V)
   pub reply : R
 
--- a iteration: the milliseconds, what the wait gave, the positions of its report, the jobs that ran
+-- an iteration: the milliseconds, what the wait gave, the positions of its report, the jobs that ran
 pub record Iteration (V J R : Type 0) : Type 0 where
   pub ms : ℤ
   pub waited : Result (List Event) Errno

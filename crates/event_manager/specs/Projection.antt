@@ -31,7 +31,7 @@ projected_registry i next registry = record { values = only_values i registry.va
 abbrev pub projected_state : {V : Type 0} → ℕ → ℕ → ManagerState V → ManagerState V
 projected_state i next state = record { registry = projected_registry i next state.registry; taken = state.taken }
 
--- the next id of the projected run: that of the run where i has joined, else i
+-- the next id of the projection: that of the trace where i has joined, else i
 abbrev pub projected_next : {V : Type 0} → ℕ → ManagerState V → ℕ
 projected_next i state = if nat_lt i state.registry.next then state.registry.next else i
 
@@ -62,7 +62,7 @@ abbrev pub projected_effect : {V J R : Type 0} → ℕ → Effect V J R → Effe
 projected_effect i (Stepped step) = Stepped step
 projected_effect i (Iterated iteration) = Iterated (record iteration { positions = map (only_position i) iteration.positions })
 
--- the projected run of i
+-- the projection to i
 abbrev pub projection : {V J R : Type 0} → ℕ → List (Entry V J R) → List (Entry V J R)
 projection i [] = []
 projection i (entry ∷ trace) = if stays i entry.effect then record entry { effect = projected_effect i entry.effect } ∷ projection i trace else projection i trace
@@ -112,14 +112,14 @@ abbrev pub adds : ℕ → Exchanges → Bool
 adds fd [] = false
 adds fd (exchange ∷ exchanges) = (if is_agreed exchange.1 then is_add fd exchange.0 else false) || adds fd exchanges
 
--- No other id owns at the start, or has in the run an agreed Add of, a descriptor
--- that i asks to add in the run or owns at the start.
+-- No other id owns at the start, or has in the trace an agreed Add of, a descriptor
+-- that i asks to add in the trace or owns at the start.
 abbrev pub IsApart : {V J R : Type 0} → ℕ → ManagerState V → List (Entry V J R) → Type 0
 IsApart i before trace =
     (fd : ℕ) (j : ℕ) → j ≢ i → Owns i before.registry.registrations fd ⊎ IsTrue (asks_to_add fd (exchanges_in i trace))
     → ¬ Owns j before.registry.registrations fd × (adds fd (exchanges_in j trace) ≡ false)
 
--- the deliveries to id i in a run, in order: the event, the exchanges, the value after
+-- the deliveries to id i in a trace, in order: the event, the exchanges, the value after
 abbrev pub delivered_as : {V : Type 0} → ℕ → Event → Outcome V → List (Event × Exchanges × V)
 delivered_as i event Nobody = []
 delivered_as i event (To id exchanges calls after) = if id == i then (event, exchanges, after) ∷ [] else []
@@ -148,13 +148,13 @@ abbrev pub replies_to : {V J R : Type 0} → ℕ → List (Entry V J R) → List
 replies_to i [] = []
 replies_to i (entry ∷ trace) = if is_for i entry.effect then entry.reply ∷ replies_to i trace else replies_to i trace
 
--- The projected law: of a run that ran no job, the projected run of each i that is apart is itself a run.
+-- Non-interference: of a trace in which no job ran, the projection to each i that is apart is itself a trace.
 abbrev pub NonInterference : {V J R : Type 0} → (V → Exchanges → V → Type 0) → (V → Event → Exchanges → V → Type 0) → (J → List (Step V) → R → Type 0) → ManagerState V → List (Entry V J R) → ManagerState V → Type 0
 NonInterference begins serves may before trace after =
     (i : ℕ) → after.taken ≡ before.taken → IsApart i before trace
     → (next : ℕ) × IsTrace begins serves may (projected_state i (projected_next i before) before) (projection i trace) (projected_state i next after)
 
--- The projected run has the same replies to i, the same deliveries to i and the same exchanges of i, and ends with the same value of i.
+-- The projection has the same replies to i, the same deliveries to i and the same exchanges of i, and ends with the same value of i.
 abbrev pub ProjectionKeeps : {V J R : Type 0} → List (Entry V J R) → ManagerState V → Type 0
 ProjectionKeeps trace after =
     (i next : ℕ) → (replies_to i (projection i trace) ≡ replies_to i trace) × (deliveries i (projection i trace) ≡ deliveries i trace) × (exchanges_in i (projection i trace) ≡ exchanges_in i trace)

@@ -1,4 +1,4 @@
--- What the code keeps of a registrations: the owners, the endpoint's descriptor, the capacity, and the positions of the batch that are still to come, each with a mark where it is cancelled.
+-- What the code keeps: the owners, the endpoint's descriptor, the capacity, and the positions of the batch that are still to come, each with a mark where it is cancelled.
 use Rattle.std.specs.Prelude.{◌≡◌, ℕ, ◌==◌, Bool, true, false, ◌||◌, List, [], ◌∷◌, map, refl, Result, Ok, Err, length}
 use Rattle.vmm_sys.specs.declared.errno.Errno.{Errno}
 use Rattle.std.specs.FinMap as finite
@@ -31,7 +31,7 @@ registrations_of s = record { owner = s.owner; endpoint = s.endpoint; pending = 
 abbrev pub cancel_on : ℕ → List (Event × Bool) → List (Event × Bool)
 cancel_on fd ready = map (λ p. (p.0, p.1 || (fd == p.0.fd))) ready
 
--- with a mark at each position whose descriptor the exchanges removes
+-- with a mark at each position whose descriptor the exchanges remove
 abbrev pub cancel_removed : Exchanges → List (Event × Bool) → List (Event × Bool)
 cancel_removed exchanges ready = map (λ p. (p.0, p.1 || removes p.0.fd exchanges)) ready
 

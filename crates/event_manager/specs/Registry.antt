@@ -1,4 +1,4 @@
--- Subscribers by id, and the steps by which they come, go, change and ask.
+-- Subscribers by id, and the steps: a join, a leave, another value, a list of requests.
 use Rattle.std.specs.Prelude.{◌≡◌, ℕ, ◌+◌, ◌-◌, ◌^◌, ◌<◌, ◌==◌, Bool, false, not, List, [], ◌∷◌, ◌⊎◌, ◌↔◌, Option, Some, None, Result, Contains, AllPairs, ◌≢◌}
 use Rattle.std.specs.FinMap as map
 use Rattle.std.specs.Ordering.{nat_cmp}
@@ -60,7 +60,7 @@ LacksId registry i = map.get registry.values i ≡ None
 abbrev pub ids_end : ℕ
 ids_end = 2 ^ 64 - 1
 
--- begins: what a subscriber may say in its init, from its value before to its value after.
+-- begins: which exchanges a subscriber may have in its init, from its value before to its value after.
 module _ {V : Type 0} (begins : V → Exchanges → V → Type 0) where
   abbrev pub Steps : Registry V → Step V → Registry V → Type 0
   Steps before (Joined value id exchanges calls held) after =

@@ -14,7 +14,7 @@ use Rattle.event_manager.specs.declared.calls.Call.TheVariants as call
 use Rattle.event_manager.specs.declared.calls.Reply.{Reply}
 use Rattle.event_manager.specs.declared.calls.Reply.TheVariants as reply
 
--- what a call did: one step, or a iteration
+-- what a call did: one step, or an iteration
 pub data Effect (V J R : Type 0) : Type 0 where
   Stepped : Step V → Effect V J R
   Iterated : Iteration V J R → Effect V J R
