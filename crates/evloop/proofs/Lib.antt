@@ -1,1 +1,1 @@
-pub mod Additions
+pub mod AskedSoFar

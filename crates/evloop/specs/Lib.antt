@@ -1,4 +1,5 @@
+pub mod Asked
+pub mod Coming
 pub mod Name
 pub mod Number
 pub mod ScriptedPoller
-pub mod Subscriber

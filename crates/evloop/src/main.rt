@@ -7,9 +7,13 @@ pub mod input;
 pub mod names;
 pub mod number;
 pub mod output;
+pub mod reactions;
+pub mod requests;
 pub mod run;
 pub mod script;
 pub mod subscriber;
+#[cfg(test)]
+mod tests;
 
 use output::Out;
 use run::run_script;

@@ -40,6 +40,11 @@ pub enum OutputLine<'a> {
         name: &'a str,
         error: Error,
     },
+    /// A leave.
+    Left {
+        name: &'a str,
+        answer: Result<(), Error>,
+    },
     /// An iteration of the loop.
     Ran {
         answer: Result<usize, Error>,
@@ -92,6 +97,10 @@ impl Display for OutputLine<'_> {
                 Err(error) => write!(f, "sub {name}: {error}"),
             },
             OutputLine::AskRefused { name, error } => write!(f, "ask {name}: {error}"),
+            OutputLine::Left { name, answer } => match answer {
+                Ok(()) => write!(f, "drop {name}: ok"),
+                Err(error) => write!(f, "drop {name}: {error}"),
+            },
             OutputLine::Ran { answer } => match answer {
                 Ok(count) => write!(f, "run: {count}"),
                 Err(error) => write!(f, "run: {error}"),

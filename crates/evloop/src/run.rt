@@ -7,6 +7,8 @@ ghost use Rattle.vmm_sys.specs.ScriptPoller.{with_answer};
 use crate::fault::Fault;
 use crate::input::read_text;
 use crate::output::{Out, OutputLine, Printer};
+use crate::reactions::Reactions;
+use crate::requests::make_requests;
 use crate::script::{Call, Refusal, Wait as ScriptedWait, parse};
 use crate::subscriber::Subscriber;
 use event_manager::{
@@ -52,7 +54,15 @@ where
         return Err(Fault::OutOfMemory);
     };
     let mut manager = EventManager::<Subscriber<O>>::new(alloc, BoxedPoller(poller), endpoint)?;
-    make_calls(rt, alloc, &mut manager, script.calls, &mut printer)
+    let reactions = script.reactions;
+    make_calls(
+        rt,
+        alloc,
+        &mut manager,
+        script.calls,
+        reactions,
+        &mut printer,
+    )
 }
 
 // A counter of descriptor 9, in a table that nobody polls.
@@ -99,12 +109,13 @@ fn push_wait(poller: &mut ScriptPoller, wait: ScriptedWait) -> Result<(), Errno>
     }
 }
 
-// Makes the calls in order, and prints their answers.
+// Makes the calls in order, and prints their answers. The reactions are those of the joins, in order.
 fn make_calls<'a, R, O, P>(
     rt: &R,
     alloc: Global,
     manager: &mut EventManager<Subscriber<'a, O>, P>,
     calls: Vec<Call<'a>>,
+    reactions: Vec<Reactions>,
     printer: &mut Printer<O>,
 ) -> Result<(), Fault>
 where
@@ -112,26 +123,24 @@ where
     O: Out + Drop,
     P: EventPoller,
 {
+    let mut reactions = reactions.into_iter();
     let mut ids: Vec<Option<SubscriberId>> = Vec::new(alloc);
     for call in calls {
         match call {
-            Call::Join { name, additions } => {
-                let subscriber = Subscriber::new(name, additions, printer.try_clone(alloc)?);
-                let answer = manager.add_subscriber(subscriber);
-                ids.push(answer.ok())?;
-                printer.print(&OutputLine::Joined { name, answer })?;
+            Call::Join { name, requests } => {
+                let own = match reactions.next() {
+                    Some(own) => own,
+                    None => Reactions::new(alloc),
+                };
+                let subscriber = Subscriber::new(name, requests, own, printer.try_clone(alloc)?);
+                ids.push(join(manager, subscriber, name, printer)?)?;
             }
             Call::Ask {
                 name,
                 join,
                 requests,
-            } => match ids.get(join).copied().flatten() {
-                Some(id) => ask(manager, id, name, &requests, printer)?,
-                None => printer.print(&OutputLine::AskRefused {
-                    name,
-                    error: Error::InvalidId,
-                })?,
-            },
+            } => ask(manager, id_of(&ids, join), name, &requests, printer)?,
+            Call::Leave { name, join } => leave(manager, id_of(&ids, join), name, printer)?,
             Call::Run => printer.print(&OutputLine::Ran {
                 answer: manager.run(rt),
             })?,
@@ -140,10 +149,43 @@ where
     Ok(())
 }
 
+// Takes a subscriber in, and prints the answer; gives its id, unless it was refused.
+fn join<'a, O, P>(
+    manager: &mut EventManager<Subscriber<'a, O>, P>,
+    subscriber: Subscriber<'a, O>,
+    name: &'a str,
+    printer: &mut Printer<O>,
+) -> Result<Option<SubscriberId>, Fault>
+where
+    O: Out + Drop,
+    P: EventPoller,
+{
+    match manager.add_subscriber(subscriber) {
+        Ok(id) => {
+            let answer = Ok(id);
+            printer.print(&OutputLine::Joined { name, answer })?;
+            Ok(Some(id))
+        }
+        Err(error) => {
+            let answer = Err(error);
+            printer.print(&OutputLine::Joined { name, answer })?;
+            Ok(None)
+        }
+    }
+}
+
+// The id of the join at this place; `InvalidId` where the join was refused.
+fn id_of(ids: &[Option<SubscriberId>], join: usize) -> Result<SubscriberId, Error> {
+    match ids.get(join) {
+        Some(Some(id)) => Ok(*id),
+        _ => Err(Error::InvalidId),
+    }
+}
+
 // Makes requests of one subscriber, and prints their answers.
 fn ask<'a, O, P>(
     manager: &mut EventManager<Subscriber<'a, O>, P>,
-    id: SubscriberId,
+    id: Result<SubscriberId, Error>,
     name: &'a str,
     requests: &[Request],
     printer: &mut Printer<O>,
@@ -152,19 +194,36 @@ where
     O: Out + Drop,
     P: EventPoller,
 {
-    let mut ops = match manager.event_ops(id) {
-        Ok(ops) => ops,
+    let id = match id {
+        Ok(id) => id,
         Err(error) => return printer.print(&OutputLine::AskRefused { name, error }),
     };
-    for request in requests {
-        let answer = ops.request(*request);
-        let _ = printer.print(&OutputLine::Reply {
-            name,
-            request: *request,
-            answer,
-        });
+    match manager.event_ops(id) {
+        Ok(mut ops) => make_requests(name, requests, &mut ops, printer),
+        Err(error) => return printer.print(&OutputLine::AskRefused { name, error }),
     }
     Ok(())
+}
+
+// Lets a subscriber leave, and prints the answer.
+fn leave<'a, O, P>(
+    manager: &mut EventManager<Subscriber<'a, O>, P>,
+    id: Result<SubscriberId, Error>,
+    name: &'a str,
+    printer: &mut Printer<O>,
+) -> Result<(), Fault>
+where
+    O: Out + Drop,
+    P: EventPoller,
+{
+    let answer = match id {
+        Ok(id) => match manager.remove_subscriber(id) {
+            Ok(_subscriber) => Ok(()),
+            Err(error) => Err(error),
+        },
+        Err(error) => Err(error),
+    };
+    printer.print(&OutputLine::Left { name, answer })
 }
 
 #[cfg(test)]

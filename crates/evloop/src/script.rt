@@ -5,26 +5,32 @@ mod line;
 mod tests;
 
 use crate::fault::Fault;
-use event_manager::{Events, Request};
+use crate::reactions::Reactions;
+use event_manager::Request;
 use line::{Line, LineError};
 use std::alloc::Global;
 use std::collections::HashMap;
 use vmm_sys::epoll::{ControlOperation, EpollEvent, RawFd};
 use vmm_sys::errno::Errno;
 
-/// One call of the manager.
+/// One call of the manager. A subscriber is named by the place of its join among the joins, from 0.
 #[derive(PartialEq, Drop)]
 pub enum Call<'a> {
-    /// A subscriber joins; its `init` adds these.
+    /// A subscriber joins; its `init` makes these requests, each an `Add`.
     Join {
         name: &'a str,
-        additions: Vec<Events>,
+        requests: Vec<Request>,
     },
-    /// The subscriber of the join at place `join`, counted from 0, makes these requests, at least one.
+    /// The subscriber makes these requests, at least one.
     Ask {
         name: &'a str,
         join: usize,
         requests: Vec<Request>,
+    },
+    /// The subscriber leaves.
+    Leave {
+        name: &'a str,
+        join: usize,
     },
     /// One iteration of the loop.
     Run,
@@ -46,18 +52,32 @@ pub struct Refusal {
 }
 
 /// A whole script, each list in the order of its lines. Names are parts of the text.
-#[derive(PartialEq, Drop)]
+#[derive(Drop)]
 pub struct Script<'a> {
     pub calls: Vec<Call<'a>>,
     pub waits: Vec<Wait>,
     pub refusals: Vec<Refusal>,
+    /// What the subscriber of each join asks for on its events, in the order of the joins.
+    pub reactions: Vec<Reactions>,
 }
 
-// A script in the making: what the lines so far say, and the place of each join by its name.
+// A name that is to be joined somewhere in the script, and the line that says so.
+#[derive(Clone, Copy)]
+struct Mention<'a> {
+    name: &'a str,
+    line: usize,
+}
+
+// A script in the making: what the lines so far say, the place of each join by its name, the names of
+// the joins in order, what `on` lines say by name, and the names that they mention.
 #[derive(Drop)]
 struct Reader<'a> {
     script: Script<'a>,
     joins: HashMap<&'a str, usize>,
+    names: Vec<&'a str>,
+    reactions: HashMap<&'a str, Reactions>,
+    mentions: Vec<Mention<'a>>,
+    first_bad: Option<usize>,
 }
 
 impl<'a> Reader<'a> {
@@ -66,30 +86,40 @@ impl<'a> Reader<'a> {
             calls: Vec::new(alloc),
             waits: Vec::new(alloc),
             refusals: Vec::new(alloc),
+            reactions: Vec::new(alloc),
         };
         Reader {
             script,
             joins: HashMap::new(alloc),
+            names: Vec::new(alloc),
+            reactions: HashMap::new(alloc),
+            mentions: Vec::new(alloc),
+            first_bad: None,
+        }
+    }
+
+    // The place of a name that joined on an earlier line.
+    fn place(&self, name: &'a str) -> Result<usize, LineError> {
+        match self.joins.get(&name) {
+            Some(place) => Ok(*place),
+            None => Err(LineError::Bad),
         }
     }
 
     // A name joins once.
-    fn join(&mut self, name: &'a str, additions: Vec<Events>) -> Result<(), LineError> {
+    fn join(&mut self, name: &'a str, requests: Vec<Request>) -> Result<(), LineError> {
         if self.joins.contains_key(&name) {
             return Err(LineError::Bad);
         }
         let place = self.joins.len();
         self.joins.insert(name, place)?;
-        self.script.calls.push(Call::Join { name, additions })?;
+        self.names.push(name)?;
+        self.script.calls.push(Call::Join { name, requests })?;
         Ok(())
     }
 
-    // Only a name that joined on an earlier line is asked.
     fn ask(&mut self, name: &'a str, requests: Vec<Request>) -> Result<(), LineError> {
-        let Some(place) = self.joins.get(&name) else {
-            return Err(LineError::Bad);
-        };
-        let join = *place;
+        let join = self.place(name)?;
         self.script.calls.push(Call::Ask {
             name,
             join,
@@ -98,16 +128,95 @@ impl<'a> Reader<'a> {
         Ok(())
     }
 
-    fn put(&mut self, line: Line<'a>) -> Result<(), LineError> {
+    fn leave(&mut self, name: &'a str) -> Result<(), LineError> {
+        let join = self.place(name)?;
+        self.script.calls.push(Call::Leave { name, join })?;
+        Ok(())
+    }
+
+    // The name may join on a later line.
+    fn react(
+        &mut self,
+        alloc: Global,
+        line: usize,
+        name: &'a str,
+        fd: RawFd,
+        requests: Vec<Request>,
+    ) -> Result<(), LineError> {
+        self.mentions.push(Mention { name, line })?;
+        let reactions = self
+            .reactions
+            .entry(name)?
+            .or_insert_with(|| Reactions::new(alloc));
+        reactions.push(alloc, fd, requests)?;
+        Ok(())
+    }
+
+    fn put(&mut self, alloc: Global, number: usize, line: Line<'a>) -> Result<(), LineError> {
         match line {
             Line::Blank => Ok(()),
-            Line::Sub { name, additions } => self.join(name, additions),
+            Line::Sub { name, requests } => self.join(name, requests),
             Line::Ask { name, requests } => self.ask(name, requests),
+            Line::On { name, fd, requests } => self.react(alloc, number, name, fd, requests),
+            Line::Leave { name } => self.leave(name),
             Line::Run => Ok(self.script.calls.push(Call::Run)?),
             Line::Batch(events) => Ok(self.script.waits.push(Wait::Report(events))?),
             Line::Interrupt => Ok(self.script.waits.push(Wait::Interrupted)?),
             Line::Refuse(refusal) => Ok(self.script.refusals.push(refusal)?),
         }
+    }
+
+    // Takes one line, and keeps the number of the first bad one.
+    fn take(&mut self, alloc: Global, number: usize, text: &'a str) -> Result<(), Fault> {
+        let taken = match line::read(alloc, text) {
+            Ok(line) => self.put(alloc, number, line),
+            Err(error) => Err(error),
+        };
+        match taken {
+            Ok(()) => Ok(()),
+            Err(LineError::Bad) => {
+                self.first_bad = self.first_bad.or(Some(number));
+                Ok(())
+            }
+            Err(LineError::OutOfMemory) => Err(Fault::OutOfMemory),
+        }
+    }
+
+    // The first bad line, once all lines were taken: a name that an `on` line has may not be joined.
+    fn first_bad(&self) -> Option<usize> {
+        let mut first = self.first_bad;
+        for mention in &self.mentions {
+            if !self.joins.contains_key(&mention.name) {
+                first = match first {
+                    Some(line) if line < mention.line => Some(line),
+                    _ => Some(mention.line),
+                };
+            }
+        }
+        first
+    }
+}
+
+impl<'a> Reader<'a> {
+    // The script, with the reactions of each join.
+    fn finish(self, alloc: Global) -> Result<Script<'a>, Fault> {
+        let Reader {
+            script,
+            joins: _,
+            names,
+            reactions,
+            mentions: _,
+            first_bad: _,
+        } = self;
+        let (mut script, mut reactions) = (script, reactions);
+        for name in names {
+            let own = match reactions.remove(&name) {
+                Some(own) => own,
+                None => Reactions::new(alloc),
+            };
+            script.reactions.push(own)?;
+        }
+        Ok(script)
     }
 }
 
@@ -120,15 +229,10 @@ impl<'a> Reader<'a> {
 pub fn parse<'a>(alloc: Global, text: &'a str) -> Result<Script<'a>, Fault> {
     let mut reader = Reader::new(alloc);
     for (index, line) in text.lines().enumerate() {
-        let read = match line::read(alloc, line) {
-            Ok(line) => reader.put(line),
-            Err(error) => Err(error),
-        };
-        match read {
-            Ok(()) => {}
-            Err(LineError::Bad) => return Err(Fault::BadScript(index + 1)),
-            Err(LineError::OutOfMemory) => return Err(Fault::OutOfMemory),
-        }
+        reader.take(alloc, index + 1, line)?;
     }
-    Ok(reader.script)
+    match reader.first_bad() {
+        Some(line) => Err(Fault::BadScript(line)),
+        None => reader.finish(alloc),
+    }
 }

@@ -1,51 +1,58 @@
 //! The subscribers of a script.
 
-ghost use Rattle.std.specs.Prelude.{◌≡◌, []};
-ghost use Rattle.evloop.specs.Subscriber.{AreAdditions};
+ghost use Rattle.std.specs.Prelude.{◌≡◌};
+ghost use Rattle.evloop.specs.Asked.{requests_of};
+ghost use Rattle.evloop.specs.Coming.{Reacts};
 
 use crate::output::{Out, OutputLine, Printer};
+use crate::reactions::Reactions;
+use crate::requests::make_requests;
 use event_manager::{EventOps, EventPoller, Events, MutEventSubscriber, Request};
 
-/// A subscriber of a script. It adds what its line says, asks for nothing on an event, and prints what
-/// happens to it. A line that it can't write is dropped.
+/// A subscriber of a script. It asks for what its lines say, and prints what happens to it. A line that
+/// can't be written is dropped.
 #[derive(Drop)]
 pub struct Subscriber<'a, O> {
     name: &'a str,
-    additions: Vec<Events>,
+    first: Vec<Request>,
+    reactions: Reactions,
     printer: Printer<O>,
 }
 
 impl<'a, O: Out> Subscriber<'a, O> {
-    /// A subscriber of this name, whose `init` adds these.
-    pub fn new(name: &'a str, additions: Vec<Events>, printer: Printer<O>) -> Subscriber<'a, O> {
+    /// A subscriber of this name. Its `init` makes the requests of `first`, and each `process` the next
+    /// ones of `reactions` for the event's descriptor.
+    pub fn new(
+        name: &'a str,
+        first: Vec<Request>,
+        reactions: Reactions,
+        printer: Printer<O>,
+    ) -> Subscriber<'a, O> {
         Subscriber {
             name,
-            additions,
+            first,
+            reactions,
             printer,
         }
     }
 }
 
 impl<O: Out> MutEventSubscriber for Subscriber<'_, O> {
-    ghost begins = { λ v exchanges w. AreAdditions v.additions.items exchanges };
+    ghost begins = { λ v exchanges w. requests_of exchanges ≡ v.first.items };
 
-    ghost serves = { λ v event exchanges w. exchanges ≡ [] };
+    ghost serves = { λ v event exchanges w. Reacts v.reactions.queues event.fd exchanges w.reactions.queues };
 
-    fn process<P: EventPoller>(&mut self, events: Events, _ops: &mut EventOps<P>) {
+    fn process<P: EventPoller>(&mut self, events: Events, ops: &mut EventOps<P>) {
         let _ = self.printer.print(&OutputLine::Deliver {
             name: self.name,
             events,
         });
+        if let Some(requests) = self.reactions.next(events) {
+            make_requests(self.name, &requests, ops, &mut self.printer);
+        }
     }
 
     fn init<P: EventPoller>(&mut self, ops: &mut EventOps<P>) {
-        for events in &self.additions {
-            let answer = ops.add(*events);
-            let _ = self.printer.print(&OutputLine::Reply {
-                name: self.name,
-                request: Request::Add(*events),
-                answer,
-            });
-        }
+        make_requests(self.name, &self.first, ops, &mut self.printer);
     }
 }

@@ -101,7 +101,7 @@ fn text_of(alloc: Global, page: &RefCell<Page>) -> Result<String, Fail> {
 }
 
 // What the script answers and writes on an output that refuses these writes.
-fn outcome<R: Wait + Clock + AllocGlobal>(
+fn outcome<R: Wait + Clock + AllocGlobal + Clone + Send + Drop>(
     rt: &R,
     script: &str,
     refused: Refused,
@@ -116,7 +116,7 @@ fn outcome<R: Wait + Clock + AllocGlobal>(
 }
 
 // A script that runs to its end writes this.
-fn writes<R: Abort + Wait + Clock + AllocGlobal>(
+fn writes<R: Abort + Wait + Clock + AllocGlobal + Clone + Send + Drop>(
     rt: &R,
     script: &str,
     want: &str,
@@ -201,6 +201,138 @@ fn a_long_report_takes_two_runs(rt: HostRuntime) -> Result<(), Fail> {
     script.push_str("\nrun\nrun\n")?;
     want.push_str("run: 44\n")?;
     writes(&rt, script.as_str(), want.as_str())
+}
+
+#[test]
+fn a_removal_cancels_its_descriptor_alone(rt: HostRuntime) -> Result<(), Fail> {
+    writes(
+        &rt,
+        "sub a add 3 IN 0 add 4 IN 7\nsub b add 5 IN 1\non a 3 remove 4\nbatch 3:IN:0 4:IN:7 5:IN:1\nrun\n",
+        "reply a add 3: ok\nreply a add 4: ok\nsub a: 1\nreply b add 5: ok\nsub b: 2\ndeliver a 3 IN 0\nreply a remove 4: ok\ndeliver b 5 IN 1\nrun: 3\n",
+    )
+}
+
+#[test]
+fn an_addition_revives_no_cancelled_event(rt: HostRuntime) -> Result<(), Fail> {
+    writes(
+        &rt,
+        "sub a add 3 IN 0 add 4 IN 7\non a 3 remove 4 add 4 IN 8\nbatch 3:IN:0 4:IN:7\nbatch 4:IN:8\nrun\nrun\n",
+        "reply a add 3: ok\nreply a add 4: ok\nsub a: 1\ndeliver a 3 IN 0\nreply a remove 4: ok\nreply a add 4: ok\nrun: 2\ndeliver a 4 IN 8\nrun: 1\n",
+    )
+}
+
+#[test]
+fn a_removal_cancels_a_repeated_event(rt: HostRuntime) -> Result<(), Fail> {
+    writes(
+        &rt,
+        "sub a add 3 IN 0\non a 3 remove 3 add 3 IN 5\nbatch 3:IN:0 3:IN:0\nrun\n",
+        "reply a add 3: ok\nsub a: 1\ndeliver a 3 IN 0\nreply a remove 3: ok\nreply a add 3: ok\nrun: 2\n",
+    )
+}
+
+#[test]
+fn a_change_leaves_the_batch(rt: HostRuntime) -> Result<(), Fail> {
+    writes(
+        &rt,
+        "sub a add 3 IN 0 add 4 IN 7\non a 3 modify 4 OUT 8\nbatch 3:IN:0 4:IN:7\nrun\n",
+        "reply a add 3: ok\nreply a add 4: ok\nsub a: 1\ndeliver a 3 IN 0\nreply a modify 4: ok\ndeliver a 4 IN 7\nrun: 2\n",
+    )
+}
+
+#[test]
+fn a_refused_removal_cancels_nothing(rt: HostRuntime) -> Result<(), Fail> {
+    writes(
+        &rt,
+        "sub a add 3 IN 0 add 4 IN 0\non a 3 remove 4\nrefuse delete 4 22\nbatch 3:IN:0 4:IN:0\nrun\n",
+        "reply a add 3: ok\nreply a add 4: ok\nsub a: 1\ndeliver a 3 IN 0\nreply a remove 4: event_manager: failed to manage epoll file descriptor: os error 22\ndeliver a 4 IN 0\nrun: 2\n",
+    )
+}
+
+#[test]
+fn a_leave_frees_its_descriptors_even_where_a_delete_is_refused(
+    rt: HostRuntime,
+) -> Result<(), Fail> {
+    writes(
+        &rt,
+        "sub a add 3 IN 0\nrefuse delete 3 22\ndrop a\nbatch 3:IN:0\nrun\ndrop a\n",
+        "reply a add 3: ok\nsub a: 1\ndrop a: ok\nrun: 1\ndrop a: event_manager: invalid subscriber Id\n",
+    )
+}
+
+#[test]
+fn the_owner_at_its_turn_gets_an_event(rt: HostRuntime) -> Result<(), Fail> {
+    writes(
+        &rt,
+        "sub a add 3 IN 0\non a 3 add 6 IN 0\nbatch 3:IN:0 6:OUT:4\nrun\n",
+        "reply a add 3: ok\nsub a: 1\ndeliver a 3 IN 0\nreply a add 6: ok\ndeliver a 6 OUT 4\nrun: 2\n",
+    )
+}
+
+#[test]
+fn a_removal_between_runs_cancels_nothing(rt: HostRuntime) -> Result<(), Fail> {
+    writes(
+        &rt,
+        "sub a add 3 IN 0\nbatch 3:IN:0\nbatch 3:IN:1\nrun\nask a remove 3 add 3 IN 5\nrun\n",
+        "reply a add 3: ok\nsub a: 1\ndeliver a 3 IN 0\nrun: 1\nreply a remove 3: ok\nreply a add 3: ok\ndeliver a 3 IN 1\nrun: 1\n",
+    )
+}
+
+#[test]
+fn refusals_come_in_the_order_of_their_lines(rt: HostRuntime) -> Result<(), Fail> {
+    writes(
+        &rt,
+        "sub a add 3 IN 0\nrefuse modify 3 22\nrefuse modify 3 12\nask a modify 3 OUT 0 modify 3 OUT 0 modify 3 OUT 0\n",
+        "reply a add 3: ok\nsub a: 1\nreply a modify 3: event_manager: failed to manage epoll file descriptor: os error 22\nreply a modify 3: event_manager: failed to manage epoll file descriptor: os error 12\nreply a modify 3: ok\n",
+    )
+}
+
+#[test]
+fn the_rest_of_a_long_report_comes_before_the_next(rt: HostRuntime) -> Result<(), Fail> {
+    let mut script = String::from_str(rt.alloc(), "sub a add 3 IN 0\nbatch")?;
+    let mut want = String::from_str(rt.alloc(), "reply a add 3: ok\nsub a: 1\n")?;
+    for _ in 0..256 {
+        script.push_str(" 3:IN:0")?;
+        want.push_str("deliver a 3 IN 0\n")?;
+    }
+    script.push_str(" 3:IN:1\nbatch 3:OUT:2\nrun\nrun\nrun\n")?;
+    want.push_str("run: 256\ndeliver a 3 IN 1\nrun: 1\ndeliver a 3 OUT 2\nrun: 1\n")?;
+    writes(&rt, script.as_str(), want.as_str())
+}
+
+#[test]
+fn a_leave_asks_for_its_deletes(rt: HostRuntime) -> Result<(), Fail> {
+    writes(
+        &rt,
+        "sub a add 3 IN 0 add 4 IN 0\nsub b\nrefuse delete 3 22\nrefuse delete 4 22\nrefuse delete 4 12\ndrop a\nask b add 3 IN 0 add 4 IN 0 remove 3 remove 4 remove 4\n",
+        "reply a add 3: ok\nreply a add 4: ok\nsub a: 1\nsub b: 2\ndrop a: ok\nreply b add 3: ok\nreply b add 4: ok\nreply b remove 3: ok\nreply b remove 4: event_manager: failed to manage epoll file descriptor: os error 12\nreply b remove 4: ok\n",
+    )
+}
+
+#[test]
+fn a_reaction_waits_for_its_descriptor(rt: HostRuntime) -> Result<(), Fail> {
+    writes(
+        &rt,
+        "sub a add 3 IN 0 add 4 IN 0\non a 4 add 5 IN 0\non a 4 remove 5\nbatch 3:IN:0 4:IN:0 3:IN:1 4:IN:1 4:IN:2\nrun\n",
+        "reply a add 3: ok\nreply a add 4: ok\nsub a: 1\ndeliver a 3 IN 0\ndeliver a 4 IN 0\nreply a add 5: ok\ndeliver a 3 IN 1\ndeliver a 4 IN 1\nreply a remove 5: ok\ndeliver a 4 IN 2\nrun: 5\n",
+    )
+}
+
+#[test]
+fn a_cancelled_event_takes_no_reaction(rt: HostRuntime) -> Result<(), Fail> {
+    writes(
+        &rt,
+        "sub a add 3 IN 0 add 4 IN 0\non a 4 add 6 IN 0\non a 3 remove 4 add 4 IN 0\nbatch 3:IN:0 4:IN:0\nbatch 4:IN:1\nrun\nrun\n",
+        "reply a add 3: ok\nreply a add 4: ok\nsub a: 1\ndeliver a 3 IN 0\nreply a remove 4: ok\nreply a add 4: ok\nrun: 2\ndeliver a 4 IN 1\nreply a add 6: ok\nrun: 1\n",
+    )
+}
+
+#[test]
+fn a_leave_of_nobody_and_requests_of_nobody_are_told(rt: HostRuntime) -> Result<(), Fail> {
+    writes(
+        &rt,
+        "sub a add 3 IN 0\ndrop a\nask a remove 3\nsub b add 3 IN 0\n",
+        "reply a add 3: ok\nsub a: 1\ndrop a: ok\nask a: event_manager: invalid subscriber Id\nreply b add 3: ok\nsub b: 2\n",
+    )
 }
 
 #[test]

@@ -1,6 +1,7 @@
 //! The grammar of one line.
 
 ghost use Rattle.std.specs.Prelude.{◌≡◌, ◌≤◌, ◌<◌, ◌↔◌, ◌/◌, ◌^◌, IsTrue, IfSome, IfOk, All, length, codes, Some, vec_len};
+ghost use Rattle.evloop.specs.Asked.{IsAddition};
 ghost use Rattle.evloop.specs.Name.{IsName, IsNameByte};
 ghost use Rattle.std.specs.Str.Parse.{digits_value};
 ghost use Rattle.vmm_sys.specs.EpollEvent.{low_half_signed};
@@ -22,11 +23,19 @@ pub(super) enum Line<'a> {
     Blank,
     Sub {
         name: &'a str,
-        additions: Vec<Events>,
+        requests: Vec<Request>,
     },
     Ask {
         name: &'a str,
         requests: Vec<Request>,
+    },
+    On {
+        name: &'a str,
+        fd: RawFd,
+        requests: Vec<Request>,
+    },
+    Leave {
+        name: &'a str,
     },
     Run,
     Batch(Vec<EpollEvent>),
@@ -62,12 +71,21 @@ pub(super) fn read<'a>(alloc: Global, line: &'a str) -> Result<Line<'a>, LineErr
         [first, ..] if first.starts_with('#') => Ok(Line::Blank),
         ["sub", name, rest @ ..] if is_name(name) => Ok(Line::Sub {
             name,
-            additions: additions(alloc, rest)?,
+            requests: additions(alloc, rest)?,
         }),
         ["ask", name, rest @ ..] if is_name(name) && !rest.is_empty() => Ok(Line::Ask {
             name,
             requests: requests(alloc, rest)?,
         }),
+        ["on", name, fd, rest @ ..] if is_name(name) && !rest.is_empty() => match descriptor(fd) {
+            Some(fd) => Ok(Line::On {
+                name,
+                fd,
+                requests: requests(alloc, rest)?,
+            }),
+            None => Err(LineError::Bad),
+        },
+        ["drop", name] if is_name(name) => Ok(Line::Leave { name }),
         ["run"] => Ok(Line::Run),
         ["batch", items @ ..] => Ok(Line::Batch(events(alloc, items)?)),
         ["intr"] => Ok(Line::Interrupt),
@@ -138,18 +156,17 @@ fn requests(alloc: Global, words: &[&str]) -> Result<Vec<Request>, LineError> {
 }
 
 // All words as requests to add.
-fn additions(alloc: Global, words: &[&str]) -> Result<Vec<Events>, LineError> {
-    let mut additions = Vec::new(alloc);
-    for request in words.chunks(4) {
-        let ["add", fd, set, data] = request else {
-            return Err(LineError::Bad);
-        };
-        let Some(events) = registration(fd, set, data) else {
-            return Err(LineError::Bad);
-        };
-        additions.push(events)?;
+fn additions(alloc: Global, words: &[&str]) -> Result<Vec<Request>, LineError>
+    ensures { IfOk result (λ requests. All IsAddition requests.items) }
+{
+    let requests = requests(alloc, words)?;
+    if requests
+        .iter()
+        .all(|request| matches!(request, Request::Add(_)))
+    {
+        return Ok(requests);
     }
-    Ok(additions)
+    Err(LineError::Bad)
 }
 
 // A descriptor and data as the word of an event: the descriptor modulo 2^32 is its low half.

@@ -1,6 +1,7 @@
 //! The grammar as a whole: which scripts are taken, what they say, and which line is named where one is not.
 
 use super::*;
+use event_manager::Events;
 use std::test::Fail;
 use vmm_sys::epoll::EventSet;
 
@@ -15,23 +16,24 @@ fn a_script_is_sorted_into_its_lists(rt: HostRuntime) -> Result<(), Fail> {
         refuse delete 4 22\n\
         intr\n\
         run\n\
+        drop a\n\
         batch\n\
         refuse add 3 12\n\
         refuse modify 2147483647 4095\n\
         ask b add 3 IN 0\n\
         run\n";
     let script = parse(alloc, text)?;
-    let joins_and_asks = vec![in alloc;
+    let calls = vec![in alloc;
         Call::Join {
             name: "a",
-            additions: vec![in alloc;
-                Events::with_data_raw(3, 0, EventSet::IN),
-                Events::with_data_raw(4, 7, EventSet::from_bits_retain(5))
+            requests: vec![in alloc;
+                Request::Add(Events::with_data_raw(3, 0, EventSet::IN)),
+                Request::Add(Events::with_data_raw(4, 7, EventSet::from_bits_retain(5)))
             ]?,
         },
         Call::Join {
             name: "b",
-            additions: Vec::new(alloc)
+            requests: Vec::new(alloc)
         },
         Call::Ask {
             name: "a",
@@ -43,6 +45,7 @@ fn a_script_is_sorted_into_its_lists(rt: HostRuntime) -> Result<(), Fail> {
             ]?,
         },
         Call::Run,
+        Call::Leave { name: "a", join: 0 },
         Call::Ask {
             name: "b",
             join: 1,
@@ -50,7 +53,7 @@ fn a_script_is_sorted_into_its_lists(rt: HostRuntime) -> Result<(), Fail> {
         },
         Call::Run,
     ]?;
-    assert!(rt; script.calls == joins_and_asks);
+    assert!(rt; script.calls == calls);
     let reports = vec![in alloc;
         Wait::Report(vec![in alloc;
             EpollEvent::new(EventSet::IN, 3),
@@ -130,6 +133,10 @@ fn scripts_that_are_taken(rt: HostRuntime) {
         "sub run add 3 EXCLUSIVE+ONE_SHOT 0\nask run remove 3\n",
         "sub a add 3 - 0 add 3 - 0\n",
         "sub a\nsub b\nask b remove 3\nask a remove 3\n",
+        "on a 3 remove 3\nsub a\n",
+        "sub a\non a 003 add 4 IN 0 modify 4 OUT 1 remove 4\non a 3 remove 3\n",
+        "sub a\ndrop a\ndrop a\nask a remove 3\n",
+        "sub on\nsub drop\non on 3 remove 3\ndrop drop\n",
         "refuse add 0 1\nrefuse modify 2147483647 4095\nrefuse delete 0007 0022\n",
     ];
     for text in texts {
@@ -148,11 +155,25 @@ fn lines_that_are_bad(rt: HostRuntime) {
         "intr 4",
         "x",
         "-",
-        "on a 3 remove 3",
-        "drop a",
         "\u{e9}",
         "run\u{b}",
         "run\u{a0}",
+        // Reactions and leaves.
+        "on",
+        "on a",
+        "on a 3",
+        "on a remove 3",
+        "on a -3 remove 3",
+        "on a 2147483648 remove 3",
+        "on a 3 go",
+        "on a 3 remove",
+        "on a 3 remove 3 #",
+        "on a-b 3 remove 3",
+        "on b 3 remove 3",
+        "drop",
+        "drop b",
+        "drop a a",
+        "drop a-b",
         // Names.
         "sub",
         "sub a-b",
@@ -249,6 +270,20 @@ fn the_first_bad_line_is_named(rt: HostRuntime) {
         ("sub a\nsub b\nsub a\nsub b\n", 3),
         ("sub a add 3 IN\nask a remove 3\n", 1),
         ("run\nbatch 3:IN:0\nrun now", 3),
+        ("drop a\nsub a\n", 1),
+        ("on a 3 remove 3\nrun\n", 1),
+        ("run\non a 3 remove 3\nrun now\n", 2),
+        ("run now\non a 3 remove 3\n", 1),
+        ("on a 3 remove 3\nsub a add 3 IN\n", 1),
+        ("on a 3 remove 3\nrun now\nsub a\n", 2),
+        ("on a 3 remove 3\nrun now\nsub a add 3 IN\n", 1),
+        ("on a 3 remove 3\nsub a\nsub a\n", 3),
+        ("on b 3 remove 3\non a 3 remove 3\nsub a\n", 1),
+        ("on a 3 remove 3\non b 3 remove 3\nsub a\n", 2),
+        (
+            "sub a\n#\non a 3 remove 3\non b 3 remove\non b 3 remove 3\n",
+            4,
+        ),
     ];
     for (text, line) in table {
         assert_eq!(rt;
@@ -257,4 +292,38 @@ fn the_first_bad_line_is_named(rt: HostRuntime) {
             "{text:?}"
         );
     }
+}
+
+#[test]
+fn reactions_stand_by_name_and_descriptor(rt: HostRuntime) -> Result<(), Fail> {
+    let alloc = rt.alloc();
+    let text =
+        "on a 3 remove 4\nsub a\non b 3 remove 5\nsub b\non a 4 remove 6\non a 3 remove 7 remove 8\n";
+    let script = parse(alloc, text)?;
+    let mut reactions = script.reactions.into_iter();
+    let mut of_a = reactions.next().ok_or("a")?;
+    assert!(rt;
+        of_a.next(Events::empty_raw(3))
+            == Some(vec![in alloc; Request::Remove(Events::empty_raw(4))]?)
+    );
+    assert!(rt;
+        of_a.next(Events::empty_raw(4))
+            == Some(vec![in alloc; Request::Remove(Events::empty_raw(6))]?)
+    );
+    assert!(rt;
+        of_a.next(Events::empty_raw(3))
+            == Some(vec![in alloc;
+                Request::Remove(Events::empty_raw(7)),
+                Request::Remove(Events::empty_raw(8))
+            ]?)
+    );
+    assert!(rt; of_a.next(Events::empty_raw(3)).is_none());
+    assert!(rt; of_a.next(Events::empty_raw(5)).is_none());
+    let mut of_b = reactions.next().ok_or("b")?;
+    assert!(rt; of_b.next(Events::empty_raw(4)).is_none());
+    assert!(rt;
+        of_b.next(Events::empty_raw(3))
+            == Some(vec![in alloc; Request::Remove(Events::empty_raw(5))]?)
+    );
+    Ok(())
 }

@@ -1,0 +1,118 @@
+//! Several kinds of subscribers in one manager.
+
+use super::log::{SharedLog, got, silent_endpoint};
+use event_manager::{
+    BoxedPoller, BoxedSubscriber, EventManager, Events, Request, StepInput, StepSubscriber,
+    SubscriberOps,
+};
+use std::sync::Wait;
+use std::test::Fail;
+use vmm_sys::epoll::{EpollEvent, EventSet};
+use vmm_sys::poller::Poller;
+use vmm_sys::script_poller::ScriptPoller;
+
+/// Adds up to two descriptors in `init`, and notes its events.
+#[derive(Drop)]
+struct Pair<R> {
+    number: u64,
+    first: Option<Request>,
+    second: Option<Request>,
+    log: SharedLog<R>,
+}
+
+impl<R: Wait + Copy> StepSubscriber for Pair<R> {
+    ghost use Rattle.event_manager.specs.StepExchanges.{at_most_left};
+
+    ghost requests = { λ v input wanted w. Unit {0} };
+
+    ghost requests_left = { λ v. at_most_left v.second 0 };
+
+    fn next(&mut self, input: StepInput) -> Option<Request> {
+        match input {
+            StepInput::Init => self.first,
+            StepInput::Event(events) => {
+                self.log.note(self.number, events);
+                None
+            }
+            StepInput::Answer(_) => self.second.take(),
+        }
+    }
+}
+
+/// Adds one descriptor in `init`, and notes its events.
+#[derive(Drop)]
+struct Single<R> {
+    number: u64,
+    own: Events,
+    log: SharedLog<R>,
+}
+
+impl<R: Wait + Copy> StepSubscriber for Single<R> {
+    ghost requests = { λ v input wanted w. Unit {0} };
+
+    ghost requests_left = { λ v. 0 };
+
+    fn next(&mut self, input: StepInput) -> Option<Request> {
+        match input {
+            StepInput::Init => Some(Request::Add(self.own)),
+            StepInput::Event(events) => {
+                self.log.note(self.number, events);
+                None
+            }
+            StepInput::Answer(_) => None,
+        }
+    }
+}
+
+/// The report 5 OUT 1, 4 IN 7, 6 IN 0, 3 IN 0.
+fn first_run(rt: HostRuntime) -> Result<BoxedPoller, Fail> {
+    let mut script = ScriptPoller::new(rt.alloc());
+    script.push_report(vec![in rt.alloc();
+        EpollEvent::new(EventSet::OUT, (1 << 32) + 5),
+        EpollEvent::new(EventSet::IN, (7 << 32) + 4),
+        EpollEvent::new(EventSet::IN, 6),
+        EpollEvent::new(EventSet::IN, 3),
+    ]?)?;
+    let poller: Box<dyn Poller + Send> = Box::new(rt.alloc(), script)?;
+    Ok(BoxedPoller(poller))
+}
+
+fn watching_two<R: Wait + Copy>(log: &SharedLog<R>) -> Result<Pair<R>, Fail> {
+    Ok(Pair {
+        number: 1,
+        first: Some(Request::Add(Events::new_raw(3, EventSet::IN))),
+        second: Some(Request::Add(Events::with_data_raw(4, 7, EventSet::IN))),
+        log: log.try_clone()?,
+    })
+}
+
+fn watching_one<R: Wait + Copy>(log: &SharedLog<R>) -> Result<Single<R>, Fail> {
+    Ok(Single {
+        number: 2,
+        own: Events::with_data_raw(5, 1, EventSet::OUT),
+        log: log.try_clone()?,
+    })
+}
+
+#[test]
+fn boxes_of_two_kinds_get_the_first_run(rt: HostRuntime) -> Result<(), Fail> {
+    let log = SharedLog::new(rt.alloc(), rt)?;
+    let mut manager = EventManager::<BoxedSubscriber>::new(
+        rt.alloc(),
+        first_run(rt)?,
+        silent_endpoint(rt, rt.alloc())?,
+    )?;
+    let two: Box<dyn StepSubscriber + Send> = Box::new(rt.alloc(), watching_two(&log)?)?;
+    let one: Box<dyn StepSubscriber + Send> = Box::new(rt.alloc(), watching_one(&log)?)?;
+    assert_eq!(rt; manager.add_subscriber(BoxedSubscriber(two))?.number(), 1);
+    assert_eq!(rt; manager.add_subscriber(BoxedSubscriber(one))?.number(), 2);
+    assert_eq!(rt; manager.run(&rt), Ok(4));
+    assert!(rt;
+        log.were(&[
+            got(2, 5, EventSet::OUT, 1),
+            got(1, 4, EventSet::IN, 7),
+            got(1, 3, EventSet::IN, 0)
+        ])
+    );
+    Ok(())
+}

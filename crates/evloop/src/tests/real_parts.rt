@@ -1,0 +1,99 @@
+//! A manager over the in-process table.
+
+use super::log::{Log, LogSink, Sink, Watcher, got};
+use event_manager::{
+    BoxedPoller, Error, EventManager, EventOps, EventPoller, Events, MutEventSubscriber,
+    PlainPoller, SubscriberOps,
+};
+use std::test::Fail;
+use vmm_sys::epoll::{AsRawFd, Epoll, EventSet};
+use vmm_sys::errno::Errno;
+use vmm_sys::eventfd::EventFd;
+use vmm_sys::poller::Poller;
+use vmm_sys::table::Table;
+
+/// Wants `OUT` on one counter, and at its first event adds another.
+#[derive(Drop)]
+struct Growing {
+    first: Events,
+    second: Events,
+    log: Log,
+}
+
+impl MutEventSubscriber for Growing {
+    ghost use Rattle.std.specs.Prelude.{◌≡◌, [], ◌∷◌};
+    ghost use Rattle.event_manager.specs.Exchange.{Answer};
+    ghost use Rattle.event_manager.specs.declared.events.Request.TheVariants.{Add};
+
+    ghost begins = { λ v exchanges w. (answer : Answer) × (exchanges ≡ (Add v.first, answer) ∷ []) };
+
+    ghost serves = { λ v event exchanges w. (answer : Answer) × (exchanges ≡ (Add v.second, answer) ∷ []) };
+
+    fn process<P: EventPoller>(&mut self, events: Events, ops: &mut EventOps<P>) {
+        self.log.note(1, events);
+        let _ = ops.add(self.second);
+    }
+
+    fn init<P: EventPoller>(&mut self, ops: &mut EventOps<P>) {
+        let _ = ops.add(self.first);
+    }
+}
+
+#[test]
+fn descriptor_added_in_process_is_served_by_the_next_run(rt: HostRuntime) -> Result<(), Fail> {
+    let log = Log::new(rt.alloc())?;
+    let epoll = Epoll::new(rt, rt.alloc())?;
+    let endpoint = EventFd::new(&epoll, 0, &rt)?;
+    let first = EventFd::new(&epoll, 0, &rt)?;
+    let second = EventFd::new(&epoll, 0, &rt)?;
+    let poller: Box<dyn Poller + Send> = Box::new(rt.alloc(), epoll)?;
+    let mut manager = EventManager::<Growing>::new(rt.alloc(), BoxedPoller(poller), endpoint)?;
+    manager.add_subscriber(Growing {
+        first: Events::new(&first, EventSet::OUT),
+        second: Events::new(&second, EventSet::OUT),
+        log: log.try_clone()?,
+    })?;
+    assert_eq!(rt; manager.run(&rt), Ok(1));
+    assert!(rt; log.were(&[got(1, 1, EventSet::OUT, 0)]));
+    assert_eq!(rt; manager.run(&rt), Ok(2));
+    assert!(rt; log.were(&[got(1, 1, EventSet::OUT, 0), got(1, 2, EventSet::OUT, 0)]));
+    Ok(())
+}
+
+#[test]
+fn endpoint_is_read_once_after_its_event(rt: HostRuntime) -> Result<(), Fail> {
+    let epoll = Epoll::new(rt, rt.alloc())?;
+    let endpoint = EventFd::new(&epoll, 3, &rt)?;
+    let mut manager = EventManager::<Growing, _>::new(rt.alloc(), PlainPoller(epoll), endpoint)?;
+    assert_eq!(rt; manager.run(&rt), Ok(1));
+    assert_eq!(rt; manager.run_with_timeout(0, &rt), Ok(0));
+    Ok(())
+}
+
+#[test]
+fn capacity_0_over_a_table(rt: HostRuntime) -> Result<(), Fail> {
+    let log = Log::new(rt.alloc())?;
+    let epoll = Epoll::new(rt, rt.alloc())?;
+    let endpoint = EventFd::new(&epoll, 0, &rt)?;
+    let mut table = Table::new(rt.alloc());
+    assert_eq!(rt; table.add_counter(0), Ok(endpoint.as_raw_fd()));
+    assert_eq!(rt; table.add_counter(1), Ok(1));
+    let sink: Box<dyn Sink> = Box::new(
+        rt.alloc(),
+        LogSink {
+            number: 1,
+            log: log.try_clone()?,
+        },
+    )?;
+    let own = Events::new_raw(1, EventSet::IN);
+    let mut manager = EventManager::<Watcher, _>::new_with_capacity(
+        rt.alloc(),
+        PlainPoller(table),
+        endpoint,
+        0,
+    )?;
+    manager.add_subscriber(Watcher { own, sink })?;
+    assert_eq!(rt; manager.run(&rt), Err(Error::Epoll(Errno::EINVAL)));
+    assert!(rt; log.were(&[]));
+    Ok(())
+}
