@@ -9,7 +9,9 @@ use vmm_sys::errno::Errno;
 struct Twelve;
 
 impl AsRawFd for Twelve {
-    ghost descriptor = { λ _. 12 };
+    ghost use Rattle.std.specs.Prelude.{pos};
+
+    ghost descriptor = { λ _. pos 12 };
 
     fn as_raw_fd(&self) -> RawFd {
         12
