@@ -13,7 +13,7 @@ use crate::poller::EventPoller;
 use crate::subscribers::MutEventSubscriber;
 
 /// What a [`StepSubscriber`] is given.
-#[derive(Clone, Copy)]
+#[derive(Clone, Copy, PartialEq, Eq, Debug)]
 pub enum StepInput {
     /// It was added to a registry.
     Init,

@@ -18,7 +18,7 @@ use vmm_sys::errno::Errno;
 /// A descriptor from 0 up, 32 bits of data, and a set of events; packed as the word `data * 2^32 + fd`.
 ///
 /// A subscriber gets it in `process`, and gives it to an [`EventOps`]. Two are equal where all three parts are.
-#[derive(Clone, Copy, PartialEq, Eq)]
+#[derive(Clone, Copy, PartialEq, Eq, Debug)]
 pub struct Events {
     inner: EpollEvent,
 }
@@ -145,7 +145,7 @@ pub fn are_equal(a: &Events, b: &Events) -> bool
 }
 
 /// A request of a subscriber, as a value.
-#[derive(Clone, Copy, PartialEq, Eq)]
+#[derive(Clone, Copy, PartialEq, Eq, Debug)]
 pub enum Request {
     /// [`EventOps::add`].
     Add(Events),
@@ -222,8 +222,9 @@ impl<'a, P: EventPoller> EventOps<'a, P> {
         }
         match epoll.ctl(ControlOperation::Delete, events) {
             Ok(()) => {
-                epoll.registrations.unregister(events, self.id);
-                epoll.registrations.cancel(events);
+                let registrations = &mut epoll.registrations;
+                registrations.unregister(events, self.id);
+                registrations.cancel(events);
                 Ok(())
             }
             Err(e) => Err(Error::Epoll(e)),
