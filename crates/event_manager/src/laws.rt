@@ -1,5 +1,7 @@
 //! What holds of every history of a manager: each function does nothing, and its contract is a law.
 
+ghost use Rattle.std.specs.Hash as fed;
+ghost use Rattle.std.specs.List.{fold};
 ghost use Rattle.std.specs.Prelude.{IsTrue, ◌↔◌, ◌≡◌, ◌≢◌, ℕ, false, List, [], ◌∷◌, ◌++◌};
 ghost use Rattle.event_manager.specs.Event.{Event};
 ghost use Rattle.event_manager.specs.PollerCall.{PollerCall};
@@ -15,6 +17,7 @@ ghost use Rattle.event_manager.specs.Example.{any_begins, any_serves, any_may, j
 
 use crate::jobs::Job;
 use crate::subscribers::{MutEventSubscriber, SubscriberId};
+use std::hash::{Hash, Hasher};
 
 /// Non-interference: of a trace in which no job ran, the projection to each id that is apart from its neighbours (no
 /// other id owns at the start, or adds with success, a descriptor that the id owns at the start or asks to add) is
@@ -82,4 +85,11 @@ pub fn ids_are_equal(a: &SubscriberId, b: &SubscriberId) -> bool
     ensures { IsTrue result ↔ (a.now ≡ b.now) }
 {
     a == b
+}
+
+/// The hash of an id is that of its number.
+pub fn hash_id<H: Hasher>(id: &SubscriberId, state: &mut H)
+    ensures { state.new ≡ fold H.write state.old (fed.u64 id.now) }
+{
+    id.hash(state)
 }
