@@ -1,5 +1,6 @@
 pub mod Asked
 pub mod Coming
+pub mod FaultOf
 pub mod Name
 pub mod Number
 pub mod ScriptedPoller

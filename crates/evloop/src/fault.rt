@@ -1,5 +1,9 @@
 //! Why the program ends with a failure.
 
+ghost use Rattle.std.specs.Prelude.{◌≡◌};
+ghost use Rattle.evloop.specs.FaultOf.{fault_of};
+ghost use Rattle.evloop.specs.declared.fault.Fault.TheVariants as fault;
+
 use std::alloc::{AllocError, AllocFailed};
 use thiserror::Error;
 
@@ -29,6 +33,8 @@ pub enum Fault {
 }
 
 impl From<event_manager::Error> for Fault {
+    ghost from_gives = { λ error result. result ≡ fault_of error };
+
     fn from(error: event_manager::Error) -> Fault {
         match error {
             event_manager::Error::OutOfMemory => Fault::OutOfMemory,
@@ -38,12 +44,16 @@ impl From<event_manager::Error> for Fault {
 }
 
 impl<T: Drop> From<AllocFailed<T>> for Fault {
+    ghost from_gives = { λ error result. result ≡ fault.OutOfMemory };
+
     fn from(_error: AllocFailed<T>) -> Fault {
         Fault::OutOfMemory
     }
 }
 
 impl From<AllocError> for Fault {
+    ghost from_gives = { λ error result. result ≡ fault.OutOfMemory };
+
     fn from(_error: AllocError) -> Fault {
         Fault::OutOfMemory
     }

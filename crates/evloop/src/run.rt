@@ -1,6 +1,6 @@
 //! A script, run over an event manager.
 
-ghost use Rattle.std.specs.Prelude.{◌≡◌, IfOk, OnOk};
+ghost use Rattle.std.specs.Prelude.{◌≡◌, IfOk, OnOk, IsOkUnless};
 ghost use Rattle.evloop.specs.ScriptedPoller.{empty, answer_of, with_waits, with_refusals};
 ghost use Rattle.vmm_sys.specs.ScriptPoller.{with_answer};
 
@@ -81,13 +81,14 @@ fn open_endpoint<R: Wait + Clock + Clone + Send + Drop>(
     Ok(endpoint)
 }
 
-// A poller that answers what the script says.
+// A poller that answers what the script says. `ENOMEM`: memory was refused.
 fn poller_of(
     alloc: Global,
     waits: Vec<ScriptedWait>,
     refusals: Vec<Refusal>,
 ) -> Result<ScriptPoller, Errno>
-    ensures { IfOk result (λ poller. poller ≡ with_refusals (with_waits empty waits.items) refusals.items) }
+    ensures errors { IsOkUnless result Errno.ENOMEM }
+    ensures follows { IfOk result (λ poller. poller ≡ with_refusals (with_waits empty waits.items) refusals.items) }
 {
     let mut poller = ScriptPoller::new(alloc);
     for wait in waits {
@@ -99,9 +100,10 @@ fn poller_of(
     Ok(poller)
 }
 
-// Appends what one wait answers.
+// Appends what one wait answers. `ENOMEM`: memory was refused.
 fn push_wait(poller: &mut ScriptPoller, wait: ScriptedWait) -> Result<(), Errno>
-    ensures { OnOk result (poller.new ≡ with_answer poller.old (answer_of wait)) }
+    ensures errors { IsOkUnless result Errno.ENOMEM }
+    ensures pushed { OnOk result (poller.new ≡ with_answer poller.old (answer_of wait)) }
 {
     match wait {
         ScriptedWait::Report(events) => poller.push_report(events),

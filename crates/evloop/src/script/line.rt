@@ -3,6 +3,7 @@
 ghost use Rattle.std.specs.Prelude.{◌≡◌, ◌≤◌, ◌<◌, ◌↔◌, ◌/◌, ◌^◌, IsTrue, IfSome, IfOk, All, length, codes, Some, vec_len};
 ghost use Rattle.evloop.specs.Asked.{IsAddition};
 ghost use Rattle.evloop.specs.Name.{IsName, IsNameByte};
+ghost use Rattle.evloop.specs.declared.script.line.LineError.TheVariants as line_error;
 ghost use Rattle.std.specs.Str.Parse.{digits_value};
 ghost use Rattle.vmm_sys.specs.EpollEvent.{low_half_signed};
 
@@ -52,12 +53,16 @@ pub(super) enum LineError {
 }
 
 impl From<AllocError> for LineError {
+    ghost from_gives = { λ error result. result ≡ line_error.OutOfMemory };
+
     fn from(_error: AllocError) -> LineError {
         LineError::OutOfMemory
     }
 }
 
 impl<T: Drop> From<AllocFailed<T>> for LineError {
+    ghost from_gives = { λ error result. result ≡ line_error.OutOfMemory };
+
     fn from(_error: AllocFailed<T>) -> LineError {
         LineError::OutOfMemory
     }
