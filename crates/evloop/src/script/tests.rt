@@ -2,6 +2,7 @@
 
 use super::*;
 use event_manager::Events;
+use std::process::Abort;
 use std::test::Fail;
 use vmm_sys::epoll::EventSet;
 
@@ -145,9 +146,8 @@ fn scripts_that_are_taken(rt: HostRuntime) {
 }
 
 #[test]
-fn lines_that_are_bad(rt: HostRuntime) {
+fn other_words_are_bad(rt: HostRuntime) {
     let lines = [
-        // Words of no line, and words too many.
         "go",
         "Run",
         "run now",
@@ -158,7 +158,13 @@ fn lines_that_are_bad(rt: HostRuntime) {
         "\u{e9}",
         "run\u{b}",
         "run\u{a0}",
-        // Reactions and leaves.
+    ];
+    are_bad(&rt, &lines);
+}
+
+#[test]
+fn bad_reactions_and_leaves(rt: HostRuntime) {
+    let lines = [
         "on",
         "on a",
         "on a 3",
@@ -174,7 +180,13 @@ fn lines_that_are_bad(rt: HostRuntime) {
         "drop b",
         "drop a a",
         "drop a-b",
-        // Names.
+    ];
+    are_bad(&rt, &lines);
+}
+
+#[test]
+fn bad_names(rt: HostRuntime) {
+    let lines = [
         "sub",
         "sub a-b",
         "sub a.b",
@@ -182,7 +194,13 @@ fn lines_that_are_bad(rt: HostRuntime) {
         "sub #",
         "sub -",
         "sub abcdefghijklmnopqrstuvwxyz0123456",
-        // Requests.
+    ];
+    are_bad(&rt, &lines);
+}
+
+#[test]
+fn bad_requests(rt: HostRuntime) {
+    let lines = [
         "sub z add",
         "sub z add 3",
         "sub z add 3 IN",
@@ -214,7 +232,13 @@ fn lines_that_are_bad(rt: HostRuntime) {
         "ask b remove 3",
         "ask A remove 3",
         "sub a",
-        // Items.
+    ];
+    are_bad(&rt, &lines);
+}
+
+#[test]
+fn bad_items(rt: HostRuntime) {
+    let lines = [
         "batch 3",
         "batch 3:IN",
         "batch 3:IN:0:0",
@@ -235,7 +259,13 @@ fn lines_that_are_bad(rt: HostRuntime) {
         "batch --3:IN:0",
         "batch 3:IN:0,4:IN:0",
         "batch #",
-        // Refusals.
+    ];
+    are_bad(&rt, &lines);
+}
+
+#[test]
+fn bad_refusals(rt: HostRuntime) {
+    let lines = [
         "refuse",
         "refuse add 3",
         "refuse add 3 22 1",
@@ -248,13 +278,18 @@ fn lines_that_are_bad(rt: HostRuntime) {
         "refuse add 3 -22",
         "refuse add 3 ENOENT",
     ];
+    are_bad(&rt, &lines);
+}
+
+// Each is bad as the fourth line, behind a comment, an empty line and a join of `a`.
+fn are_bad<R: Abort + AllocGlobal>(rt: &R, lines: &[&str]) {
     for line in lines {
-        assert_eq!(rt; refused(&rt, line), Some(Fault::BadScript(4)), "{line:?}");
+        assert_eq!(rt; refused(rt, line), Some(Fault::BadScript(4)), "{line:?}");
     }
 }
 
 // What is answered where the line is the fourth, behind a comment, an empty line and a join of `a`.
-fn refused(rt: &HostRuntime, line: &str) -> Option<Fault> {
+fn refused<R: AllocGlobal>(rt: &R, line: &str) -> Option<Fault> {
     let text = format!(in rt.alloc(); "# first\n\nsub a\n{line}\nrun now").ok()?;
     parse(rt.alloc(), text.as_str()).err()
 }

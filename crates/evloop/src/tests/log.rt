@@ -113,9 +113,9 @@ pub trait Sink: Drop {
 
 /// Notes under a number.
 #[derive(Drop)]
-pub struct LogSink {
-    pub number: u64,
-    pub log: Log,
+struct LogSink {
+    number: u64,
+    log: Log,
 }
 
 impl Sink for LogSink {
@@ -147,6 +147,18 @@ impl MutEventSubscriber for Watcher {
     fn init<P: EventPoller>(&mut self, ops: &mut EventOps<P>) {
         let _ = ops.add(self.own);
     }
+}
+
+/// Notes in the log under the number.
+pub fn make_watcher(
+    alloc: Global,
+    log: &Log,
+    number: u64,
+    own: Events,
+) -> Result<Watcher, AllocError> {
+    let log = log.try_clone()?;
+    let sink: Box<dyn Sink> = Box::new(alloc, LogSink { number, log })?;
+    Ok(Watcher { own, sink })
 }
 
 /// A script of one report of these descriptors, each with `IN` and data 0.

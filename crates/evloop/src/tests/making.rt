@@ -1,11 +1,15 @@
 //! How a manager is made, and a manager over a boxed poller.
 
-use super::log::{Log, LogSink, Sink, Watcher, got, script_of, silent_endpoint};
+ghost use Rattle.std.specs.Prelude.{◌≤ℤ◌, pos};
+
+use super::log::{Log, Watcher, got, make_watcher, script_of, silent_endpoint};
 use event_manager::{
-    BoxedPoller, Error, EventManager, Events, MAX_READY_EVENTS_CAPACITY, SubscriberOps,
+    BoxedPoller, Error, EventManager, EventOps, EventPoller, Events, MAX_READY_EVENTS_CAPACITY,
+    SubscriberOps,
 };
+use std::process::Abort;
 use std::test::Fail;
-use vmm_sys::epoll::{ControlOperation, EventSet};
+use vmm_sys::epoll::{ControlOperation, EventSet, RawFd};
 use vmm_sys::errno::Errno;
 use vmm_sys::poller::Poller;
 use vmm_sys::script_poller::ScriptPoller;
@@ -15,15 +19,11 @@ fn boxed(rt: HostRuntime, script: ScriptPoller) -> Result<BoxedPoller, Fail> {
     Ok(BoxedPoller(poller))
 }
 
-fn watcher(rt: HostRuntime, log: &Log, number: u64, own: Events) -> Result<Watcher, Fail> {
-    let sink: Box<dyn Sink> = Box::new(
-        rt.alloc(),
-        LogSink {
-            number,
-            log: log.try_clone()?,
-        },
-    )?;
-    Ok(Watcher { own, sink })
+fn watcher_of(rt: HostRuntime, log: &Log, number: u64, fd: RawFd) -> Result<Watcher, Fail>
+    requires { pos 0 ≤ℤ fd }
+{
+    let own = Events::new_raw(fd, EventSet::IN);
+    Ok(make_watcher(rt.alloc(), log, number, own)?)
 }
 
 #[test]
@@ -52,7 +52,7 @@ fn capacity_0_is_left_to_the_wait(rt: HostRuntime) -> Result<(), Fail> {
         silent_endpoint(rt, rt.alloc())?,
         0,
     )?;
-    manager.add_subscriber(watcher(rt, &log, 1, Events::new_raw(3, EventSet::IN))?)?;
+    manager.add_subscriber(watcher_of(rt, &log, 1, 3)?)?;
     assert_eq!(rt; manager.run(&rt), Err(Error::Epoll(Errno::EINVAL)));
     assert!(rt; log.were(&[]));
     Ok(())
@@ -80,17 +80,33 @@ fn subscribers_with_boxes_over_a_boxed_poller(rt: HostRuntime) -> Result<(), Fai
         poller,
         silent_endpoint(rt, rt.alloc())?,
     )?;
-    let first = manager.add_subscriber(watcher(rt, &log, 1, Events::new_raw(3, EventSet::IN))?)?;
-    let second = manager.add_subscriber(watcher(rt, &log, 2, Events::new_raw(4, EventSet::IN))?)?;
-    assert_eq!(rt; first.number(), 1);
-    assert_eq!(rt; second.number(), 2);
+    let first = manager.add_subscriber(watcher_of(rt, &log, 1, 3)?)?;
+    let second = manager.add_subscriber(watcher_of(rt, &log, 2, 4)?)?;
+    assert_eq!(rt; (first.number(), second.number()), (1, 2));
     assert_eq!(rt; manager.run(&rt), Ok(4));
     assert!(rt; log.were(&[got(2, 4, EventSet::IN, 0), got(1, 3, EventSet::IN, 0)]));
     assert_eq!(rt; manager.run_with_timeout(0, &rt), Ok(0));
+    Ok(())
+}
 
-    // Another value in the first one's place gets the first one's descriptors.
-    *manager.subscriber_mut(first)? = watcher(rt, &log, 7, Events::new_raw(8, EventSet::IN))?;
-    let mut ops = manager.event_ops(second)?;
+#[test]
+fn another_value_has_the_descriptors_of_the_one_before(rt: HostRuntime) -> Result<(), Fail> {
+    let log = Log::new(rt.alloc())?;
+    let poller = boxed(rt, ScriptPoller::new(rt.alloc()))?;
+    let mut manager = EventManager::<Watcher>::new(
+        rt.alloc(),
+        poller,
+        silent_endpoint(rt, rt.alloc())?,
+    )?;
+    let first = manager.add_subscriber(watcher_of(rt, &log, 1, 3)?)?;
+    let second = manager.add_subscriber(watcher_of(rt, &log, 2, 4)?)?;
+    *manager.subscriber_mut(first)? = watcher_of(rt, &log, 7, 8)?;
+    asks_beside_the_owner_of_3(&rt, &mut manager.event_ops(second)?);
+    Ok(())
+}
+
+// What the owner of 4 is answered where another owns 3, and 0 is the endpoint's.
+fn asks_beside_the_owner_of_3<P: EventPoller, R: Abort>(rt: &R, ops: &mut EventOps<P>) {
     assert_eq!(rt;
         ops.remove(Events::empty_raw(3)),
         Err(Error::Epoll(Errno::ENOENT))
@@ -105,5 +121,4 @@ fn subscribers_with_boxes_over_a_boxed_poller(rt: HostRuntime) -> Result<(), Fai
     );
     assert_eq!(rt; ops.modify(Events::new_raw(4, EventSet::OUT)), Ok(()));
     assert_eq!(rt; ops.remove(Events::empty_raw(4)), Ok(()));
-    Ok(())
 }

@@ -1,6 +1,6 @@
 //! A manager over the in-process table.
 
-use super::log::{Log, LogSink, Sink, Watcher, got};
+use super::log::{Log, Watcher, got, make_watcher};
 use event_manager::{
     BoxedPoller, Error, EventManager, EventOps, EventPoller, Events, MutEventSubscriber,
     PlainPoller, SubscriberOps,
@@ -78,13 +78,6 @@ fn capacity_0_over_a_table(rt: HostRuntime) -> Result<(), Fail> {
     let mut table = Table::new(rt.alloc());
     assert_eq!(rt; table.add_counter(0), Ok(endpoint.as_raw_fd()));
     assert_eq!(rt; table.add_counter(1), Ok(1));
-    let sink: Box<dyn Sink> = Box::new(
-        rt.alloc(),
-        LogSink {
-            number: 1,
-            log: log.try_clone()?,
-        },
-    )?;
     let own = Events::new_raw(1, EventSet::IN);
     let mut manager = EventManager::<Watcher, _>::new_with_capacity(
         rt.alloc(),
@@ -92,7 +85,7 @@ fn capacity_0_over_a_table(rt: HostRuntime) -> Result<(), Fail> {
         endpoint,
         0,
     )?;
-    manager.add_subscriber(Watcher { own, sink })?;
+    manager.add_subscriber(make_watcher(rt.alloc(), &log, 1, own)?)?;
     assert_eq!(rt; manager.run(&rt), Err(Error::Epoll(Errno::EINVAL)));
     assert!(rt; log.were(&[]));
     Ok(())
