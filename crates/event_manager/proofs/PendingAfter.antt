@@ -32,8 +32,8 @@ filter_twice p q (e ∷ events) = elim (q e) as (λ b. filter (λ x. not (p x)) 
 unchanged : (registrations after : Registrations) (request : Request) (answer : Answer) (error : _) → answer ≡ Err error → after ≡ registrations → after.pending ≡ filter (λ e. not (is_removal e.fd request answer)) registrations.pending
 unchanged registrations after request answer error r e = ap (λ (b : Registrations). b.pending) e ∙ sym (filter_all (λ x. not (is_removal x.fd request answer)) registrations.pending (λ x. ap not (no_removal x.fd request answer error r)))
 
-eq_iterated : (a b : ℕ) → (a == b) ≡ (b == a)
-eq_iterated a b = elim (fd_tells a b) [
+eq_swapped : (a b : ℕ) → (a == b) ≡ (b == a)
+eq_swapped a b = elim (fd_tells a b) [
   | inl p ↦ p.2 ∙ sym (eq-eqb b a (sym p.1))
   | inr p ↦ p.2 ∙ sym (ne_eqb b a (λ q. p.1 (sym q)))
 ]
@@ -41,7 +41,7 @@ eq_iterated a b = elim (fd_tells a b) [
 agreed_pending : (i : ℕ) (registrations : Registrations) (request : Request) → (registrations_after i request registrations).pending ≡ filter (λ e. not (is_removal e.fd request agreed)) registrations.pending
 agreed_pending i registrations (Add e) = sym (filter_all _ registrations.pending (λ x. refl))
 agreed_pending i registrations (Modify e) = sym (filter_all _ registrations.pending (λ x. refl))
-agreed_pending i registrations (Remove e) = filter_alike _ _ registrations.pending (λ x. ap not (eq_iterated x.fd e.fd))
+agreed_pending i registrations (Remove e) = filter_alike _ _ registrations.pending (λ x. ap not (eq_swapped x.fd e.fd))
 
 fits_pending : (i : ℕ) (registrations : Registrations) (request : Request) (answer : Answer) (calls : List PollerCall) (after : Registrations) → Fits i registrations request answer calls after → after.pending ≡ filter (λ e. not (is_removal e.fd request answer)) registrations.pending
 fits_pending i registrations request answer calls after (by_manager h a e) = let err = unasked_is_error i registrations request answer h in unchanged registrations after request answer err.0 err.1 e

@@ -1,10 +1,10 @@
 -- Exchanges of a subscriber in a box.
-use Rattle.std.proofs.Common.{◌≡◌, ℕ, ◌+◌, ◌<◌, List, [], ◌∷◌, ◌++◌, Option, Some, None, subst, arith}
+use Rattle.std.proofs.Common.{◌≡◌, List, [], ◌∷◌, ◌++◌, Option, Some, subst}
 use Rattle.std.specs.declared.alloc.Global.{Global}
 use Rattle.std.specs.declared.dyn_box.DynBox.{DynBox}
 use Rattle.event_manager.specs.Exchange.{Exchanges, Answer as RequestAnswer}
 use Rattle.event_manager.specs.PollerCall.{PollerCall}
-use Rattle.event_manager.specs.StepExchanges.{HoldsNow, Reaches, LeavesFewer, at_most_left}
+use Rattle.event_manager.specs.StepExchanges.{HoldsNow, Reaches}
 use Rattle.event_manager.specs.Requests.{AreMadeThrough}
 use Rattle.event_manager.specs.PollerCall.{Controls, Waits}
 use Rattle.event_manager.specs.declared.events.Request.{Request}
@@ -50,7 +50,3 @@ module _ {I : Type 0} {F : I → Type 0} (kinds : (i : I) → Ghosts (F i)) wher
       reached = reached_more start now next first f.exchanges request answer wanted f.reached stepped;
       exchanged = exchanges_join f.exchanged input;
     }
-
-pub fewer_left : (answer : RequestAnswer) (wanted : Option Request) (before after : ℕ) → LeavesFewer (Answer answer) wanted before after → at_most_left wanted after < before + 1
-fewer_left answer None before after h = omega arith
-fewer_left answer (Some request) before after h = omega arith

@@ -69,6 +69,3 @@ get_same m k v = get-insert nat_cmp_total m k v k ∙ ap (λ b. cond b (Some v) 
 
 pub some_is : {X : Type 0} (x y : X) → Some x ≡ Some y → x ≡ y
 some_is x y e = cc
-
-pub owned_is_descriptor : (m : BTreeMap ℕ ℕ) (q i : ℕ) → AreDescriptors m → get (from_entries {R = nat_cmp} m.entries) q ≡ Some i → q < 2 ^ 31
-owned_is_descriptor m q i is_descriptor e = is_descriptor q (subst (λ (o : Option ℕ). IsSome o) (sym e ∙ get_of_owner m q) refl)
