@@ -139,6 +139,7 @@ impl Events {
 pub fn are_equal(a: &Events, b: &Events) -> bool
     ensures { IsTrue result ↔ (a.now ≡ b.now) }
 {
+    // Read, so that the prover knows of each that its descriptor is one from 0 up.
     let _first = &a.inner;
     let _second = &b.inner;
     a == b

@@ -211,6 +211,7 @@ impl<S: MutEventSubscriber, P: EventPoller> Registry<S, P> {
             Ok(_) => {}
             Err(_) => return Err(Error::OutOfMemory),
         }
+        // Never none: the id was inserted just now.
         let Some(held) = self.subscribers.get_mut(&id) else {
             return Err(Error::OutOfMemory);
         };
