@@ -1,5 +1,5 @@
 -- Lists of exchanges, put together.
-use Rattle.std.proofs.Common.{◌≡◌, ℕ, List, [], ◌∷◌, ◌++◌, refl, sym, ap, subst, ◌∙◌, append_assoc, inl, inr, arith, Ok, Err, Bool, true, false, ◌||◌, ◌==◌, not, cond}
+use Rattle.std.proofs.Common.{◌≡◌, ℕ, List, [], ◌∷◌, ◌++◌, refl, sym, ap, subst, ◌∙◌, append_assoc, inl, inr, arith, Ok, Err, Bool, true, false, ◌||◌, ◌==◌, not, cond, map}
 use Rattle.std.proofs.lemmas.List.{append-nil}
 use Rattle.std.proofs.lemmas.Bool.Decides.{nat_tests}
 use Rattle.event_manager.specs.Event.{Event}
@@ -30,13 +30,27 @@ removes_join : (fd : ℕ) (t u : Exchanges) → removes fd (t ++ u) ≡ removes 
 removes_join fd [] u = refl
 removes_join fd (x ∷ t) u = ap (λ b. is_removal fd x.0 x.1 || b) (removes_join fd t u) ∙ or_assoc (is_removal fd x.0 x.1) (removes fd t) (removes fd u)
 
+-- the marks of the exchanges, one for each position
+abbrev pub marked : Exchanges → List (Event × Bool) → List (Event × Bool)
+marked exchanges ready = map (λ p. (p.0, p.1 || removes p.0.fd exchanges)) ready
+
+marked_none : (ready : List (Event × Bool)) → marked [] ready ≡ ready
+marked_none [] = refl
+marked_none ((e, m) ∷ ready) = ap (λ b. (e, b) ∷ marked [] ready) (or_false m) ∙ ap (λ r. (e, m) ∷ r) (marked_none ready)
+
+marked_join : (t u : Exchanges) (ready : List (Event × Bool)) → marked (t ++ u) ready ≡ marked u (marked t ready)
+marked_join t u [] = refl
+marked_join t u ((e, m) ∷ ready) = ap (λ b. (e, b) ∷ marked (t ++ u) ready) (ap (λ b. m || b) (removes_join e.fd t u) ∙ or_assoc m (removes e.fd t) (removes e.fd u)) ∙ ap (λ r. (e, (m || removes e.fd t) || removes e.fd u) ∷ r) (marked_join t u ready)
+
+pub cancel_removed_marks : (exchanges : Exchanges) (ready : List (Event × Bool)) → cancel_removed exchanges ready ≡ marked exchanges ready
+cancel_removed_marks [] ready = sym (marked_none ready)
+cancel_removed_marks (exchange ∷ exchanges) ready = refl
+
 pub cancel_removed_none : (ready : List (Event × Bool)) → cancel_removed [] ready ≡ ready
-cancel_removed_none [] = refl
-cancel_removed_none ((e, m) ∷ ready) = ap (λ b. (e, b) ∷ cancel_removed [] ready) (or_false m) ∙ ap (λ r. (e, m) ∷ r) (cancel_removed_none ready)
+cancel_removed_none ready = refl
 
 cancel_removed_join : (t u : Exchanges) (ready : List (Event × Bool)) → cancel_removed (t ++ u) ready ≡ cancel_removed u (cancel_removed t ready)
-cancel_removed_join t u [] = refl
-cancel_removed_join t u ((e, m) ∷ ready) = ap (λ b. (e, b) ∷ cancel_removed (t ++ u) ready) (ap (λ b. m || b) (removes_join e.fd t u) ∙ or_assoc m (removes e.fd t) (removes e.fd u)) ∙ ap (λ r. (e, (m || removes e.fd t) || removes e.fd u) ∷ r) (cancel_removed_join t u ready)
+cancel_removed_join t u ready = cancel_removed_marks (t ++ u) ready ∙ marked_join t u ready ∙ ap (marked u) (sym (cancel_removed_marks t ready)) ∙ sym (cancel_removed_marks u (cancel_removed t ready))
 
 -- one exchange that removes nothing
 pub cancel_removed_other : (request : Request) (answer : Answer) → ((fd : ℕ) → is_removal fd request answer ≡ false) → (ready : List (Event × Bool)) → ready ≡ cancel_removed ((request, answer) ∷ []) ready
@@ -64,18 +78,18 @@ module _ {P : Type 0} {controls : Controls P} {waits : Waits P} where
   one_made {a = a} {calls = calls} fit ready led same = record { fits = (calls, [], registrations_of a.registrations, sym (append-nil calls), fit, (refl, refl)); ready = ready; led = led; same_capacity = same }
 
   pub one_made_through : {b a : EventOps P} {request : Request} {answer : Answer} {calls : List PollerCall}
-      → a.epoll.ghost_name ≡ b.epoll.ghost_name → a.id ≡ b.id → Fits b.id (registrations_of b.epoll.now.registrations) request answer calls (registrations_of a.epoll.now.registrations) → a.epoll.now.registrations.ready ≡ cancel_removed ((request, answer) ∷ []) b.epoll.now.registrations.ready → Leads controls waits b.epoll.now.poller calls a.epoll.now.poller → a.epoll.now.registrations.capacity ≡ b.epoll.now.registrations.capacity
+      → b.id ≡ b.id → a.id ≡ b.id → Fits b.id (registrations_of b.epoll.registrations) request answer calls (registrations_of a.epoll.registrations) → a.epoll.registrations.ready ≡ cancel_removed ((request, answer) ∷ []) b.epoll.registrations.ready → Leads controls waits b.epoll.poller calls a.epoll.poller → a.epoll.registrations.capacity ≡ b.epoll.registrations.capacity
       → AreMadeThrough controls waits b a ((request, answer) ∷ []) calls
-  one_made_through same_epoll same_id fit ready led same = record { same_epoll = same_epoll; same_id = same_id; made = one_made fit ready led same }
+  one_made_through same_epoll same_id fit ready led same = record { same_id = same_id; made = one_made fit ready led same }
 
   -- one request that left the registrations as they were, and removed nothing
   pub kept : {b a : EventOps P} {request : Request} {answer : Answer} {calls : List PollerCall}
-      → a.epoll.ghost_name ≡ b.epoll.ghost_name → a.id ≡ b.id → a.epoll.now.registrations ≡ b.epoll.now.registrations → ((fd : ℕ) → is_removal fd request answer ≡ false)
-      → Fits b.id (registrations_of b.epoll.now.registrations) request answer calls (registrations_of b.epoll.now.registrations) → Leads controls waits b.epoll.now.poller calls a.epoll.now.poller
+      → b.id ≡ b.id → a.id ≡ b.id → a.epoll.registrations ≡ b.epoll.registrations → ((fd : ℕ) → is_removal fd request answer ≡ false)
+      → Fits b.id (registrations_of b.epoll.registrations) request answer calls (registrations_of b.epoll.registrations) → Leads controls waits b.epoll.poller calls a.epoll.poller
       → AreMadeThrough controls waits b a ((request, answer) ∷ []) calls
   kept {b} {a} {request} {answer} {calls} same_epoll same_id same none fit led =
-      one_made_through same_epoll same_id (subst (λ r. Fits b.id (registrations_of b.epoll.now.registrations) request answer calls (registrations_of r)) (sym same) fit)
-      (ap (λ (r : RegistrationState). r.ready) same ∙ cancel_removed_other request answer none b.epoll.now.registrations.ready) led (ap (λ (r : RegistrationState). r.capacity) same)
+      one_made_through same_epoll same_id (subst (λ r. Fits b.id (registrations_of b.epoll.registrations) request answer calls (registrations_of r)) (sym same) fit)
+      (ap (λ (r : RegistrationState). r.ready) same ∙ cancel_removed_other request answer none b.epoll.registrations.ready) led (ap (λ (r : RegistrationState). r.capacity) same)
 
 pub refused_by_manager : (i : ℕ) (registrations : Registrations) (e : Event) (x : Error) → IsVacant registrations e (Err x) → IsRefusedByManager i registrations (Add e) (Err x)
 refused_by_manager i registrations e x (inl h) = inl (h.0, ap Err h.1)
@@ -99,14 +113,13 @@ module _ {P : Type 0} {controls : Controls P} {waits : Waits P} where
   -- two lists of exchanges in a row are one
   pub exchanges_join : {b m a : EventOps P} {t u : Exchanges} {xs ys : List PollerCall} → AreMadeThrough controls waits b m t xs → AreMadeThrough controls waits m a u ys → AreMadeThrough controls waits b a (t ++ u) (xs ++ ys)
   exchanges_join {b} {m} {a} {t} {u} {xs} {ys} f g = record {
-    same_epoll = g.same_epoll ∙ f.same_epoll;
     same_id = g.same_id ∙ f.same_id;
-    made = made_join controls waits b.id b.epoll.now m.epoll.now a.epoll.now t u xs ys f.made (subst (λ i. AreMade controls waits m.epoll.now a.epoll.now i u ys) f.same_id g.made);
+    made = made_join controls waits b.id b.epoll m.epoll a.epoll t u xs ys f.made (subst (λ i. AreMade controls waits m.epoll a.epoll i u ys) f.same_id g.made);
   }
 
   -- no exchange
   pub none_made : (b : EventOps P) → AreMadeThrough controls waits b b [] []
-  none_made b = record { same_epoll = refl; same_id = refl; made = record { fits = (refl, refl); ready = sym (cancel_removed_none b.epoll.now.registrations.ready); led = refl; same_capacity = refl } }
+  none_made b = record { same_id = refl; made = record { fits = (refl, refl); ready = sym (cancel_removed_none b.epoll.registrations.ready); led = refl; same_capacity = refl } }
 
 -- what fits with some events pending fits with none
 abbrev nothing_pending : Registrations → Registrations

@@ -16,3 +16,4 @@ pub mod Soundness
 pub mod TreeMaps
 pub mod StepExchangeLemmas
 pub mod Watching
+pub mod LentSteps

@@ -19,13 +19,13 @@ use Rattle.event_manager.specs.PollerCall.{Controls, Waits, Leads}
 use Rattle.event_manager.specs.Subscribers.{registry_of, idle, loop_state, HasOutcome, TakesPosition, IsDispatched}
 use Rattle.event_manager.specs.LoopState.{IsLoopIteration}
 use Rattle.event_manager.specs.declared.subscribers.Registry.{Registry}
-use Rattle.event_manager.proofs.ExchangeLemmas.{cancel_removed_none, leads_join}
+use Rattle.event_manager.proofs.ExchangeLemmas.{cancel_removed_none, cancel_removed_marks, marked, leads_join}
 
 module _ {S P : Type 0} {controls : Controls P} {waits : Waits P} (serves : S → Event → Exchanges → S → Type 0) where
   pub nobody_position : (before after : Registry S P) (event : Event) (cancelled : Bool) (rest : List (Event × Bool))
-      → before.epoll.registrations.ready ≡ (event, cancelled) ∷ rest → after.epoll.registrations ≡ record before.epoll.registrations { ready = rest } → after.subscribers ≡ before.subscribers → after.next ≡ before.next
-      → ((cancelled ≡ true) ⊎ ((i : ℕ) (value : S) → ¬ (Owns i (registrations_of before.epoll.registrations) event.fd × HasId (registry_of before) i value)))
-      → Leads controls waits before.epoll.poller [] after.epoll.poller
+      → before.ops.epoll.registrations.ready ≡ (event, cancelled) ∷ rest → after.ops.epoll.registrations ≡ record before.ops.epoll.registrations { ready = rest } → after.subscribers ≡ before.subscribers → after.next ≡ before.next
+      → ((cancelled ≡ true) ⊎ ((i : ℕ) (value : S) → ¬ (Owns i (registrations_of before.ops.epoll.registrations) event.fd × HasId (registry_of before) i value)))
+      → Leads controls waits before.ops.epoll.poller [] after.ops.epoll.poller
       → TakesPosition serves controls waits before after
   nobody_position before after event cancelled rest was registrations subs next why led = record {
     event = event;
@@ -41,8 +41,8 @@ module _ {S P : Type 0} {controls : Controls P} {waits : Waits P} (serves : S �
 
   pub served_position : (before after : Registry S P) (event : Event) (rest : List (Event × Bool)) (mid : RegistrationState)
       (id : ℕ) (value held : S) (exchanges : Exchanges) (calls : List PollerCall)
-      → before.epoll.registrations.ready ≡ (event, false) ∷ rest → mid ≡ record before.epoll.registrations { ready = rest } → get mid.owner event.fd ≡ Some id → HasId (registry_of before) id value → serves value event exchanges held
-      → AreMade controls waits (record { registrations = mid; poller = before.epoll.poller }) after.epoll id exchanges calls
+      → before.ops.epoll.registrations.ready ≡ (event, false) ∷ rest → mid ≡ record before.ops.epoll.registrations { ready = rest } → get mid.owner event.fd ≡ Some id → HasId (registry_of before) id value → serves value event exchanges held
+      → AreMade controls waits (record { registrations = mid; poller = before.ops.epoll.poller }) after.ops.epoll id exchanges calls
       → from_entries {R = nat_cmp} after.subscribers.entries ≡ insert (from_entries before.subscribers.entries) id held → after.next ≡ before.next
       → TakesPosition serves controls waits before after
   served_position before after event rest mid id value held exchanges calls was registrations owns has served made values next = record {
@@ -57,8 +57,8 @@ module _ {S P : Type 0} {controls : Controls P} {waits : Waits P} (serves : S �
       subst (λ (b : RegistrationState). get b.owner event.fd ≡ Some id) registrations owns,
       has,
       served,
-      subst (λ (b : RegistrationState). ExchangesFit id (registrations_of b) exchanges calls (registrations_of after.epoll.registrations)) registrations made.fits,
-      λ k. record { values = values k; next = next k; registrations = registrations_of after.epoll.registrations },
+      subst (λ (b : RegistrationState). ExchangesFit id (registrations_of b) exchanges calls (registrations_of after.ops.epoll.registrations)) registrations made.fits,
+      λ k. record { values = values k; next = next k; registrations = registrations_of after.ops.epoll.registrations },
     );
     ready = made.ready ∙ ap (λ (b : RegistrationState). cancel_removed exchanges b.ready) registrations;
     led = made.led;
@@ -72,10 +72,10 @@ same_some : {A : Type 0} (o : Option A) (x y : A) → o ≡ Some x → o ≡ Som
 same_some o x y e f = cc
 
 module _ {S P : Type 0} (before : Registry S P) (mid : RegistrationState) (fd : ℕ) (rest : List (Event × Bool)) where
-  pub not_owned : mid ≡ record before.epoll.registrations { ready = rest } → get mid.owner fd ≡ None → (i : ℕ) (value : S) → ¬ (Owns i (registrations_of before.epoll.registrations) fd × HasId (registry_of before) i value)
+  pub not_owned : mid ≡ record before.ops.epoll.registrations { ready = rest } → get mid.owner fd ≡ None → (i : ℕ) (value : S) → ¬ (Owns i (registrations_of before.ops.epoll.registrations) fd × HasId (registry_of before) i value)
   not_owned registrations none i value h = taken i (sym (subst (λ (b : RegistrationState). get b.owner fd ≡ None) registrations none) ∙ h.0)
 
-  pub not_there : (id : ℕ) → mid ≡ record before.epoll.registrations { ready = rest } → get mid.owner fd ≡ Some id → get (from_entries {R = nat_cmp} before.subscribers.entries) id ≡ None → (i : ℕ) (value : S) → ¬ (Owns i (registrations_of before.epoll.registrations) fd × HasId (registry_of before) i value)
+  pub not_there : (id : ℕ) → mid ≡ record before.ops.epoll.registrations { ready = rest } → get mid.owner fd ≡ Some id → get (from_entries {R = nat_cmp} before.subscribers.entries) id ≡ None → (i : ℕ) (value : S) → ¬ (Owns i (registrations_of before.ops.epoll.registrations) fd × HasId (registry_of before) i value)
   not_there id registrations owns none i value h =
       let same = same_some _ id i (subst (λ (b : RegistrationState). get b.owner fd ≡ Some id) registrations owns) h.0 in
       taken value (sym (subst (λ j. get (from_entries {R = nat_cmp} before.subscribers.entries) j ≡ None) same none) ∙ h.1)
@@ -96,9 +96,12 @@ removed_more : {V : Type 0} (fd : ℕ) (positions : List (Position V)) (d : Posi
 removed_more fd [] d = or_false (removes fd (exchanges_of d.outcome))
 removed_more fd (x ∷ positions) d = ap (λ b. removes fd (exchanges_of x.outcome) || b) (removed_more fd positions d) ∙ or_assoc (removes fd (exchanges_of x.outcome)) (is_removed fd positions) (removes fd (exchanges_of d.outcome))
 
+marked_more : {V : Type 0} (positions : List (Position V)) (d : Position V) (later : List Event) → marked (exchanges_of d.outcome) (cancelled_by positions later) ≡ cancelled_by (positions ++ d ∷ []) later
+marked_more positions d [] = refl
+marked_more positions d (e ∷ later) = ap (λ b. (e, b) ∷ marked (exchanges_of d.outcome) (cancelled_by positions later)) (sym (removed_more e.fd positions d)) ∙ ap (λ r. (e, is_removed e.fd (positions ++ d ∷ [])) ∷ r) (marked_more positions d later)
+
 cancelled_more : {V : Type 0} (positions : List (Position V)) (d : Position V) (later : List Event) → cancel_removed (exchanges_of d.outcome) (cancelled_by positions later) ≡ cancelled_by (positions ++ d ∷ []) later
-cancelled_more positions d [] = refl
-cancelled_more positions d (e ∷ later) = ap (λ b. (e, b) ∷ cancel_removed (exchanges_of d.outcome) (cancelled_by positions later)) (sym (removed_more e.fd positions d)) ∙ ap (λ r. (e, is_removed e.fd (positions ++ d ∷ [])) ∷ r) (cancelled_more positions d later)
+cancelled_more positions d later = cancel_removed_marks (exchanges_of d.outcome) (cancelled_by positions later) ∙ marked_more positions d later
 
 not_cancelled_one : (e : Event) (b : Bool) (rest : List (Event × Bool)) (more : List Event) → not_cancelled rest ≡ more → not_cancelled ((e, b) ∷ rest) ≡ cond (not b) (e ∷ more) more
 not_cancelled_one e true rest more h = h
@@ -137,10 +140,10 @@ module _ {S P : Type 0} (serves : S → Event → Exchanges → S → Type 0) wh
       → HasOutcome serves before event (is_removed event.fd positions) (cancelled_by positions es) outcome after → IsOutcome serves (registry_of before) positions event es outcome (registry_of after)
   is_outcome before after positions event es Nobody h = (
     (λ i value f. ⊎_elim (λ e. true_false _ e f.1) (λ none. none i value (f.0, f.2)) h.0),
-    h.1 ∙ ap (λ l. record (registry_of before) { registrations = record (registrations_of before.epoll.registrations) { pending = l } }) (not_cancelled_marks positions es),
+    h.1 ∙ ap (λ l. record (registry_of before) { registrations = record (registrations_of before.ops.epoll.registrations) { pending = l } }) (not_cancelled_marks positions es),
   )
   is_outcome before after positions event es (To i exchanges calls held) h =
-      (h.0, registrations_of after.epoll.registrations, (h.2, h.1, h.3), h.4, subst (λ l. ExchangesFit i (record (registrations_of before.epoll.registrations) { pending = l }) exchanges calls (registrations_of after.epoll.registrations)) (not_cancelled_marks positions es) h.5, h.6)
+      (h.0, registrations_of after.ops.epoll.registrations, (h.2, h.1, h.3), h.4, subst (λ l. ExchangesFit i (record (registrations_of before.ops.epoll.registrations) { pending = l }) exchanges calls (registrations_of after.ops.epoll.registrations)) (not_cancelled_marks positions es) h.5, h.6)
 
   module _ (controls : Controls P) (waits : Waits P) where
     -- the batch, as far as it was dispatched
@@ -148,17 +151,17 @@ module _ {S P : Type 0} (serves : S → Event → Exchanges → S → Type 0) wh
       pub positions : List (Position S)
       pub later : List Event
       pub events : events_of positions ++ later ≡ report
-      pub ready : now.epoll.registrations.ready ≡ cancelled_by positions later
+      pub ready : now.ops.epoll.registrations.ready ≡ cancelled_by positions later
       pub dispatched : AreDispatchedSoFar serves (registry_of start) positions later (registry_of now)
-      pub led : Leads controls waits start.epoll.poller (calls_of_positions positions) now.epoll.poller
-      pub same_capacity : now.epoll.registrations.capacity ≡ start.epoll.registrations.capacity
+      pub led : Leads controls waits start.ops.epoll.poller (calls_of_positions positions) now.ops.epoll.poller
+      pub same_capacity : now.ops.epoll.registrations.capacity ≡ start.ops.epoll.registrations.capacity
 
-    pub so_far_start : (start : Registry S P) (report : List Event) → start.epoll.registrations.ready ≡ all_pending report → DispatchedSoFar start start report
+    pub so_far_start : (start : Registry S P) (report : List Event) → start.ops.epoll.registrations.ready ≡ all_pending report → DispatchedSoFar start start report
     so_far_start start report h = record { positions = []; later = report; events = refl; ready = h; dispatched = so_far_none serves (registry_of start) report; led = refl; same_capacity = refl }
 
-    next_one : (start now next : Registry S P) (report : List Event) (positions : List (Position S)) (later : List Event) → events_of positions ++ later ≡ report → now.epoll.registrations.ready ≡ cancelled_by positions later
-        → AreDispatchedSoFar serves (registry_of start) positions later (registry_of now) → Leads controls waits start.epoll.poller (calls_of_positions positions) now.epoll.poller
-        → now.epoll.registrations.capacity ≡ start.epoll.registrations.capacity → TakesPosition serves controls waits now next → DispatchedSoFar start next report
+    next_one : (start now next : Registry S P) (report : List Event) (positions : List (Position S)) (later : List Event) → events_of positions ++ later ≡ report → now.ops.epoll.registrations.ready ≡ cancelled_by positions later
+        → AreDispatchedSoFar serves (registry_of start) positions later (registry_of now) → Leads controls waits start.ops.epoll.poller (calls_of_positions positions) now.ops.epoll.poller
+        → now.ops.epoll.registrations.capacity ≡ start.ops.epoll.registrations.capacity → TakesPosition serves controls waits now next → DispatchedSoFar start next report
     next_one start now next report positions [] events ready dispatched led same step = absurd (nil_cons _ _ (sym ready ∙ step.was))
     next_one start now next report positions (e ∷ es) events ready dispatched led same step =
         let both = sym ready ∙ step.was in
@@ -172,14 +175,14 @@ module _ {S P : Type 0} (serves : S → Event → Exchanges → S → Type 0) wh
           events = events_more positions position es ∙ events;
           ready = step.ready ∙ ap (cancel_removed (exchanges_of step.outcome)) (sym rest) ∙ cancelled_more positions position es;
           dispatched = so_far_more serves (registry_of start) (registry_of now) (registry_of next) positions e es step.outcome dispatched (is_outcome now next positions e es step.outcome had);
-          led = subst (λ xs. Leads controls waits start.epoll.poller xs next.epoll.poller) (sym (calls_more positions position)) (leads_join controls waits start.epoll.poller now.epoll.poller next.epoll.poller (calls_of_positions positions) (calls_of_outcome step.outcome) led step.led);
+          led = subst (λ xs. Leads controls waits start.ops.epoll.poller xs next.ops.epoll.poller) (sym (calls_more positions position)) (leads_join controls waits start.ops.epoll.poller now.ops.epoll.poller next.ops.epoll.poller (calls_of_positions positions) (calls_of_outcome step.outcome) led step.led);
           same_capacity = step.same_capacity ∙ same;
         }
 
     pub so_far_position : (start now next : Registry S P) (report : List Event) → DispatchedSoFar start now report → TakesPosition serves controls waits now next → DispatchedSoFar start next report
     so_far_position start now next report so_far step = next_one start now next report so_far.positions so_far.later so_far.events so_far.ready so_far.dispatched so_far.led so_far.same_capacity step
 
-    pub so_far_end : (start now : Registry S P) (report : List Event) → DispatchedSoFar start now report → now.epoll.registrations.ready ≡ [] → IsDispatched serves controls waits start now report
+    pub so_far_end : (start now : Registry S P) (report : List Event) → DispatchedSoFar start now report → now.ops.epoll.registrations.ready ≡ [] → IsDispatched serves controls waits start now report
     so_far_end start now report so_far none =
         let over = no_events so_far.positions so_far.later (sym so_far.ready ∙ none) in
         let all = so_far_all serves (registry_of start) (registry_of now) so_far.positions (subst (λ l. AreDispatchedSoFar serves (registry_of start) so_far.positions l (registry_of now)) over so_far.dispatched) in
@@ -187,7 +190,7 @@ module _ {S P : Type 0} (serves : S → Event → Exchanges → S → Type 0) wh
           positions = so_far.positions;
           dispatched = (
             sym (append-nil (events_of so_far.positions)) ∙ ap (λ l. events_of so_far.positions ++ l) (sym over) ∙ so_far.events,
-            subst (λ l. AreDispatched serves (registry_of start) [] so_far.positions (record (registry_of now) { registrations = record (registrations_of now.epoll.registrations) { pending = not_cancelled l } })) (sym none) all,
+            subst (λ l. AreDispatched serves (registry_of start) [] so_far.positions (record (registry_of now) { registrations = record (registrations_of now.ops.epoll.registrations) { pending = not_cancelled l } })) (sym none) all,
           );
           led = so_far.led;
           same_capacity = so_far.same_capacity;
@@ -221,21 +224,21 @@ module _ {V : Type 0} (serves : V → Event → Exchanges → V → Type 0) wher
 
 module _ {S P : Type 0} (serves : S → Event → Exchanges → S → Type 0) (controls : Controls P) (waits : Waits P) where
   pub iteration_ok : (start after : Registry S P) (registrations : RegistrationState) (poller : P) (ms : ℤ) (answer : Result (List Event) Errno) (result : Result ℕ Errno) (n : ℕ)
-      → Leads controls waits start.epoll.poller (Wait ms start.epoll.registrations.capacity answer ∷ []) poller → HasWaited start.epoll.registrations answer result registrations → result ≡ Ok n
-      → IsDispatched serves controls waits (record { subscribers = start.subscribers; next = start.next; epoll = record { registrations = registrations; poller = poller } }) after (map (λ (p : Event × Bool). p.0) registrations.ready)
+      → Leads controls waits start.ops.epoll.poller (Wait ms start.ops.epoll.registrations.capacity answer ∷ []) poller → HasWaited start.ops.epoll.registrations answer result registrations → result ≡ Ok n
+      → IsDispatched serves controls waits (record { subscribers = start.subscribers; next = start.next; ops = record { epoll = record { registrations = registrations; poller = poller }; id = start.ops.id } }) after (map (λ (p : Event × Bool). p.0) registrations.ready)
       → IsLoopIteration serves controls waits (loop_state start) ms (Ok n) (loop_state after)
   iteration_ok start after registrations poller ms (Ok report) result n led waited is dispatched =
       let came = ap (λ (b : RegistrationState). b.ready) waited.1 in
       let reported = ap (map (λ (p : Event × Bool). p.0)) came ∙ fst_all_pending report in
       let from = subst (λ (b : RegistrationState). AreDispatched serves (record { values = from_entries {R = nat_cmp} start.subscribers.entries; next = start.next; registrations = registrations_of b }) [] dispatched.positions (registry_of after)) waited.1 dispatched.dispatched.1 in
-      let onto = subst (λ l. AreDispatched serves (idle (registry_of start)) [] dispatched.positions (record (registry_of after) { registrations = record (registrations_of after.epoll.registrations) { pending = not_cancelled l } })) dispatched.over
+      let onto = subst (λ l. AreDispatched serves (idle (registry_of start)) [] dispatched.positions (record (registry_of after) { registrations = record (registrations_of after.ops.epoll.registrations) { pending = not_cancelled l } })) dispatched.over
       (from_any_pending serves (idle (registry_of start)) (not_cancelled (all_pending report)) dispatched.positions (registry_of after) from) in
       record {
         waited = Ok report;
         positions = dispatched.positions;
         answer = ap Ok (ok_same result n (length report) is waited.0);
         dispatched = (dispatched.dispatched.0 ∙ reported, onto);
-        led = leads_join controls waits start.epoll.poller poller after.epoll.poller (Wait ms start.epoll.registrations.capacity (Ok report) ∷ []) (calls_of_positions dispatched.positions) led dispatched.led;
+        led = leads_join controls waits start.ops.epoll.poller poller after.ops.epoll.poller (Wait ms start.ops.epoll.registrations.capacity (Ok report) ∷ []) (calls_of_positions dispatched.positions) led dispatched.led;
         same_capacity = dispatched.same_capacity ∙ ap (λ (b : RegistrationState). b.capacity) waited.1;
       }
   iteration_ok start after registrations poller ms (Err e) result n led waited is dispatched = absurd (ok_err result n e is waited.0)

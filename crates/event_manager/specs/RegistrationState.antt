@@ -33,7 +33,8 @@ cancel_on fd ready = map (λ p. (p.0, p.1 || (fd == p.0.fd))) ready
 
 -- with a mark at each position whose descriptor the exchanges remove
 abbrev pub cancel_removed : Exchanges → List (Event × Bool) → List (Event × Bool)
-cancel_removed exchanges ready = map (λ p. (p.0, p.1 || removes p.0.fd exchanges)) ready
+cancel_removed [] ready = ready
+cancel_removed (exchange ∷ exchanges) ready = map (λ p. (p.0, p.1 || removes p.0.fd (exchange ∷ exchanges))) ready
 
 -- a report, before its first position
 abbrev pub all_pending : List Event → List (Event × Bool)

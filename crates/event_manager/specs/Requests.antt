@@ -18,13 +18,20 @@ module _ {P : Type 0} (controls : Controls P) (waits : Waits P) where
 
   -- the exchanges were made through this `EventOps`, under its id
   pub record AreMadeThrough (before after : EventOps P) (exchanges : Exchanges) (calls : List PollerCall) : Type 0 where
-    pub same_epoll : after.epoll.ghost_name ≡ before.epoll.ghost_name
     pub same_id : after.id ≡ before.id
-    pub made : AreMade before.epoll.now after.epoll.now before.id exchanges calls
+    pub made : AreMade before.epoll after.epoll before.id exchanges calls
 
 -- an `EventOps` of this id, outside a batch
 pub record StandsFor {S P : Type 0} (ops : EventOps P) (id : ℕ) (state : LoopState S P) : Type 0 where
   pub same_id : ops.id ≡ id
-  pub registrations : record (registrations_of ops.epoll.now.registrations) { pending = [] } ≡ state.registry.registrations
-  pub poller : ops.epoll.now.poller ≡ state.poller
-  pub capacity : ops.epoll.now.registrations.capacity ≡ state.capacity
+  pub registrations : record (registrations_of ops.epoll.registrations) { pending = [] } ≡ state.registry.registrations
+  pub poller : ops.epoll.poller ≡ state.poller
+  pub capacity : ops.epoll.registrations.capacity ≡ state.capacity
+
+-- with the registrations and the poller of this `EventOps`, outside a batch
+abbrev pub with_ops : {S P : Type 0} → LoopState S P → EventOps P → LoopState S P
+with_ops state ops = record {
+  registry = record state.registry { registrations = record (registrations_of ops.epoll.registrations) { pending = [] } };
+  poller = ops.epoll.poller;
+  capacity = ops.epoll.registrations.capacity;
+}

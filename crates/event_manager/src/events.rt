@@ -160,12 +160,12 @@ pub enum Request {
 ///
 /// A refused request leaves owners and pending events as they were.
 #[derive(Drop)]
-pub struct EventOps<'a, P> {
-    pub(crate) epoll: &'a mut EpollWrapper<P>,
+pub struct EventOps<P> {
+    pub(crate) epoll: EpollWrapper<P>,
     pub(crate) id: u64,
 }
 
-impl<'a, P: EventPoller> EventOps<'a, P> {
+impl<P: EventPoller> EventOps<P> {
     /// Registers the descriptor for the subscriber.
     ///
     /// Refused, in this order: `FdAlreadyRegistered` where a subscriber owns the descriptor, this one included;
@@ -174,7 +174,7 @@ impl<'a, P: EventPoller> EventOps<'a, P> {
     pub fn add(&mut self, events: Events) -> Result<()>
         ensures { (calls : List PollerCall) × AreMadeThrough P.controls P.waits self.old self.new ((Request.Add events, result) ∷ []) calls }
     {
-        let epoll = &mut *self.epoll;
+        let epoll = &mut self.epoll;
         match epoll.registrations.check_vacant(events) {
             Ok(()) => {}
             Err(e) => return Err(e),
@@ -200,7 +200,7 @@ impl<'a, P: EventPoller> EventOps<'a, P> {
     pub fn modify(&mut self, events: Events) -> Result<()>
         ensures { (calls : List PollerCall) × AreMadeThrough P.controls P.waits self.old self.new ((Request.Modify events, result) ∷ []) calls }
     {
-        let epoll = &mut *self.epoll;
+        let epoll = &mut self.epoll;
         if !epoll.registrations.is_owner(self.id, events) {
             return Err(Error::Epoll(Errno::ENOENT));
         }
@@ -217,7 +217,7 @@ impl<'a, P: EventPoller> EventOps<'a, P> {
     pub fn remove(&mut self, events: Events) -> Result<()>
         ensures { (calls : List PollerCall) × AreMadeThrough P.controls P.waits self.old self.new ((Request.Remove events, result) ∷ []) calls }
     {
-        let epoll = &mut *self.epoll;
+        let epoll = &mut self.epoll;
         if !epoll.registrations.is_owner(self.id, events) {
             return Err(Error::Epoll(Errno::ENOENT));
         }
@@ -230,6 +230,15 @@ impl<'a, P: EventPoller> EventOps<'a, P> {
             }
             Err(e) => Err(Error::Epoll(e)),
         }
+    }
+
+    /// Makes two requests in a row, whatever the first is answered.
+    pub fn request_both(&mut self, first: Request, second: Request) -> (Result<()>, Result<()>)
+        ensures { (calls : List PollerCall) × AreMadeThrough P.controls P.waits self.old self.new ((first, result.0) ∷ (second, result.1) ∷ []) calls }
+    {
+        let one = self.request(first);
+        let two = self.request(second);
+        (one, two)
     }
 
     /// Makes a request that is given as a value.

@@ -3,12 +3,13 @@
 ghost use Rattle.std.specs.Prelude.{◌≡◌, ℕ, negsuc, IfErr, IfOk};
 ghost use Rattle.std.specs.Borrow.{sem, LendsSoOk};
 ghost use Rattle.event_manager.specs.Registry.{Step, HasId, LacksId};
-ghost use Rattle.event_manager.specs.Requests.{StandsFor};
-ghost use Rattle.event_manager.specs.LoopState.{HasStepped, IsJoin, IsLeave, IsRequest, IsLoopIteration, with_value};
+ghost use Rattle.event_manager.specs.Requests.{StandsFor, with_ops};
+ghost use Rattle.event_manager.specs.contracts.events.EventOps.{the_row as ops_row};
+ghost use Rattle.event_manager.specs.LoopState.{HasStepped, IsJoin, IsLeave, IsLoopIteration, with_value};
 ghost use Rattle.event_manager.specs.Subscribers.{loop_state};
 ghost use Rattle.event_manager.specs.Manager.{state_of, endpoint_of, IsMade};
 
-use crate::events::{EventOps, Events, Request};
+use crate::events::{EventOps, Events};
 use crate::poller::{BoxedPoller, EventPoller};
 use crate::subscribers::{MutEventSubscriber, Registry, SubscriberId};
 use crate::{Error, Result};
@@ -65,17 +66,11 @@ pub trait SubscriberOps {
         ensures lost { IfErr result (λ e. (e ≡ Error.InvalidId) × LacksId (seen self.old).registry id) };
 
     /// An [`EventOps`] of the subscriber of the id. Takes no memory. `InvalidId` where there is none.
-    fn event_ops(&mut self, id: SubscriberId) -> Result<EventOps<Self::Poller>>
-        ensures found { IfOk result (λ ops. StandsFor ops id (seen self.old)) }
+    fn event_ops(&mut self, id: SubscriberId) -> Result<&mut EventOps<Self::Poller>>
+        ensures* lent { sem 𝓛 (LendsSoOk Self.row (ops_row Self.Poller.row) self.entry result (λ n w. seen n ≡ with_ops (seen self.old) w) (λ n. seen n ≡ seen self.old)) }
+        ensures found { IfOk result (λ ops. StandsFor ops.now id (seen self.old)) }
+        ensures held { IfOk result (λ ops. (value : Self.Subscriber) × HasId (seen self.old).registry id value) }
         ensures lost { IfErr result (λ e. (e ≡ Error.InvalidId) × LacksId (seen self.old).registry id) };
-
-    /// Makes one request under the id, as its [`EventOps`] does: the inner result is the answer to the request. Here a
-    /// caller also knows what becomes of the subscribers and registrations.
-    ///
-    /// `InvalidId` where no subscriber has the id; then the poller isn't asked.
-    fn request(&mut self, id: SubscriberId, request: Request) -> Result<Result<()>>
-        ensures { (step : Step Self.Subscriber) × IsRequest id request result step
-            × HasStepped Self.Subscriber.begins Self.Poller.controls Self.Poller.waits (seen self.old) step (seen self.new) };
 }
 
 impl<S: MutEventSubscriber + Drop, P: EventPoller> SubscriberOps for Registry<S, P> {
@@ -100,27 +95,13 @@ impl<S: MutEventSubscriber + Drop, P: EventPoller> SubscriberOps for Registry<S,
         }
     }
 
-    fn event_ops(&mut self, id: SubscriberId) -> Result<EventOps<P>> {
+    fn event_ops(&mut self, id: SubscriberId) -> Result<&mut EventOps<P>> {
         let id = id.number();
         if self.subscribers.contains_key(&id) {
-            return Ok(EventOps {
-                epoll: &mut self.epoll,
-                id,
-            });
+            self.ops.id = id;
+            return Ok(&mut self.ops);
         }
         Err(Error::InvalidId)
-    }
-
-    fn request(&mut self, id: SubscriberId, request: Request) -> Result<Result<()>> {
-        let id = id.number();
-        if !self.subscribers.contains_key(&id) {
-            return Err(Error::InvalidId);
-        }
-        let mut ops = EventOps {
-            epoll: &mut self.epoll,
-            id,
-        };
-        Ok(ops.request(request))
     }
 }
 
@@ -167,7 +148,7 @@ impl<S: MutEventSubscriber, P: EventPoller> EventManager<S, P> {
         let Ok(mut registry) = Registry::new(alloc, poller, events.number(), capacity) else {
             return Err(Error::OutOfMemory);
         };
-        match registry.epoll.ctl(ControlOperation::Add, events) {
+        match registry.ops.epoll.ctl(ControlOperation::Add, events) {
             Ok(()) => Ok(EventManager { registry, event_fd }),
             Err(e) => Err(Error::Epoll(e)),
         }
@@ -194,7 +175,7 @@ impl<S: MutEventSubscriber, P: EventPoller> EventManager<S, P> {
         ensures { IsLoopIteration S.serves P.controls P.waits (state_of self.old) ms result (state_of self.new) }
     {
         let count = self.registry.run_with_timeout(ms)?;
-        if self.registry.epoll.registrations.take_endpoint_ready() {
+        if self.registry.ops.epoll.registrations.take_endpoint_ready() {
             let _ = self.event_fd.read(rt);
         }
         Ok(count)
@@ -220,11 +201,7 @@ impl<S: MutEventSubscriber + Drop, P: EventPoller> SubscriberOps for EventManage
         self.registry.subscriber_mut(id)
     }
 
-    fn event_ops(&mut self, id: SubscriberId) -> Result<EventOps<P>> {
+    fn event_ops(&mut self, id: SubscriberId) -> Result<&mut EventOps<P>> {
         self.registry.event_ops(id)
-    }
-
-    fn request(&mut self, id: SubscriberId, request: Request) -> Result<Result<()>> {
-        self.registry.request(id, request)
     }
 }

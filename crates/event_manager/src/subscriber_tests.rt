@@ -106,7 +106,7 @@ fn the_last_id_is_given_once(rt: HostRuntime) -> std::result::Result<(), Fail> {
     assert_eq!(rt; id.number(), 18446744073709551614);
     let refused = registry.add_subscriber(make_pair(5, 6)).err();
     assert_eq!(rt; refused, Some(Error::IdsUsedUp));
-    let asked = registry.epoll.poller.controls.len();
+    let asked = registry.ops.epoll.poller.controls.len();
     assert_eq!(rt; asked, 2, "the second init isn't called");
     Ok(())
 }
@@ -116,7 +116,7 @@ fn no_id_is_left(rt: HostRuntime) -> std::result::Result<(), Fail> {
     let mut registry = make_registry(rt.alloc(), u64::MAX)?;
     let refused = registry.add_subscriber(make_pair(3, 4)).err();
     assert_eq!(rt; refused, Some(Error::IdsUsedUp));
-    let asked = registry.epoll.poller.controls.len();
+    let asked = registry.ops.epoll.poller.controls.len();
     assert_eq!(rt; asked, 0, "init isn't called");
     Ok(())
 }
@@ -133,10 +133,10 @@ fn one_delete_each_in_the_order_of_addition(rt: HostRuntime) -> std::result::Res
     ] {
         assert_eq!(rt; registry.request(id, request)?, Ok(()));
     }
-    registry.epoll.poller.controls.clear();
+    registry.ops.epoll.poller.controls.clear();
     let left = registry.remove_subscriber(id)?;
     assert_eq!(rt; (left.first, left.second), (3, 4));
-    let controls = &registry.epoll.poller.controls;
+    let controls = &registry.ops.epoll.poller.controls;
     assert_eq!(rt; controls.len(), 3);
     for (control, fd) in controls.iter().zip([4, 7, 3]) {
         let empty = Events::empty_raw(0);

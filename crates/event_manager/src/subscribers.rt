@@ -100,7 +100,7 @@ pub trait MutEventSubscriber {
 pub struct Registry<S, P = BoxedPoller> {
     pub(crate) subscribers: BTreeMap<u64, S>,
     pub(crate) next: u64,
-    pub(crate) epoll: EpollWrapper<P>,
+    pub(crate) ops: EventOps<P>,
 }
 
 impl<S: MutEventSubscriber, P: EventPoller> Registry<S, P> {
@@ -119,9 +119,12 @@ impl<S: MutEventSubscriber, P: EventPoller> Registry<S, P> {
         Ok(Registry {
             subscribers: BTreeMap::new(alloc),
             next: 1,
-            epoll: EpollWrapper {
-                registrations,
-                poller,
+            ops: EventOps {
+                epoll: EpollWrapper {
+                    registrations,
+                    poller,
+                },
+                id: 0,
             },
         })
     }
@@ -148,32 +151,29 @@ impl<S: MutEventSubscriber, P: EventPoller> Registry<S, P> {
     fn dispatch_next(&mut self) -> bool
         ensures { MatchBool result
             (TakesPosition S.serves P.controls P.waits self.old self.new)
-            ((self.new ≡ self.old) × (self.old.epoll.registrations.ready ≡ [])) }
+            ((self.new ≡ self.old) × (self.old.ops.epoll.registrations.ready ≡ [])) }
     {
-        let Some(ready_entry) = self.epoll.registrations.next_ready() else {
+        let Some(ready_entry) = self.ops.epoll.registrations.next_ready() else {
             return false;
         };
         if ready_entry.cancelled {
             return true;
         }
-        let Some(id) = self.epoll.registrations.owner(&ready_entry.entry) else {
+        let Some(id) = self.ops.epoll.registrations.owner(&ready_entry.entry) else {
             return true;
         };
         let Some(subscriber) = self.subscribers.get_mut(&id) else {
             return true;
         };
-        let mut ops = EventOps {
-            epoll: &mut self.epoll,
-            id,
-        };
-        subscriber.process(Events::of_entry(&ready_entry.entry), &mut ops);
+        self.ops.id = id;
+        subscriber.process(Events::of_entry(&ready_entry.entry), &mut self.ops);
         true
     }
 
     /// Dispatches the batch.
     fn dispatch(&mut self)
-        requires { self.old.epoll.registrations.ready ≡ all_pending (map (λ p. p.0) self.old.epoll.registrations.ready) }
-        ensures { IsDispatched S.serves P.controls P.waits self.old self.new (map (λ p. p.0) self.old.epoll.registrations.ready) }
+        requires { self.old.ops.epoll.registrations.ready ≡ all_pending (map (λ p. p.0) self.old.ops.epoll.registrations.ready) }
+        ensures { IsDispatched S.serves P.controls P.waits self.old self.new (map (λ p. p.0) self.old.ops.epoll.registrations.ready) }
     {
         while self.dispatch_next() {}
     }
@@ -182,7 +182,7 @@ impl<S: MutEventSubscriber, P: EventPoller> Registry<S, P> {
     pub(crate) fn run_with_timeout(&mut self, ms: i32) -> Result<usize>
         ensures { IsLoopIteration S.serves P.controls P.waits (loop_state self.old) ms result (loop_state self.new) }
     {
-        match self.epoll.registrations.wait(&mut self.epoll.poller, ms) {
+        match self.ops.epoll.registrations.wait(&mut self.ops.epoll.poller, ms) {
             Ok(count) => {
                 self.dispatch();
                 Ok(count)
@@ -215,11 +215,8 @@ impl<S: MutEventSubscriber, P: EventPoller> Registry<S, P> {
         let Some(held) = self.subscribers.get_mut(&id) else {
             return Err(Error::OutOfMemory);
         };
-        let mut ops = EventOps {
-            epoll: &mut self.epoll,
-            id,
-        };
-        held.init(&mut ops);
+        self.ops.id = id;
+        held.init(&mut self.ops);
         self.next += 1;
         Ok(SubscriberId { number: id })
     }
@@ -231,7 +228,7 @@ impl<S: MutEventSubscriber, P: EventPoller> Registry<S, P> {
     {
         match self.subscribers.remove(&id) {
             Some(subscriber) => {
-                self.epoll.release(id);
+                self.ops.epoll.release(id);
                 Ok(subscriber)
             }
             None => Err(Error::InvalidId),

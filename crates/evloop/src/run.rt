@@ -201,7 +201,7 @@ where
         Err(error) => return printer.print(&OutputLine::AskRefused { name, error }),
     };
     match manager.event_ops(id) {
-        Ok(mut ops) => make_requests(name, requests, &mut ops, printer),
+        Ok(ops) => make_requests(name, requests, ops, printer),
         Err(error) => return printer.print(&OutputLine::AskRefused { name, error }),
     }
     Ok(())

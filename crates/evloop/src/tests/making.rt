@@ -101,7 +101,7 @@ fn another_value_has_the_descriptors_of_the_one_before(rt: HostRuntime) -> Resul
     let first = manager.add_subscriber(watcher_of(rt, &log, 1, 3)?)?;
     let second = manager.add_subscriber(watcher_of(rt, &log, 2, 4)?)?;
     *manager.subscriber_mut(first)? = watcher_of(rt, &log, 7, 8)?;
-    asks_beside_the_owner_of_3(&rt, &mut manager.event_ops(second)?);
+    asks_beside_the_owner_of_3(&rt, manager.event_ops(second)?);
     Ok(())
 }
 

@@ -11,7 +11,7 @@ use Rattle.event_manager.proofs.events.EventOps.add.Goals as goal
 
 pub returns-in-Err : goal.returns-in-Err
 returns-in-Err g c =
-    ([], kept refl refl refl (λ fd. refl) (by_manager (refused_by_manager c.args.self.now.id (registrations_of c.args.self.now.epoll.now.registrations) c.args.events c.in-Err.e c.in-Err.ensures) refl refl) refl)
+    ([], kept refl refl refl (λ fd. refl) (by_manager (refused_by_manager c.args.self.now.id (registrations_of c.args.self.now.epoll.registrations) c.args.events c.in-Err.e c.in-Err.ensures) refl refl) refl)
 
 pub returns-in-Err-register : goal.returns-in-Err-register
 returns-in-Err-register g c =
@@ -21,7 +21,7 @@ returns-in-Err-register g c =
 
 pub returns-in-Ok-ctl : goal.returns-in-Ok-ctl
 returns-in-Ok-ctl g c =
-    let s = c.args.self.now.epoll.now.registrations in
+    let s = c.args.self.now.epoll.registrations in
     let led = rw c.in-Ok-ctl.is at c.ctl.ensures.led in
     let same = c.ctl.ensures.registrations ∙ c.in-Ok-register.ensures.ok in (
       Control operation.Add c.args.events.fd c.args.events (Ok tt) ∷ [],
@@ -31,7 +31,7 @@ returns-in-Ok-ctl g c =
 
 pub returns-in-Err-ctl : goal.returns-in-Err-ctl
 returns-in-Err-ctl g c =
-    let s = c.args.self.now.epoll.now.registrations in
+    let s = c.args.self.now.epoll.registrations in
     let led = rw c.in-Err-ctl.is at c.ctl.ensures.led in
     let vacant = c.in-Ok.ensures in
     let same = c.unregister.ensures ∙ ap (λ (b : RegistrationState). record b { owner = remove b.owner c.args.events.fd }) (c.ctl.ensures.registrations ∙ c.in-Ok-register.ensures.ok)
@@ -40,5 +40,5 @@ returns-in-Err-ctl g c =
 
 pub unregister-requires : goal.unregister-requires
 unregister-requires g c =
-    let s = c.args.self.now.epoll.now.registrations in
+    let s = c.args.self.now.epoll.registrations in
     ap (λ (b : RegistrationState). get b.owner c.args.events.fd) (c.ctl.ensures.registrations ∙ c.in-Ok-register.ensures.ok) ∙ get_same s.owner c.args.events.fd c.args.self.now.id

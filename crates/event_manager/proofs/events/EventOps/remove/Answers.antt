@@ -16,7 +16,7 @@ returns-then-not-is_owner g c =
 pub returns-in-Ok : goal.returns-in-Ok
 returns-in-Ok g c =
     let led = rw c.in-Ok.is at c.ctl.ensures.led in
-    let s = c.args.self.now.epoll.now.registrations in
+    let s = c.args.self.now.epoll.registrations in
     let fd = c.args.events.fd in
     let same = c.cancel.ensures
     ∙ ap (λ (b : RegistrationState). record b { ready = cancel_on fd b.ready }) (c.unregister.ensures ∙ ap (λ (b : RegistrationState). record b { owner = remove b.owner fd }) c.ctl.ensures.registrations) in

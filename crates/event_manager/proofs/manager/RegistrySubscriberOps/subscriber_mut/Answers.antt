@@ -27,6 +27,6 @@ returns-in-None g c =
     let same = c.get_mut.follows.holds-at-none in
     let absent = rw c.number.ensures at c.in-None.ensures.value in
     let none = get_of_tree nat_cmp_total c.args.self.now.subscribers c.args.id ∙ sym absent in (
-      (refl, (λ w e. absurd (false≢true e)), ap (λ m. loop_state (record { subscribers = m; next = c.args.self.now.next; epoll = c.args.self.now.epoll })) same),
+      (refl, (λ w e. absurd (false≢true e)), ap (λ m. loop_state (record { subscribers = m; next = c.args.self.now.next; ops = c.args.self.now.ops })) same),
       record { lent = tt; found = tt; lost = (refl, none) },
     )

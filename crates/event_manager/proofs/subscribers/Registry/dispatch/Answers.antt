@@ -11,4 +11,4 @@ pub returns : goal.returns
 returns g c =
     let over = c.loop-test.ensures in
     let entry = so_far_end g.S.MutEventSubscriber.serves g.P.EventPoller.controls g.P.EventPoller.waits c.args.self.now c.loop.self _ c.loop.invariant over.1 in
-    subst (λ r. IsDispatched g.S.MutEventSubscriber.serves g.P.EventPoller.controls g.P.EventPoller.waits c.args.self.now r (map (λ p. p.0) c.args.self.now.epoll.registrations.ready)) (sym over.0) entry
+    subst (λ r. IsDispatched g.S.MutEventSubscriber.serves g.P.EventPoller.controls g.P.EventPoller.waits c.args.self.now r (map (λ p. p.0) c.args.self.now.ops.epoll.registrations.ready)) (sym over.0) entry

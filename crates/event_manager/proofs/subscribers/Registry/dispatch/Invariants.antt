@@ -3,7 +3,7 @@ use Rattle.event_manager.proofs.Positions.{DispatchedSoFar}
 use Rattle.event_manager.proofs.subscribers.Registry.dispatch.Given as goal
 
 abbrev pub invariant-loop : goal.invariant-loop
-invariant-loop g l = DispatchedSoFar g.S.MutEventSubscriber.serves g.P.EventPoller.controls g.P.EventPoller.waits l.initial.self l.self (map (λ p. p.0) l.initial.self.epoll.registrations.ready)
+invariant-loop g l = DispatchedSoFar g.S.MutEventSubscriber.serves g.P.EventPoller.controls g.P.EventPoller.waits l.initial.self l.self (map (λ p. p.0) l.initial.self.ops.epoll.registrations.ready)
 
 abbrev pub decreases-loop : goal.decreases-loop
-decreases-loop g l = length l.self.epoll.registrations.ready
+decreases-loop g l = length l.self.ops.epoll.registrations.ready

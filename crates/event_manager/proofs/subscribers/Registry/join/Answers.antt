@@ -14,8 +14,8 @@ use Rattle.event_manager.proofs.subscribers.Registry.join.Goals as goal
 
 -- the same entries are the same registry
 same_registry : {S P : Type 0} (r : Registry S P) (es : List (ℕ × S)) → es ≡ r.subscribers.entries
-    → idle (record { values = from_entries {R = nat_cmp} es; next = r.next; registrations = registrations_of r.epoll.registrations }) ≡ idle (registry_of r)
-same_registry r es same = ap (λ xs. idle (record { values = from_entries {R = nat_cmp} xs; next = r.next; registrations = registrations_of r.epoll.registrations })) same
+    → idle (record { values = from_entries {R = nat_cmp} es; next = r.next; registrations = registrations_of r.ops.epoll.registrations }) ≡ idle (registry_of r)
+same_registry r es same = ap (λ xs. idle (record { values = from_entries {R = nat_cmp} xs; next = r.next; registrations = registrations_of r.ops.epoll.registrations })) same
 
 pub returns-in-Err : goal.returns-in-Err
 returns-in-Err g c =
@@ -33,8 +33,8 @@ returns g c =
     let values = second ∙ ap (λ m. insert m id c.init.new.self) first ∙ insert_twice _ id c.args.subscriber c.init.new.self in
     let was = some_is _ _ (found ∙ sym (get_of_tree nat_cmp_total c.insert.new.self id) ∙ ap (λ m. get m id) first ∙ get_same _ id c.args.subscriber) in
     let began = subst (λ v. g.S.MutEventSubscriber.begins v called.0 c.init.new.self) was called.2 in
-    let after = registrations_of c.init.new.ops.epoll.now.registrations in
-    let fits = idle_fits id (registrations_of c.args.self.now.epoll.registrations) called.0 called.1 after called.3.made.fits in (
+    let after = registrations_of c.init.new.ops.epoll.registrations in
+    let fits = idle_fits id (registrations_of c.args.self.now.ops.epoll.registrations) called.0 called.1 after called.3.made.fits in (
       Joined c.args.subscriber id called.0 called.1 c.init.new.self,
       (called.0, called.1, c.init.new.self, refl),
       record {

@@ -28,5 +28,5 @@ pub returns-in-None : goal.returns-in-None
 returns-in-None g c =
     let old = c.args.self.now in
     let lacks = get_of_tree nat_cmp_total old.subscribers c.args.id ∙ sym c.in-None.ensures.value in
-    let same = ap (λ es. idle (record { values = from_entries {R = nat_cmp} es; next = old.next; registrations = registrations_of old.epoll.registrations })) c.in-None.ensures.unchanged in
+    let same = ap (λ es. idle (record { values = from_entries {R = nat_cmp} es; next = old.next; registrations = registrations_of old.ops.epoll.registrations })) c.in-None.ensures.unchanged in
     (NotLeft c.args.id, (refl, refl), record { stepped = (lacks, same); led = refl; same_capacity = refl })

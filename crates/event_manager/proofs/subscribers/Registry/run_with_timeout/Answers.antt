@@ -5,7 +5,7 @@ use Rattle.event_manager.proofs.subscribers.Registry.run_with_timeout.Goals as g
 pub dispatch-requires : goal.dispatch-requires
 dispatch-requires g c =
     let waited = c.wait.ensures in
-    waited_all_pending c.args.self.now.epoll.registrations c.wait.new.self waited.0 c.wait.result c.in-Ok.count waited.2 c.in-Ok.is
+    waited_all_pending c.args.self.now.ops.epoll.registrations c.wait.new.self waited.0 c.wait.result c.in-Ok.count waited.2 c.in-Ok.is
 
 pub returns-in-Ok : goal.returns-in-Ok
 returns-in-Ok g c =
