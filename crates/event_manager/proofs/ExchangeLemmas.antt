@@ -30,7 +30,7 @@ removes_join : (fd : ℕ) (t u : Exchanges) → removes fd (t ++ u) ≡ removes 
 removes_join fd [] u = refl
 removes_join fd (x ∷ t) u = ap (λ b. is_removal fd x.0 x.1 || b) (removes_join fd t u) ∙ or_assoc (is_removal fd x.0 x.1) (removes fd t) (removes fd u)
 
--- the marks of the exchanges, one for each position
+-- with a mark at each position whose descriptor the exchanges remove, for no exchange too
 abbrev pub marked : Exchanges → List (Event × Bool) → List (Event × Bool)
 marked exchanges ready = map (λ p. (p.0, p.1 || removes p.0.fd exchanges)) ready
 
@@ -45,9 +45,6 @@ marked_join t u ((e, m) ∷ ready) = ap (λ b. (e, b) ∷ marked (t ++ u) ready)
 pub cancel_removed_marks : (exchanges : Exchanges) (ready : List (Event × Bool)) → cancel_removed exchanges ready ≡ marked exchanges ready
 cancel_removed_marks [] ready = sym (marked_none ready)
 cancel_removed_marks (exchange ∷ exchanges) ready = refl
-
-pub cancel_removed_none : (ready : List (Event × Bool)) → cancel_removed [] ready ≡ ready
-cancel_removed_none ready = refl
 
 cancel_removed_join : (t u : Exchanges) (ready : List (Event × Bool)) → cancel_removed (t ++ u) ready ≡ cancel_removed u (cancel_removed t ready)
 cancel_removed_join t u ready = cancel_removed_marks (t ++ u) ready ∙ marked_join t u ready ∙ ap (marked u) (sym (cancel_removed_marks t ready)) ∙ sym (cancel_removed_marks u (cancel_removed t ready))
@@ -78,17 +75,17 @@ module _ {P : Type 0} {controls : Controls P} {waits : Waits P} where
   one_made {a = a} {calls = calls} fit ready led same = record { fits = (calls, [], registrations_of a.registrations, sym (append-nil calls), fit, (refl, refl)); ready = ready; led = led; same_capacity = same }
 
   pub one_made_through : {b a : EventOps P} {request : Request} {answer : Answer} {calls : List PollerCall}
-      → b.id ≡ b.id → a.id ≡ b.id → Fits b.id (registrations_of b.epoll.registrations) request answer calls (registrations_of a.epoll.registrations) → a.epoll.registrations.ready ≡ cancel_removed ((request, answer) ∷ []) b.epoll.registrations.ready → Leads controls waits b.epoll.poller calls a.epoll.poller → a.epoll.registrations.capacity ≡ b.epoll.registrations.capacity
+      → a.id ≡ b.id → Fits b.id (registrations_of b.epoll.registrations) request answer calls (registrations_of a.epoll.registrations) → a.epoll.registrations.ready ≡ cancel_removed ((request, answer) ∷ []) b.epoll.registrations.ready → Leads controls waits b.epoll.poller calls a.epoll.poller → a.epoll.registrations.capacity ≡ b.epoll.registrations.capacity
       → AreMadeThrough controls waits b a ((request, answer) ∷ []) calls
-  one_made_through same_epoll same_id fit ready led same = record { same_id = same_id; made = one_made fit ready led same }
+  one_made_through same_id fit ready led same = record { same_id = same_id; made = one_made fit ready led same }
 
   -- one request that left the registrations as they were, and removed nothing
   pub kept : {b a : EventOps P} {request : Request} {answer : Answer} {calls : List PollerCall}
-      → b.id ≡ b.id → a.id ≡ b.id → a.epoll.registrations ≡ b.epoll.registrations → ((fd : ℕ) → is_removal fd request answer ≡ false)
+      → a.id ≡ b.id → a.epoll.registrations ≡ b.epoll.registrations → ((fd : ℕ) → is_removal fd request answer ≡ false)
       → Fits b.id (registrations_of b.epoll.registrations) request answer calls (registrations_of b.epoll.registrations) → Leads controls waits b.epoll.poller calls a.epoll.poller
       → AreMadeThrough controls waits b a ((request, answer) ∷ []) calls
-  kept {b} {a} {request} {answer} {calls} same_epoll same_id same none fit led =
-      one_made_through same_epoll same_id (subst (λ r. Fits b.id (registrations_of b.epoll.registrations) request answer calls (registrations_of r)) (sym same) fit)
+  kept {b} {a} {request} {answer} {calls} same_id same none fit led =
+      one_made_through same_id (subst (λ r. Fits b.id (registrations_of b.epoll.registrations) request answer calls (registrations_of r)) (sym same) fit)
       (ap (λ (r : RegistrationState). r.ready) same ∙ cancel_removed_other request answer none b.epoll.registrations.ready) led (ap (λ (r : RegistrationState). r.capacity) same)
 
 pub refused_by_manager : (i : ℕ) (registrations : Registrations) (e : Event) (x : Error) → IsVacant registrations e (Err x) → IsRefusedByManager i registrations (Add e) (Err x)
@@ -119,7 +116,7 @@ module _ {P : Type 0} {controls : Controls P} {waits : Waits P} where
 
   -- no exchange
   pub none_made : (b : EventOps P) → AreMadeThrough controls waits b b [] []
-  none_made b = record { same_id = refl; made = record { fits = (refl, refl); ready = sym (cancel_removed_none b.epoll.registrations.ready); led = refl; same_capacity = refl } }
+  none_made b = record { same_id = refl; made = record { fits = (refl, refl); ready = refl; led = refl; same_capacity = refl } }
 
 -- what fits with some events pending fits with none
 abbrev nothing_pending : Registrations → Registrations

@@ -2,7 +2,6 @@
 use Rattle.std.proofs.Common.{◌≡◌, ℕ, List, sym, subst, refl, ◌∙◌, []}
 use Rattle.event_manager.specs.Exchange.{Exchanges, ExchangesFit}
 use Rattle.event_manager.specs.PollerCall.{PollerCall, Controls, Waits, Leads}
-use Rattle.event_manager.specs.Registrations.{Registrations}
 use Rattle.event_manager.specs.RegistrationState.{registrations_of}
 use Rattle.event_manager.specs.Registry.{HasId, Requested}
 use Rattle.event_manager.specs.LoopState.{LoopState, HasStepped}

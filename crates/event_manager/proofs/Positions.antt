@@ -19,7 +19,7 @@ use Rattle.event_manager.specs.PollerCall.{Controls, Waits, Leads}
 use Rattle.event_manager.specs.Subscribers.{registry_of, idle, loop_state, HasOutcome, TakesPosition, IsDispatched}
 use Rattle.event_manager.specs.LoopState.{IsLoopIteration}
 use Rattle.event_manager.specs.declared.subscribers.Registry.{Registry}
-use Rattle.event_manager.proofs.ExchangeLemmas.{cancel_removed_none, cancel_removed_marks, marked, leads_join}
+use Rattle.event_manager.proofs.ExchangeLemmas.{cancel_removed_marks, marked, leads_join}
 
 module _ {S P : Type 0} {controls : Controls P} {waits : Waits P} (serves : S → Event → Exchanges → S → Type 0) where
   pub nobody_position : (before after : Registry S P) (event : Event) (cancelled : Bool) (rest : List (Event × Bool))
@@ -34,7 +34,7 @@ module _ {S P : Type 0} {controls : Controls P} {waits : Waits P} (serves : S �
     outcome = Nobody;
     was = was;
     had = (why, λ k. record { values = from_entries (subs k).entries; next = next k; registrations = registrations_of (registrations k) });
-    ready = ap (λ (b : RegistrationState). b.ready) registrations ∙ sym (cancel_removed_none rest);
+    ready = ap (λ (b : RegistrationState). b.ready) registrations;
     led = led;
     same_capacity = ap (λ (b : RegistrationState). b.capacity) registrations;
   }

@@ -158,7 +158,8 @@ pub enum Request {
 
 /// What one subscriber may ask for: it changes the registrations under that subscriber's id, and no others.
 ///
-/// A refused request leaves owners and pending events as they were.
+/// A registry owns it, and lends it to the subscriber that is called, and to the caller of
+/// [`event_ops`](crate::SubscriberOps::event_ops). A refused request leaves owners and pending events as they were.
 #[derive(Drop)]
 pub struct EventOps<P> {
     pub(crate) epoll: EpollWrapper<P>,
@@ -232,7 +233,7 @@ impl<P: EventPoller> EventOps<P> {
         }
     }
 
-    /// Makes two requests in a row, whatever the first is answered.
+    /// Makes two requests in a row, whatever the first is answered; gives both answers, in order.
     pub fn request_both(&mut self, first: Request, second: Request) -> (Result<()>, Result<()>)
         ensures { (calls : List PollerCall) × AreMadeThrough P.controls P.waits self.old self.new ((first, result.0) ∷ (second, result.1) ∷ []) calls }
     {

@@ -65,7 +65,10 @@ pub trait SubscriberOps {
         ensures found { IfOk result (λ r. HasId (seen self.old).registry id r.now) }
         ensures lost { IfErr result (λ e. (e ≡ Error.InvalidId) × LacksId (seen self.old).registry id) };
 
-    /// An [`EventOps`] of the subscriber of the id. Takes no memory. `InvalidId` where there is none.
+    /// Lends the [`EventOps`] of the subscriber of the id, for requests from outside a batch. Takes no memory.
+    ///
+    /// Subscribers and next id stay as they are; the registrations and the poller are then what the requests made
+    /// through the loan leave. `InvalidId` where no subscriber has the id; then all stays as it was.
     fn event_ops(&mut self, id: SubscriberId) -> Result<&mut EventOps<Self::Poller>>
         ensures* lent { sem 𝓛 (LendsSoOk Self.row (ops_row Self.Poller.row) self.entry result (λ n w. seen n ≡ with_ops (seen self.old) w) (λ n. seen n ≡ seen self.old)) }
         ensures found { IfOk result (λ ops. StandsFor ops.now id (seen self.old)) }

@@ -11,13 +11,13 @@ use Rattle.event_manager.proofs.events.EventOps.add.Goals as goal
 
 pub returns-in-Err : goal.returns-in-Err
 returns-in-Err g c =
-    ([], kept refl refl refl (λ fd. refl) (by_manager (refused_by_manager c.args.self.now.id (registrations_of c.args.self.now.epoll.registrations) c.args.events c.in-Err.e c.in-Err.ensures) refl refl) refl)
+    ([], kept refl refl (λ fd. refl) (by_manager (refused_by_manager c.args.self.now.id (registrations_of c.args.self.now.epoll.registrations) c.args.events c.in-Err.e c.in-Err.ensures) refl refl) refl)
 
 pub returns-in-Err-register : goal.returns-in-Err-register
 returns-in-Err-register g c =
     let vacant = c.in-Ok.ensures in
     let refused = c.in-Err-register.ensures.err in
-    ([], kept refl refl refused.1 (λ fd. refl) (by_manager (inr (inr (vacant.0, vacant.1, ap Err refused.0))) refl refl) refl)
+    ([], kept refl refused.1 (λ fd. refl) (by_manager (inr (inr (vacant.0, vacant.1, ap Err refused.0))) refl refl) refl)
 
 pub returns-in-Ok-ctl : goal.returns-in-Ok-ctl
 returns-in-Ok-ctl g c =
@@ -25,7 +25,7 @@ returns-in-Ok-ctl g c =
     let led = rw c.in-Ok-ctl.is at c.ctl.ensures.led in
     let same = c.ctl.ensures.registrations ∙ c.in-Ok-register.ensures.ok in (
       Control operation.Add c.args.events.fd c.args.events (Ok tt) ∷ [],
-      one_made_through refl refl (by_agreement c.in-Ok.ensures refl refl (ap registrations_of same))
+      one_made_through refl (by_agreement c.in-Ok.ensures refl refl (ap registrations_of same))
           (ap (λ (x : RegistrationState). x.ready) same ∙ cancel_removed_other (Add c.args.events) (Ok tt) (λ fd. refl) s.ready) led (ap (λ (x : RegistrationState). x.capacity) same),
     )
 
@@ -36,7 +36,7 @@ returns-in-Err-ctl g c =
     let vacant = c.in-Ok.ensures in
     let same = c.unregister.ensures ∙ ap (λ (b : RegistrationState). record b { owner = remove b.owner c.args.events.fd }) (c.ctl.ensures.registrations ∙ c.in-Ok-register.ensures.ok)
     ∙ with_owner s _ _ (remove_insert s.owner c.args.events.fd c.args.self.now.id vacant.0) in
-    (Control operation.Add c.args.events.fd c.args.events (Err c.in-Err-ctl.e) ∷ [], kept refl refl same (λ fd. refl) (by_poller c.in-Err-ctl.e.0 vacant refl refl refl) led)
+    (Control operation.Add c.args.events.fd c.args.events (Err c.in-Err-ctl.e) ∷ [], kept refl same (λ fd. refl) (by_poller c.in-Err-ctl.e.0 vacant refl refl refl) led)
 
 pub unregister-requires : goal.unregister-requires
 unregister-requires g c =

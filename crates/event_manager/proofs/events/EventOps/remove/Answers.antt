@@ -11,7 +11,7 @@ use Rattle.event_manager.proofs.events.EventOps.remove.Goals as goal
 
 pub returns-then-not-is_owner : goal.returns-then-not-is_owner
 returns-then-not-is_owner g c =
-    ([], kept refl refl refl (λ fd. refl) (by_manager (λ owns. false≢true (sym c.if-not-is_owner.true ∙ c.is_owner.ensures.1 owns), refl) refl refl) refl)
+    ([], kept refl refl (λ fd. refl) (by_manager (λ owns. false≢true (sym c.if-not-is_owner.true ∙ c.is_owner.ensures.1 owns), refl) refl refl) refl)
 
 pub returns-in-Ok : goal.returns-in-Ok
 returns-in-Ok g c =
@@ -22,7 +22,7 @@ returns-in-Ok g c =
     ∙ ap (λ (b : RegistrationState). record b { ready = cancel_on fd b.ready }) (c.unregister.ensures ∙ ap (λ (b : RegistrationState). record b { owner = remove b.owner fd }) c.ctl.ensures.registrations) in
     let left = ap registrations_of same ∙ ap (λ (l : List Event). record (registrations_of s) { owner = remove s.owner fd; pending = l }) (not_cancelled_cancel_on fd s.ready) in (
       Control operation.Delete fd c.args.events (Ok tt) ∷ [],
-      one_made_through refl refl (by_agreement (c.is_owner.ensures.0 c.if-not-is_owner.false) refl refl left)
+      one_made_through refl (by_agreement (c.is_owner.ensures.0 c.if-not-is_owner.false) refl refl left)
           (ap (λ (x : RegistrationState). x.ready) same ∙ cancel_removed_one c.args.events s.ready) led (ap (λ (x : RegistrationState). x.capacity) same),
     )
 
@@ -30,5 +30,5 @@ pub returns-in-Err : goal.returns-in-Err
 returns-in-Err g c =
     let led = rw c.in-Err.is at c.ctl.ensures.led in (
       Control operation.Delete c.args.events.fd c.args.events (Err c.in-Err.e) ∷ [],
-      kept refl refl c.ctl.ensures.registrations (λ fd. refl) (by_poller c.in-Err.e.0 (c.is_owner.ensures.0 c.if-not-is_owner.false) refl refl refl) led,
+      kept refl c.ctl.ensures.registrations (λ fd. refl) (by_poller c.in-Err.e.0 (c.is_owner.ensures.0 c.if-not-is_owner.false) refl refl refl) led,
     )
