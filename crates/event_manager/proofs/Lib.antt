@@ -17,3 +17,5 @@ pub mod TreeMaps
 pub mod StepExchangeLemmas
 pub mod Watching
 pub mod LentSteps
+pub mod Accounts
+pub mod QueueLemmas

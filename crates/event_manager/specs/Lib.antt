@@ -21,3 +21,5 @@ pub mod ErrorText
 pub mod Manager
 pub mod StepExchanges
 pub mod EitherSubscriber
+pub mod Account
+pub mod JobQueue

@@ -1,0 +1,161 @@
+//! The queue of jobs, without locks.
+
+ghost use Rattle.std.specs.Prelude.{◌≡◌, ◌+◌, ◌≤◌, true, [], length};
+ghost use Rattle.event_manager.specs.JobQueue.{new_queue, after_take, after_close, IsSend, TicketsFollow};
+
+use crate::{Error, Result};
+use job_tickets::tickets::MOST_TICKETS;
+use std::alloc::Global;
+use std::marker::Model;
+use std::mem;
+use std::sync::Wait;
+use std::time::Clock;
+use vmm_sys::errno::Errno;
+use vmm_sys::eventfd::EventFd;
+
+/// What tells a loop that a job waits.
+pub trait Bell {
+    ghost use Rattle.std.specs.Prelude.{Result};
+    ghost use Rattle.vmm_sys.specs.declared.errno.Errno.{Errno};
+
+    /// Which answers a ring may give.
+    ghost rings: { Self → Result (Unit {0}) Errno → Type 0 };
+
+    /// Rings once.
+    fn ring<R: Wait + Clock>(&self, rt: &R) -> std::result::Result<(), Errno>
+        ensures { rings self.now result };
+}
+
+/// Rings by writing 1.
+impl Bell for EventFd {
+    ghost use Rattle.vmm_sys.specs.SharedTable.{AnswersOfSome};
+    ghost use Rattle.vmm_sys.specs.Table.{write_of};
+    ghost use Rattle.vmm_sys.specs.EventFd.{descriptor_of};
+
+    ghost rings = { λ event_fd answer. AnswersOfSome (λ t. write_of t (descriptor_of event_fd) 1) answer };
+
+    fn ring<R: Wait + Clock>(&self, rt: &R) -> std::result::Result<(), Errno> {
+        self.write(1, rt)
+    }
+}
+
+/// A job that waits, with its ticket, and the slot for its reply where a caller waits for one.
+#[derive(Drop)]
+pub struct Entry<J, Q> {
+    /// The number of its ticket.
+    pub ticket: u64,
+    /// The job.
+    pub job: J,
+    /// Where its reply goes.
+    pub slot: Option<Q>,
+}
+
+/// Jobs that wait, in the order of their tickets.
+///
+/// Contracts see how many jobs were taken, how many tickets were issued, whether the queue is closed, and the list.
+/// While it is open as many wait as were issued and not taken; once it is closed none waits, and nothing changes.
+#[derive(Drop)]
+pub struct JobQueue<J, Q> {
+    waiting: Vec<Entry<J, Q>>,
+    taken: u64,
+    issued: u64,
+    closed: bool,
+}
+
+impl<J, Q> Model for JobQueue<J, Q> {
+    ghost use Rattle.event_manager.specs.JobQueue.{QueueState, IsQueueState};
+
+    ghost Value = { QueueState J Q };
+
+    ghost view = { λ q. record { taken = q.taken; issued = q.issued; closed = q.closed; waiting = q.waiting.items } };
+
+    ghost invariant = { λ q. IsQueueState q.taken q.issued q.closed q.waiting.items };
+}
+
+impl<J, Q> JobQueue<J, Q> {
+    /// An open queue in which nothing waits.
+    pub fn new(alloc: Global) -> Self
+        ensures { result ≡ new_queue }
+    {
+        JobQueue {
+            waiting: Vec::new(alloc),
+            taken: 0,
+            issued: 0,
+            closed: false,
+        }
+    }
+
+    /// How many jobs wait.
+    pub fn waiting(&self) -> usize
+        ensures { result ≡ length self.now.waiting }
+    {
+        self.waiting.len()
+    }
+
+    /// How many tickets were issued.
+    pub fn issued(&self) -> u64
+        ensures { result ≡ self.now.issued }
+    {
+        self.issued
+    }
+
+    /// Rings the bell and puts the job last; answers its ticket, the next number.
+    ///
+    /// Refused, in this order, the queue as it was and job and slot dropped: `ChannelSend` where it is closed;
+    /// `TicketsUsedUp` where 9223372036854775807 were issued; `OutOfMemory`, the room being made before the bell is rung;
+    /// `EventFd` with the number that the bell answers.
+    pub fn send<B: Bell, R: Wait + Clock>(
+        &mut self,
+        job: J,
+        slot: Option<Q>,
+        bell: &B,
+        rt: &R,
+    ) -> Result<u64>
+    where
+        J: Drop,
+        Q: Drop,
+        ensures { IsSend (B.rings bell.now) self.old job slot result self.new }
+    {
+        if self.closed {
+            return Err(Error::ChannelSend);
+        }
+        if self.issued == MOST_TICKETS {
+            return Err(Error::TicketsUsedUp);
+        }
+        if self.waiting.reserve(1).is_err() {
+            return Err(Error::OutOfMemory);
+        }
+        if let Err(errno) = bell.ring(rt) {
+            return Err(Error::EventFd(errno));
+        }
+        let ticket = self.issued + 1;
+        self.waiting.push_reserved(Entry { ticket, job, slot });
+        self.issued = ticket;
+        Ok(ticket)
+    }
+
+    /// Hands out all jobs that wait, and counts them as taken. The two lists change places, so it takes no memory.
+    pub fn take(&mut self, into: &mut Vec<Entry<J, Q>>)
+        requires { into.old.items ≡ [] }
+        ensures handed_out { into.new.items ≡ self.old.waiting }
+        ensures taken { self.new ≡ after_take self.old }
+        ensures numbers { TicketsFollow self.old.taken self.old.waiting }
+        ensures room { self.old.taken + length self.old.waiting ≤ self.old.issued }
+        ensures most { self.old.issued ≤ MOST_TICKETS }
+        ensures none_once_closed { self.old.closed ≡ true → self.old.waiting ≡ [] }
+    {
+        mem::swap(&mut self.waiting, into);
+        self.taken += into.len() as u64;
+    }
+
+    /// Hands out all jobs that wait, without counting them as taken, and takes no job in from then on. The two lists change
+    /// places, so it takes no memory.
+    pub fn close(&mut self, into: &mut Vec<Entry<J, Q>>)
+        requires { into.old.items ≡ [] }
+        ensures handed_out { into.new.items ≡ self.old.waiting }
+        ensures closed { self.new ≡ after_close self.old }
+    {
+        mem::swap(&mut self.waiting, into);
+        self.closed = true;
+    }
+}

@@ -1,0 +1,3 @@
+-- Lemmas.
+pub mod ledger
+pub mod Weighing

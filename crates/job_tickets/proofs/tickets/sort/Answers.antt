@@ -1,0 +1,6 @@
+use Rattle.std.proofs.Common.{rules}
+use Rattle.std.proofs.lemmas.List.Sorted.{IsNonDecreasingBy-from_sort_by_key}
+use Rattle.job_tickets.proofs.tickets.sort.Goals as goal
+
+pub returns-clause-order : goal.returns-clause-order
+returns-clause-order g c = IsNonDecreasingBy-from_sort_by_key (λ n. n) _ c.sort_unstable_by_key.ensures.sorted (λ a r q k. search rules)

@@ -1,0 +1,160 @@
+//! Tickets, and the register that issues them.
+
+ghost use Rattle.std.specs.Prelude.{◌≡◌, ◌+◌, ◌^◌, ◌<◌, ◌≤◌, ◌↔◌, ℕ, true, false, IsTrue, vec_len};
+ghost use Rattle.std.specs.List.Sorted.{IsNonDecreasing, IsPermutation};
+ghost use Rattle.job_tickets.specs.Weights.{weight, weight_to, weigh, one_to};
+
+use crate::weights::add_weight;
+use std::marker::{Model, PhantomData};
+use std::sync::ledger::{Blank, Book, Ledger, Share};
+
+/// How many tickets a register can issue.
+pub const MOST_TICKETS: u64 = 9223372036854775807;
+
+// That the ledger has a part for each ticket, and one more.
+#[derive(Drop)]
+struct Whole<L: Ledger> {
+    of: PhantomData<L>,
+    ghost all: { L.parts ≡ 2 ^ 63 },
+}
+
+/// A ticket: contracts see its number, from 1 up. There is one for each number that the register of its ledger issued,
+/// so it can't be copied or made.
+#[derive(Drop)]
+pub struct Ticket<L: Ledger> {
+    number: u64,
+    share: Share<L>,
+}
+
+impl<L: Ledger> Model for Ticket<L> {
+    ghost Value = { ℕ };
+
+    ghost view = { λ t. t.number };
+
+    ghost invariant = { λ t. (t.share.parts ≡ 1) × (t.share.amount ≡ weight t.number) };
+}
+
+impl<L: Ledger> Ticket<L> {
+    /// The number.
+    pub fn number(&self) -> u64
+        ensures { result ≡ self.now }
+    {
+        self.number
+    }
+}
+
+/// Issues tickets, numbered from 1. Contracts see how many it issued.
+#[derive(Drop)]
+pub struct Register<L: Ledger> {
+    issued: u64,
+    book: Book<L>,
+    rest: Share<L>,
+    whole: Whole<L>,
+}
+
+impl<L: Ledger> Model for Register<L> {
+    ghost Value = { ℕ };
+
+    ghost view = { λ r. r.issued };
+
+    ghost invariant = { λ r. (r.rest.parts + r.issued ≡ 2 ^ 63) × (r.rest.amount ≡ 0) × (r.book.total ≡ weight_to r.issued) };
+}
+
+impl<L: Ledger> Register<L> {
+    /// A register that has issued none, over a ledger with 2^63 parts.
+    pub fn new(blank: Blank) -> Self
+        requires name { blank.name ≡ L.name }
+        requires parts { blank.parts ≡ L.parts }
+        requires room { blank.parts ≡ 2 ^ 63 }
+        ensures { result ≡ 0 }
+    {
+        let (book, rest) = blank.open::<L>();
+        Register {
+            issued: 0,
+            book,
+            rest,
+            whole: Whole { of: PhantomData },
+        }
+    }
+
+    /// How many it issued.
+    pub fn issued(&self) -> u64
+        ensures { result ≡ self.now }
+    {
+        self.issued
+    }
+
+    /// Whether these are all the tickets that it issued: exactly where they are as many. Then they are sorted, and their
+    /// numbers are 1, 2, 3 and so on; else the list stays as it was.
+    pub fn gather(&mut self, tickets: &mut Vec<Ticket<L>>) -> bool
+        ensures exactly { IsTrue result ↔ vec_len tickets.old ≡ self.old }
+        ensures all { result ≡ true → tickets.new.items ≡ one_to self.old }
+        ensures same { result ≡ true → IsPermutation tickets.old.items tickets.new.items }
+        ensures none { result ≡ false → tickets.new ≡ tickets.old }
+        ensures kept { self.new ≡ self.old }
+    {
+        if tickets.len() as u64 != self.issued {
+            return false;
+        }
+        sort(tickets);
+        if !are_in_order(tickets) {
+            // Never: as many other numbers would weigh something else, put together.
+            put_together(&mut self.book, &mut self.rest, &self.whole, tickets);
+            unreachable!();
+        }
+        true
+    }
+
+    /// Issues the next ticket.
+    pub fn issue(&mut self) -> Ticket<L>
+        requires { self.old < MOST_TICKETS }
+        ensures next { result ≡ self.old + 1 }
+        ensures issued { self.new ≡ self.old + 1 }
+    {
+        let number = self.issued + 1;
+        let mut share = self.rest.split_off(1, 0);
+        add_weight(&mut self.book, &mut share, number);
+        self.issued = number;
+        Ticket { number, share }
+    }
+}
+
+// Sorts by number. It takes no memory.
+fn sort<L: Ledger>(tickets: &mut Vec<Ticket<L>>)
+    ensures order { IsNonDecreasing tickets.new.items }
+    ensures same { IsPermutation tickets.old.items tickets.new.items }
+    ensures len { vec_len tickets.new ≡ vec_len tickets.old }
+{
+    tickets.sort_unstable_by_key(|t| t.number());
+}
+
+// Whether the numbers are 1, 2, 3 and so on.
+fn are_in_order<L: Ledger>(tickets: &Vec<Ticket<L>>) -> bool
+    ensures { IsTrue result ↔ tickets.now.items ≡ one_to (vec_len tickets.now) }
+{
+    for i in 0..tickets.len() {
+        if tickets[i].number() != i as u64 + 1 {
+            return false;
+        }
+    }
+    true
+}
+
+// Puts the shares of all tickets to the rest. They have all parts, and so the whole weight.
+fn put_together<L: Ledger>(
+    book: &mut Book<L>,
+    rest: &mut Share<L>,
+    whole: &Whole<L>,
+    tickets: &mut Vec<Ticket<L>>,
+)
+    requires parts { rest.old.parts + vec_len tickets.old ≡ 2 ^ 63 }
+    requires none { rest.old.amount ≡ 0 }
+    ensures { weigh tickets.old.items ≡ book.old.total }
+{
+    let _of = &whole.of;
+    while let Some(ticket) = tickets.pop() {
+        let Ticket { number: _, share } = ticket;
+        rest.merge(share);
+    }
+    book.audit(rest);
+}
