@@ -136,3 +136,14 @@ idle_fit i b (Remove e) answer calls a (by_agreement reaches one is same) = by_a
 pub idle_fits : (i : ℕ) (b : Registrations) (exchanges : Exchanges) (calls : List PollerCall) (a : Registrations) → ExchangesFit i b exchanges calls a → ExchangesFit i (nothing_pending b) exchanges calls (nothing_pending a)
 idle_fits i b [] calls a h = (h.0, ap nothing_pending h.1)
 idle_fits i b (exchange ∷ exchanges) calls a h = (h.0, h.1, nothing_pending h.2, h.3, idle_fit i b exchange.0 exchange.1 h.0 h.2 h.4, idle_fits i h.2 exchanges h.1 a h.5)
+
+fit_keeps_endpoint : (i : ℕ) (b : Registrations) (request : Request) (answer : Answer) (calls : List PollerCall) (a : Registrations) → Fits i b request answer calls a → a.endpoint ≡ b.endpoint
+fit_keeps_endpoint i b request answer calls a (by_manager why none same) = ap (λ (r : Registrations). r.endpoint) same
+fit_keeps_endpoint i b request answer calls a (by_poller n reaches one is same) = ap (λ (r : Registrations). r.endpoint) same
+fit_keeps_endpoint i b (Add e) answer calls a (by_agreement reaches one is same) = ap (λ (r : Registrations). r.endpoint) same
+fit_keeps_endpoint i b (Modify e) answer calls a (by_agreement reaches one is same) = ap (λ (r : Registrations). r.endpoint) same
+fit_keeps_endpoint i b (Remove e) answer calls a (by_agreement reaches one is same) = ap (λ (r : Registrations). r.endpoint) same
+
+pub exchanges_keep_endpoint : (i : ℕ) (b : Registrations) (exchanges : Exchanges) (calls : List PollerCall) (a : Registrations) → ExchangesFit i b exchanges calls a → a.endpoint ≡ b.endpoint
+exchanges_keep_endpoint i b [] calls a h = ap (λ (r : Registrations). r.endpoint) h.1
+exchanges_keep_endpoint i b (exchange ∷ exchanges) calls a h = exchanges_keep_endpoint i h.2 exchanges h.1 a h.5 ∙ fit_keeps_endpoint i b exchange.0 exchange.1 h.0 h.2 h.4

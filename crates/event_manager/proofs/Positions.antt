@@ -1,5 +1,5 @@
 -- One position of a batch, and the batch.
-use Rattle.std.proofs.Common.{◌≡◌, ℕ, refl, sym, ap, subst, ◌∙◌, List, [], ◌∷◌, ◌++◌, Bool, true, false, ◌⊎◌, Some, None, Option, ⊎_elim, not, cond, ◌||◌, map, append_assoc, length, Result, Ok, Err, ℤ}
+use Rattle.std.proofs.Common.{◌≡◌, ℕ, refl, sym, ap, subst, ◌∙◌, List, [], ◌∷◌, ◌++◌, Bool, true, false, ◌⊎◌, Some, None, Option, ⊎_elim, not, cond, ◌||◌, ◌==◌, map, append_assoc, length, Result, Ok, Err, ℤ}
 use Rattle.vmm_sys.specs.declared.errno.Errno.{Errno}
 use Rattle.event_manager.specs.Registry as model
 use Rattle.std.proofs.lemmas.List.{append-nil}
@@ -12,22 +12,22 @@ use Rattle.event_manager.specs.Exchange.{Exchanges, ExchangesFit, removes}
 use Rattle.event_manager.specs.RegistrationState.{RegistrationState, not_cancelled, registrations_of, cancel_removed, all_pending, HasWaited}
 use Rattle.event_manager.specs.Registry.{HasId}
 use Rattle.event_manager.specs.Dispatch.{Outcome, Nobody, To, Position, exchanges_of, is_removed, still_pending, events_of, IsOutcome, AreDispatched}
-use Rattle.event_manager.specs.Iteration.{calls_of_outcome, calls_of_positions}
+use Rattle.event_manager.specs.Iteration.{calls_of_outcome, calls_of_positions, is_reported}
 use Rattle.event_manager.proofs.DispatchSoFar.{AreDispatchedSoFar, so_far_none, so_far_more, so_far_all}
 use Rattle.event_manager.specs.Requests.{AreMade}
 use Rattle.event_manager.specs.PollerCall.{Controls, Waits, Leads}
-use Rattle.event_manager.specs.Subscribers.{registry_of, idle, loop_state, HasOutcome, TakesPosition, IsDispatched}
-use Rattle.event_manager.specs.LoopState.{IsLoopIteration}
+use Rattle.event_manager.specs.Subscribers.{registry_of, idle, loop_state, HasOutcome, TakesPosition, IsDispatched, IsBatch}
 use Rattle.event_manager.specs.declared.subscribers.Registry.{Registry}
-use Rattle.event_manager.proofs.ExchangeLemmas.{cancel_removed_marks, marked, leads_join}
+use Rattle.event_manager.proofs.ExchangeLemmas.{cancel_removed_marks, marked, leads_join, exchanges_keep_endpoint}
 
 module _ {S P : Type 0} {controls : Controls P} {waits : Waits P} (serves : S → Event → Exchanges → S → Type 0) where
-  pub nobody_position : (before after : Registry S P) (event : Event) (cancelled : Bool) (rest : List (Event × Bool))
+  pub nobody_position : (before after : Registry S P) (event : Event) (cancelled is_endpoint : Bool) (rest : List (Event × Bool))
       → before.ops.epoll.registrations.ready ≡ (event, cancelled) ∷ rest → after.ops.epoll.registrations ≡ record before.ops.epoll.registrations { ready = rest } → after.subscribers ≡ before.subscribers → after.next ≡ before.next
       → ((cancelled ≡ true) ⊎ ((i : ℕ) (value : S) → ¬ (Owns i (registrations_of before.ops.epoll.registrations) event.fd × HasId (registry_of before) i value)))
       → Leads controls waits before.ops.epoll.poller [] after.ops.epoll.poller
-      → TakesPosition serves controls waits before after
-  nobody_position before after event cancelled rest was registrations subs next why led = record {
+      → is_endpoint ≡ (event.fd == before.ops.epoll.registrations.endpoint)
+      → TakesPosition serves controls waits before is_endpoint after
+  nobody_position before after event cancelled is_endpoint rest was registrations subs next why led noticed = record {
     event = event;
     cancelled = cancelled;
     later = rest;
@@ -37,15 +37,18 @@ module _ {S P : Type 0} {controls : Controls P} {waits : Waits P} (serves : S �
     ready = ap (λ (b : RegistrationState). b.ready) registrations;
     led = led;
     same_capacity = ap (λ (b : RegistrationState). b.capacity) registrations;
+    same_endpoint = ap (λ (b : RegistrationState). b.endpoint) registrations;
+    noticed = noticed;
   }
 
-  pub served_position : (before after : Registry S P) (event : Event) (rest : List (Event × Bool)) (mid : RegistrationState)
+  pub served_position : (before after : Registry S P) (event : Event) (is_endpoint : Bool) (rest : List (Event × Bool)) (mid : RegistrationState)
       (id : ℕ) (value held : S) (exchanges : Exchanges) (calls : List PollerCall)
       → before.ops.epoll.registrations.ready ≡ (event, false) ∷ rest → mid ≡ record before.ops.epoll.registrations { ready = rest } → get mid.owner event.fd ≡ Some id → HasId (registry_of before) id value → serves value event exchanges held
       → AreMade controls waits (record { registrations = mid; poller = before.ops.epoll.poller }) after.ops.epoll id exchanges calls
       → from_entries {R = nat_cmp} after.subscribers.entries ≡ insert (from_entries before.subscribers.entries) id held → after.next ≡ before.next
-      → TakesPosition serves controls waits before after
-  served_position before after event rest mid id value held exchanges calls was registrations owns has served made values next = record {
+      → is_endpoint ≡ (event.fd == before.ops.epoll.registrations.endpoint)
+      → TakesPosition serves controls waits before is_endpoint after
+  served_position before after event is_endpoint rest mid id value held exchanges calls was registrations owns has served made values next noticed = record {
     event = event;
     cancelled = false;
     later = rest;
@@ -63,6 +66,8 @@ module _ {S P : Type 0} {controls : Controls P} {waits : Waits P} (serves : S �
     ready = made.ready ∙ ap (λ (b : RegistrationState). cancel_removed exchanges b.ready) registrations;
     led = made.led;
     same_capacity = made.same_capacity ∙ ap (λ (b : RegistrationState). b.capacity) registrations;
+    same_endpoint = exchanges_keep_endpoint id (registrations_of mid) exchanges calls (registrations_of after.ops.epoll.registrations) made.fits ∙ ap (λ (b : RegistrationState). b.endpoint) registrations;
+    noticed = noticed;
   }
 
 taken : {A : Type 0} (x : A) → None ≡ Some x → ⊥
@@ -119,6 +124,10 @@ events_more : {V : Type 0} (positions : List (Position V)) (d : Position V) (lat
 events_more [] d later = refl
 events_more (x ∷ positions) d later = ap (λ xs. x.event ∷ xs) (events_more positions d later)
 
+reported_more : {V : Type 0} (fd : ℕ) (positions : List (Position V)) (d : Position V) → is_reported fd (events_of (positions ++ d ∷ [])) ≡ is_reported fd (events_of positions) || (d.event.fd == fd)
+reported_more fd [] d = or_false (d.event.fd == fd)
+reported_more fd (x ∷ positions) d = ap (λ b. (x.event.fd == fd) || b) (reported_more fd positions d) ∙ or_assoc (x.event.fd == fd) (is_reported fd (events_of positions)) (d.event.fd == fd)
+
 nil_cons : {A : Type 0} (x : A) (xs : List A) → [] ≡ x ∷ xs → ⊥
 nil_cons x xs e = cc
 
@@ -147,7 +156,7 @@ module _ {S P : Type 0} (serves : S → Event → Exchanges → S → Type 0) wh
 
   module _ (controls : Controls P) (waits : Waits P) where
     -- the batch, as far as it was dispatched
-    pub record DispatchedSoFar (start now : Registry S P) (report : List Event) : Type 0 where
+    pub record DispatchedSoFar (start now : Registry S P) (report : List Event) (endpoint_ready : Bool) : Type 0 where
       pub positions : List (Position S)
       pub later : List Event
       pub events : events_of positions ++ later ≡ report
@@ -155,15 +164,18 @@ module _ {S P : Type 0} (serves : S → Event → Exchanges → S → Type 0) wh
       pub dispatched : AreDispatchedSoFar serves (registry_of start) positions later (registry_of now)
       pub led : Leads controls waits start.ops.epoll.poller (calls_of_positions positions) now.ops.epoll.poller
       pub same_capacity : now.ops.epoll.registrations.capacity ≡ start.ops.epoll.registrations.capacity
+      pub same_endpoint : now.ops.epoll.registrations.endpoint ≡ start.ops.epoll.registrations.endpoint
+      pub noticed : endpoint_ready ≡ is_reported start.ops.epoll.registrations.endpoint (events_of positions)
 
-    pub so_far_start : (start : Registry S P) (report : List Event) → start.ops.epoll.registrations.ready ≡ all_pending report → DispatchedSoFar start start report
-    so_far_start start report h = record { positions = []; later = report; events = refl; ready = h; dispatched = so_far_none serves (registry_of start) report; led = refl; same_capacity = refl }
+    pub so_far_start : (start : Registry S P) (report : List Event) → start.ops.epoll.registrations.ready ≡ all_pending report → DispatchedSoFar start start report false
+    so_far_start start report h = record { positions = []; later = report; events = refl; ready = h; dispatched = so_far_none serves (registry_of start) report; led = refl; same_capacity = refl; same_endpoint = refl; noticed = refl }
 
-    next_one : (start now next : Registry S P) (report : List Event) (positions : List (Position S)) (later : List Event) → events_of positions ++ later ≡ report → now.ops.epoll.registrations.ready ≡ cancelled_by positions later
+    next_one : (start now next : Registry S P) (report : List Event) (endpoint_ready is_endpoint : Bool) (positions : List (Position S)) (later : List Event) → events_of positions ++ later ≡ report → now.ops.epoll.registrations.ready ≡ cancelled_by positions later
         → AreDispatchedSoFar serves (registry_of start) positions later (registry_of now) → Leads controls waits start.ops.epoll.poller (calls_of_positions positions) now.ops.epoll.poller
-        → now.ops.epoll.registrations.capacity ≡ start.ops.epoll.registrations.capacity → TakesPosition serves controls waits now next → DispatchedSoFar start next report
-    next_one start now next report positions [] events ready dispatched led same step = absurd (nil_cons _ _ (sym ready ∙ step.was))
-    next_one start now next report positions (e ∷ es) events ready dispatched led same step =
+        → now.ops.epoll.registrations.capacity ≡ start.ops.epoll.registrations.capacity → now.ops.epoll.registrations.endpoint ≡ start.ops.epoll.registrations.endpoint
+        → endpoint_ready ≡ is_reported start.ops.epoll.registrations.endpoint (events_of positions) → TakesPosition serves controls waits now is_endpoint next → DispatchedSoFar start next report (endpoint_ready || is_endpoint)
+    next_one start now next report endpoint_ready is_endpoint positions [] events ready dispatched led same same_endpoint noticed step = absurd (nil_cons _ _ (sym ready ∙ step.was))
+    next_one start now next report endpoint_ready is_endpoint positions (e ∷ es) events ready dispatched led same same_endpoint noticed step =
         let both = sym ready ∙ step.was in
         let first = head_is _ _ _ _ both in
         let rest = tail_is _ _ _ _ both in
@@ -177,24 +189,31 @@ module _ {S P : Type 0} (serves : S → Event → Exchanges → S → Type 0) wh
           dispatched = so_far_more serves (registry_of start) (registry_of now) (registry_of next) positions e es step.outcome dispatched (is_outcome now next positions e es step.outcome had);
           led = subst (λ xs. Leads controls waits start.ops.epoll.poller xs next.ops.epoll.poller) (sym (calls_more positions position)) (leads_join controls waits start.ops.epoll.poller now.ops.epoll.poller next.ops.epoll.poller (calls_of_positions positions) (calls_of_outcome step.outcome) led step.led);
           same_capacity = step.same_capacity ∙ same;
+          same_endpoint = step.same_endpoint ∙ same_endpoint;
+          noticed =
+              ap (λ b. b || is_endpoint) noticed ∙ ap (λ b. is_reported start.ops.epoll.registrations.endpoint (events_of positions) || b) (step.noticed ∙ ap (λ (p : Event × Bool). p.0.fd == now.ops.epoll.registrations.endpoint) (sym first) ∙ ap (λ fd. e.fd == fd) same_endpoint)
+              ∙ sym (reported_more start.ops.epoll.registrations.endpoint positions position);
         }
 
-    pub so_far_position : (start now next : Registry S P) (report : List Event) → DispatchedSoFar start now report → TakesPosition serves controls waits now next → DispatchedSoFar start next report
-    so_far_position start now next report so_far step = next_one start now next report so_far.positions so_far.later so_far.events so_far.ready so_far.dispatched so_far.led so_far.same_capacity step
+    pub so_far_position : (start now next : Registry S P) (report : List Event) (endpoint_ready is_endpoint : Bool) → DispatchedSoFar start now report endpoint_ready → TakesPosition serves controls waits now is_endpoint next → DispatchedSoFar start next report (endpoint_ready || is_endpoint)
+    so_far_position start now next report endpoint_ready is_endpoint so_far step =
+        next_one start now next report endpoint_ready is_endpoint so_far.positions so_far.later so_far.events so_far.ready so_far.dispatched so_far.led so_far.same_capacity so_far.same_endpoint so_far.noticed step
 
-    pub so_far_end : (start now : Registry S P) (report : List Event) → DispatchedSoFar start now report → now.ops.epoll.registrations.ready ≡ [] → IsDispatched serves controls waits start now report
-    so_far_end start now report so_far none =
+    pub so_far_end : (start now : Registry S P) (report : List Event) (endpoint_ready : Bool) → DispatchedSoFar start now report endpoint_ready → now.ops.epoll.registrations.ready ≡ [] → IsDispatched serves controls waits start now report endpoint_ready
+    so_far_end start now report endpoint_ready so_far none =
         let over = no_events so_far.positions so_far.later (sym so_far.ready ∙ none) in
+        let whole = sym (append-nil (events_of so_far.positions)) ∙ ap (λ l. events_of so_far.positions ++ l) (sym over) ∙ so_far.events in
         let all = so_far_all serves (registry_of start) (registry_of now) so_far.positions (subst (λ l. AreDispatchedSoFar serves (registry_of start) so_far.positions l (registry_of now)) over so_far.dispatched) in
         record {
           positions = so_far.positions;
           dispatched = (
-            sym (append-nil (events_of so_far.positions)) ∙ ap (λ l. events_of so_far.positions ++ l) (sym over) ∙ so_far.events,
+            whole,
             subst (λ l. AreDispatched serves (registry_of start) [] so_far.positions (record (registry_of now) { registrations = record (registrations_of now.ops.epoll.registrations) { pending = not_cancelled l } })) (sym none) all,
           );
           led = so_far.led;
           same_capacity = so_far.same_capacity;
           over = none;
+          noticed = so_far.noticed ∙ ap (is_reported start.ops.epoll.registrations.endpoint) whole;
         }
 
 fst_all_pending : (report : List Event) → map (λ (p : Event × Bool). p.0) (all_pending report) ≡ report
@@ -223,11 +242,11 @@ module _ {V : Type 0} (serves : V → Event → Exchanges → V → Type 0) wher
   from_any_pending b x (position ∷ positions) a h = (h.0, from_any_pending_one b x position.event (events_of positions) position.outcome h.0 h.1, h.2)
 
 module _ {S P : Type 0} (serves : S → Event → Exchanges → S → Type 0) (controls : Controls P) (waits : Waits P) where
-  pub iteration_ok : (start after : Registry S P) (registrations : RegistrationState) (poller : P) (ms : ℤ) (answer : Result (List Event) Errno) (result : Result ℕ Errno) (n : ℕ)
+  pub batch_ok : (start after : Registry S P) (registrations : RegistrationState) (poller : P) (ms : ℤ) (answer : Result (List Event) Errno) (result : Result ℕ Errno) (n : ℕ) (endpoint_ready : Bool)
       → Leads controls waits start.ops.epoll.poller (Wait ms start.ops.epoll.registrations.capacity answer ∷ []) poller → HasWaited start.ops.epoll.registrations answer result registrations → result ≡ Ok n
-      → IsDispatched serves controls waits (record { subscribers = start.subscribers; next = start.next; ops = record { epoll = record { registrations = registrations; poller = poller }; id = start.ops.id } }) after (map (λ (p : Event × Bool). p.0) registrations.ready)
-      → IsLoopIteration serves controls waits (loop_state start) ms (Ok n) (loop_state after)
-  iteration_ok start after registrations poller ms (Ok report) result n led waited is dispatched =
+      → IsDispatched serves controls waits (record { subscribers = start.subscribers; next = start.next; ops = record { epoll = record { registrations = registrations; poller = poller }; id = start.ops.id } }) after (map (λ (p : Event × Bool). p.0) registrations.ready) endpoint_ready
+      → IsBatch serves controls waits (loop_state start) ms (Ok (record { count = n; endpoint_ready = endpoint_ready })) (loop_state after)
+  batch_ok start after registrations poller ms (Ok report) result n endpoint_ready led waited is dispatched =
       let came = ap (λ (b : RegistrationState). b.ready) waited.1 in
       let reported = ap (map (λ (p : Event × Bool). p.0)) came ∙ fst_all_pending report in
       let from = subst (λ (b : RegistrationState). AreDispatched serves (record { values = from_entries {R = nat_cmp} start.subscribers.entries; next = start.next; registrations = registrations_of b }) [] dispatched.positions (registry_of after)) waited.1 dispatched.dispatched.1 in
@@ -237,8 +256,9 @@ module _ {S P : Type 0} (serves : S → Event → Exchanges → S → Type 0) (c
         waited = Ok report;
         positions = dispatched.positions;
         answer = ap Ok (ok_same result n (length report) is waited.0);
+        noticed = dispatched.noticed ∙ ap (λ l. is_reported registrations.endpoint l) reported ∙ ap (λ (b : RegistrationState). is_reported b.endpoint report) waited.1;
         dispatched = (dispatched.dispatched.0 ∙ reported, onto);
         led = leads_join controls waits start.ops.epoll.poller poller after.ops.epoll.poller (Wait ms start.ops.epoll.registrations.capacity (Ok report) ∷ []) (calls_of_positions dispatched.positions) led dispatched.led;
         same_capacity = dispatched.same_capacity ∙ ap (λ (b : RegistrationState). b.capacity) waited.1;
       }
-  iteration_ok start after registrations poller ms (Err e) result n led waited is dispatched = absurd (ok_err result n e is waited.0)
+  batch_ok start after registrations poller ms (Err e) result n endpoint_ready led waited is dispatched = absurd (ok_err result n e is waited.0)

@@ -1,5 +1,5 @@
 -- One wait, the batch that it reports, and the jobs after it.
-use Rattle.std.specs.Prelude.{◌≡◌, ◌≢◌, ℕ, ◌+◌, ℤ, pos, List, [], ◌∷◌, ◌++◌, length, All, Result, Ok, Err, if◌then◌else◌}
+use Rattle.std.specs.Prelude.{◌≡◌, ◌≢◌, ◌==◌, ◌||◌, Bool, false, ℕ, ◌+◌, ℤ, pos, List, [], ◌∷◌, ◌++◌, length, All, Result, Ok, Err, if◌then◌else◌}
 use Rattle.std.specs.Ordering.{int_eq}
 use Rattle.event_manager.specs.Event.{Event}
 use Rattle.event_manager.specs.PollerCall.{PollerCall, Wait}
@@ -33,6 +33,11 @@ pub record Iteration (V J R : Type 0) : Type 0 where
 abbrev pub answer_of : Result (List Event) Errno → Result ℕ Error
 answer_of (Ok report) = Ok (length report)
 answer_of (Err errno) = if int_eq errno.0 (pos 4) then Ok 0 else Err (Epoll errno)
+
+-- whether an event of the report is on this descriptor
+abbrev pub is_reported : ℕ → List Event → Bool
+is_reported fd [] = false
+is_reported fd (e ∷ report) = (e.fd == fd) || is_reported fd report
 
 module _ {V : Type 0} (begins : V → Exchanges → V → Type 0) where
   -- the steps, one after another

@@ -58,14 +58,14 @@ abbrev pub IsRequest : {S : Type 0} → ℕ → Request → Result Answer Error 
 IsRequest id request (Ok answer) step = (calls : List PollerCall) × (step ≡ Requested id ((request, answer) ∷ []) calls)
 IsRequest id request (Err error) step = (error ≡ InvalidId) × (step ≡ NotRequested id)
 
-module _ {S P : Type 0} (serves : S → Event → Exchanges → S → Type 0) (controls : Controls P) (waits : Waits P) where
-  -- a refused wait changes nothing but the poller; after another its report is dispatched
+module _ {S : Type 0} (serves : S → Event → Exchanges → S → Type 0) where
+  -- a refused wait changes nothing; after another its report is dispatched
   abbrev pub IsDispatchedAfter : Result (List Event) Errno → List (Position S) → Registry S → Registry S → Type 0
   IsDispatchedAfter (Ok report) positions before after = IsDispatch serves before report positions after
   IsDispatchedAfter (Err errno) positions before after = (positions ≡ []) × (after ≡ before)
 
   -- An iteration of the loop: one wait with the capacity, and the dispatch of what that wait reported.
-  pub record IsLoopIteration (before : LoopState S P) (ms : ℤ) (result : Result ℕ Error) (after : LoopState S P) : Type 0 where
+  pub record IsLoopIteration {P : Type 0} (controls : Controls P) (waits : Waits P) (before : LoopState S P) (ms : ℤ) (result : Result ℕ Error) (after : LoopState S P) : Type 0 where
     pub waited : Result (List Event) Errno
     pub positions : List (Position S)
     pub answer : result ≡ answer_of waited

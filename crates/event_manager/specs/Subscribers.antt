@@ -1,16 +1,19 @@
 -- A registry of the program, seen by the definitions, and one position of its ready list.
-use Rattle.std.specs.Prelude.{◌≡◌, ℕ, List, Bool, true, false, [], ◌∷◌, ◌⊎◌}
+use Rattle.std.specs.Prelude.{◌≡◌, ℕ, ℤ, ◌==◌, List, Bool, true, false, [], ◌∷◌, ◌⊎◌, Result, Ok, Err}
 use Rattle.std.specs.FinMap as map
 use Rattle.event_manager.specs.Event.{Event}
-use Rattle.event_manager.specs.PollerCall.{Controls, Waits, Leads}
+use Rattle.event_manager.specs.PollerCall.{Wait, Controls, Waits, Leads}
 use Rattle.event_manager.specs.Exchange.{Exchanges, ExchangesFit}
 use Rattle.event_manager.specs.Registrations.{Owns}
 use Rattle.event_manager.specs.Registry.{HasId}
 use Rattle.event_manager.specs.Registry as model
 use Rattle.event_manager.specs.RegistrationState.{registrations_of, not_cancelled, cancel_removed}
 use Rattle.event_manager.specs.Dispatch.{Outcome, Nobody, To, Position, exchanges_of, IsDispatch}
-use Rattle.event_manager.specs.Iteration.{calls_of_outcome, calls_of_positions}
-use Rattle.event_manager.specs.LoopState.{LoopState}
+use Rattle.vmm_sys.specs.declared.errno.Errno.{Errno}
+use Rattle.event_manager.specs.Iteration.{calls_of_outcome, calls_of_positions, answer_of, is_reported}
+use Rattle.event_manager.specs.LoopState.{LoopState, IsDispatchedAfter}
+use Rattle.event_manager.specs.declared.error.Error.{Error}
+use Rattle.event_manager.specs.declared.subscribers.Batch.{Batch}
 use Rattle.event_manager.specs.declared.subscribers.Registry.{Registry}
 
 -- with nothing pending
@@ -37,8 +40,8 @@ module _ {S P : Type 0} where
         × ExchangesFit i (record (registrations_of before.ops.epoll.registrations) { pending = not_cancelled later }) exchanges calls (registrations_of after.ops.epoll.registrations)
         × (registry_of after ≡ record (registry_of before) { values = map.insert (registry_of before).values i held; registrations = registrations_of after.ops.epoll.registrations })
 
-    -- one position was taken
-    pub record TakesPosition (controls : Controls P) (waits : Waits P) (before after : Registry S P) : Type 0 where
+    -- one position was taken; `is_endpoint` says whether its event was on the endpoint's descriptor
+    pub record TakesPosition (controls : Controls P) (waits : Waits P) (before : Registry S P) (is_endpoint : Bool) (after : Registry S P) : Type 0 where
       pub event : Event
       pub cancelled : Bool
       pub later : List (Event × Bool)
@@ -48,11 +51,35 @@ module _ {S P : Type 0} where
       pub ready : after.ops.epoll.registrations.ready ≡ cancel_removed (exchanges_of outcome) later
       pub led : Leads controls waits before.ops.epoll.poller (calls_of_outcome outcome) after.ops.epoll.poller
       pub same_capacity : after.ops.epoll.registrations.capacity ≡ before.ops.epoll.registrations.capacity
+      pub same_endpoint : after.ops.epoll.registrations.endpoint ≡ before.ops.epoll.registrations.endpoint
+      pub noticed : is_endpoint ≡ (event.fd == before.ops.epoll.registrations.endpoint)
 
-    -- the batch was dispatched
-    pub record IsDispatched (controls : Controls P) (waits : Waits P) (before after : Registry S P) (report : List Event) : Type 0 where
+    -- the batch was dispatched; `endpoint_ready` says whether one of its events was on the endpoint's descriptor
+    pub record IsDispatched (controls : Controls P) (waits : Waits P) (before after : Registry S P) (report : List Event) (endpoint_ready : Bool) : Type 0 where
       pub positions : List (Position S)
       pub dispatched : IsDispatch serves (registry_of before) report positions (registry_of after)
       pub led : Leads controls waits before.ops.epoll.poller (calls_of_positions positions) after.ops.epoll.poller
       pub same_capacity : after.ops.epoll.registrations.capacity ≡ before.ops.epoll.registrations.capacity
       pub over : after.ops.epoll.registrations.ready ≡ []
+      pub noticed : endpoint_ready ≡ is_reported before.ops.epoll.registrations.endpoint report
+
+-- the count of a batch, or the refusal
+abbrev pub count_of : Result Batch Error → Result ℕ Error
+count_of (Ok batch) = Ok batch.count
+count_of (Err error) = Err error
+
+-- an event was on the endpoint's descriptor exactly if one of the report was
+abbrev pub Notices : ℕ → Result (List Event) Errno → Result Batch Error → Type 0
+Notices endpoint (Ok report) (Ok batch) = batch.endpoint_ready ≡ is_reported endpoint report
+Notices endpoint (Err errno) (Ok batch) = batch.endpoint_ready ≡ false
+Notices endpoint waited (Err error) = Unit {0}
+
+-- one wait with the capacity, and the dispatch of what that wait reported
+pub record IsBatch {S P : Type 0} (serves : S → Event → Exchanges → S → Type 0) (controls : Controls P) (waits : Waits P) (before : LoopState S P) (ms : ℤ) (result : Result Batch Error) (after : LoopState S P) : Type 0 where
+  pub waited : Result (List Event) Errno
+  pub positions : List (Position S)
+  pub answer : count_of result ≡ answer_of waited
+  pub noticed : Notices before.registry.registrations.endpoint waited result
+  pub dispatched : IsDispatchedAfter serves waited positions before.registry after.registry
+  pub led : Leads controls waits before.poller (Wait ms before.capacity waited ∷ calls_of_positions positions) after.poller
+  pub same_capacity : after.capacity ≡ before.capacity

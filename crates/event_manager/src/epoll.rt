@@ -1,6 +1,6 @@
 //! The registrations beside the poller that keeps the interest list.
 
-ghost use Rattle.std.specs.Prelude.{◌≡◌, ℕ, ◌≤◌, ◌<◌, ◌^◌, length, List, [], ◌∷◌, ◌++◌, false, drop, replicate, OnOk, IfErr, IfOk, IfSome, Result, Bool, IsTrue, ◌↔◌, MatchOption, All};
+ghost use Rattle.std.specs.Prelude.{◌≡◌, ℕ, ◌≤◌, ◌<◌, ◌^◌, length, List, [], ◌∷◌, ◌++◌, false, drop, replicate, OnOk, IfErr, IfOk, IfSome, Result, Bool, IsTrue, ◌↔◌, ◌==◌, MatchOption, All};
 ghost use Rattle.std.specs.FinMap as map;
 ghost use Rattle.event_manager.specs.Event.{Event};
 ghost use Rattle.event_manager.specs.PollerCall.{Control, Wait, Leads};
@@ -61,11 +61,12 @@ fn clear_marks(cancelled: &mut [bool], count: usize)
     cancelled[..count].fill(false);
 }
 
-/// One entry of the ready list, and whether it was cancelled.
+/// One entry of the ready list, whether it was cancelled, and whether it is on the endpoint's descriptor.
 #[derive(Clone, Copy)]
 pub(crate) struct ReadyEntry {
     pub(crate) entry: EpollEvent,
     pub(crate) cancelled: bool,
+    pub(crate) is_endpoint: bool,
 }
 
 /// Who owns which descriptor, both ways, and what is still to come of the current batch.
@@ -78,7 +79,6 @@ pub(crate) struct Registrations {
     cancelled: Vec<bool>,
     at: usize,
     count: usize,
-    endpoint_ready: bool,
 }
 
 impl Model for Registrations {
@@ -121,7 +121,6 @@ impl Registrations {
             cancelled,
             at: 0,
             count: 0,
-            endpoint_ready: false,
         })
     }
 
@@ -204,28 +203,20 @@ impl Registrations {
     /// Takes the next entry of the ready list.
     pub(crate) fn next_ready(&mut self) -> Option<ReadyEntry>
         ensures { MatchOption result ((self.old.ready ≡ []) × (self.new ≡ self.old))
-            (λ t. (rest : List (Event × Bool)) × (self.old.ready ≡ (event_of_entry t.entry, t.cancelled) ∷ rest) × (self.new ≡ record self.old { ready = rest })) }
+            (λ t. (rest : List (Event × Bool)) × (self.old.ready ≡ (event_of_entry t.entry, t.cancelled) ∷ rest) × (self.new ≡ record self.old { ready = rest })
+            × (t.is_endpoint ≡ ((event_of_entry t.entry).fd == self.old.endpoint))) }
     {
         if self.at < self.count {
+            let entry = self.buffer[self.at];
             let ready_entry = ReadyEntry {
-                entry: self.buffer[self.at],
+                entry,
                 cancelled: self.cancelled[self.at],
+                is_endpoint: fd_of(&entry) == self.endpoint,
             };
             self.at += 1;
-            let is_endpoint = fd_of(&ready_entry.entry) == self.endpoint;
-            self.endpoint_ready = self.endpoint_ready | is_endpoint;
             return Some(ready_entry);
         }
         None
-    }
-
-    /// Whether an entry of the batch was on the endpoint's descriptor; answered once.
-    pub(crate) fn take_endpoint_ready(&mut self) -> bool
-        ensures { self.new ≡ self.old }
-    {
-        let was_ready = self.endpoint_ready;
-        self.endpoint_ready = false;
-        was_ready
     }
 
     /// The id that owns the descriptor of an entry.
@@ -249,7 +240,6 @@ impl Registrations {
     {
         self.at = 0;
         self.count = 0;
-        self.endpoint_ready = false;
         match poller.wait_into(ms, &mut self.buffer) {
             Ok(count) => {
                 clear_marks(&mut self.cancelled, count);

@@ -177,11 +177,11 @@ impl<S: MutEventSubscriber, P: EventPoller> EventManager<S, P> {
     pub fn run_with_timeout<R: Wait + Clock>(&mut self, ms: i32, rt: &R) -> Result<usize>
         ensures { IsLoopIteration S.serves P.controls P.waits (state_of self.old) ms result (state_of self.new) }
     {
-        let count = self.registry.run_with_timeout(ms)?;
-        if self.registry.ops.epoll.registrations.take_endpoint_ready() {
+        let batch = self.registry.run_with_timeout(ms)?;
+        if batch.endpoint_ready {
             let _ = self.event_fd.read(rt);
         }
-        Ok(count)
+        Ok(batch.count)
     }
 }
 

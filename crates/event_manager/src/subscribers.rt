@@ -1,6 +1,6 @@
 //! Subscribers, and the registry that holds them by id.
 
-ghost use Rattle.std.specs.Prelude.{◌≡◌, ℕ, ◌≤◌, ◌<◌, ◌^◌, List, [], ◌∷◌, map, IfOk, IfErr, MatchBool};
+ghost use Rattle.std.specs.Prelude.{◌≡◌, ℕ, ◌≤◌, ◌<◌, ◌^◌, List, [], ◌∷◌, map, IfOk, MatchOption};
 ghost use Rattle.std.specs.Ordering.{nat_cmp};
 ghost use Rattle.event_manager.specs.Event.{Event};
 ghost use Rattle.event_manager.specs.PollerCall.{PollerCall};
@@ -8,8 +8,8 @@ ghost use Rattle.event_manager.specs.Exchange.{Exchanges};
 ghost use Rattle.event_manager.specs.Registry.{Step, HasId, LacksId};
 ghost use Rattle.event_manager.specs.RegistrationState.{all_pending};
 ghost use Rattle.event_manager.specs.Requests.{AreMadeThrough};
-ghost use Rattle.event_manager.specs.LoopState.{HasStepped, IsJoin, IsLeave, IsLoopIteration, new_loop};
-ghost use Rattle.event_manager.specs.Subscribers.{TakesPosition, IsDispatched, loop_state};
+ghost use Rattle.event_manager.specs.LoopState.{HasStepped, IsJoin, IsLeave, new_loop};
+ghost use Rattle.event_manager.specs.Subscribers.{TakesPosition, IsDispatched, IsBatch, loop_state};
 
 use crate::epoll::{EpollWrapper, Registrations};
 use crate::events::{EventOps, Events};
@@ -95,6 +95,13 @@ pub trait MutEventSubscriber {
             × AreMadeThrough P.controls P.waits ops.old ops.new exchanges calls };
 }
 
+/// How many events a wait reported, and whether one of them was on the endpoint's descriptor.
+#[derive(Clone, Copy)]
+pub(crate) struct Batch {
+    pub(crate) count: usize,
+    pub(crate) endpoint_ready: bool,
+}
+
 /// The subscribers by id, and their registrations.
 #[derive(Drop)]
 pub struct Registry<S, P = BoxedPoller> {
@@ -147,40 +154,45 @@ impl<S: MutEventSubscriber, P: EventPoller> Registry<S, P> {
     }
 
     /// Takes one position of the batch: hands its event to the owner of its descriptor, where there is one and the
-    /// event isn't cancelled. False where no position is left.
-    fn dispatch_next(&mut self) -> bool
-        ensures { MatchBool result
-            (TakesPosition S.serves P.controls P.waits self.old self.new)
-            ((self.new ≡ self.old) × (self.old.ops.epoll.registrations.ready ≡ [])) }
+    /// event isn't cancelled. Answers whether the event was on the endpoint's descriptor; `None` where no position is
+    /// left.
+    fn dispatch_next(&mut self) -> Option<bool>
+        ensures { MatchOption result
+            ((self.new ≡ self.old) × (self.old.ops.epoll.registrations.ready ≡ []))
+            (λ is_endpoint. TakesPosition S.serves P.controls P.waits self.old is_endpoint self.new) }
     {
         let Some(ready_entry) = self.ops.epoll.registrations.next_ready() else {
-            return false;
+            return None;
         };
         if ready_entry.cancelled {
-            return true;
+            return Some(ready_entry.is_endpoint);
         }
         let Some(id) = self.ops.epoll.registrations.owner(&ready_entry.entry) else {
-            return true;
+            return Some(ready_entry.is_endpoint);
         };
         let Some(subscriber) = self.subscribers.get_mut(&id) else {
-            return true;
+            return Some(ready_entry.is_endpoint);
         };
         self.ops.id = id;
         subscriber.process(Events::of_entry(&ready_entry.entry), &mut self.ops);
-        true
+        Some(ready_entry.is_endpoint)
     }
 
-    /// Dispatches the batch.
-    fn dispatch(&mut self)
+    /// Dispatches the batch. Answers whether an event of it was on the endpoint's descriptor.
+    fn dispatch(&mut self) -> bool
         requires { self.old.ops.epoll.registrations.ready ≡ all_pending (map (λ p. p.0) self.old.ops.epoll.registrations.ready) }
-        ensures { IsDispatched S.serves P.controls P.waits self.old self.new (map (λ p. p.0) self.old.ops.epoll.registrations.ready) }
+        ensures { IsDispatched S.serves P.controls P.waits self.old self.new (map (λ p. p.0) self.old.ops.epoll.registrations.ready) result }
     {
-        while self.dispatch_next() {}
+        let mut endpoint_ready = false;
+        while let Some(is_endpoint) = self.dispatch_next() {
+            endpoint_ready = endpoint_ready | is_endpoint;
+        }
+        endpoint_ready
     }
 
     /// Waits once, and dispatches what is reported.
-    pub(crate) fn run_with_timeout(&mut self, ms: i32) -> Result<usize>
-        ensures { IsLoopIteration S.serves P.controls P.waits (loop_state self.old) ms result (loop_state self.new) }
+    pub(crate) fn run_with_timeout(&mut self, ms: i32) -> Result<Batch>
+        ensures { IsBatch S.serves P.controls P.waits (loop_state self.old) ms result (loop_state self.new) }
     {
         match self
             .ops
@@ -189,12 +201,18 @@ impl<S: MutEventSubscriber, P: EventPoller> Registry<S, P> {
             .wait(&mut self.ops.epoll.poller, ms)
         {
             Ok(count) => {
-                self.dispatch();
-                Ok(count)
+                let endpoint_ready = self.dispatch();
+                Ok(Batch {
+                    count,
+                    endpoint_ready,
+                })
             }
             Err(e) => {
                 if e == Errno::EINTR {
-                    return Ok(0);
+                    return Ok(Batch {
+                        count: 0,
+                        endpoint_ready: false,
+                    });
                 }
                 Err(Error::Epoll(e))
             }
