@@ -12,7 +12,8 @@ use std::time::Clock;
 
 /// A job on a registry of subscribers of type `S`.
 ///
-/// A type states which steps of the registry its call may make, with their answers, and which reply it may then give.
+/// A type states which steps of the registry its call may make, with their answers, which reply it may then give, and
+/// what holds of each reply.
 pub trait Job<S: MutEventSubscriber>: Drop {
     /// What the job replies.
     type Reply;
@@ -23,14 +24,18 @@ pub trait Job<S: MutEventSubscriber>: Drop {
     /// Which steps it may make, with their answers, and which reply it may then give.
     ghost may: { Self → List (Step S) → Self.Reply → Type 0 };
 
+    /// What holds of each reply: what a caller knows who waits for one.
+    ghost replies: { Self.Reply → Type 0 };
+
     /// Does the job.
     fn call<P: EventPoller, R: Wait + Clock>(
         self,
         registry: &mut Registry<S, P>,
         rt: &R,
     ) -> Self::Reply
-        ensures { (steps : List (Step S)) × may self steps result
-            × HaveStepped S.begins P.controls P.waits (loop_state registry.old) steps (loop_state registry.new) };
+        ensures stepped { (steps : List (Step S)) × may self steps result
+            × HaveStepped S.begins P.controls P.waits (loop_state registry.old) steps (loop_state registry.new) }
+        ensures fact { replies result };
 }
 
 /// The job that does nothing.
@@ -41,6 +46,8 @@ impl<S: MutEventSubscriber> Job<S> for NoJob {
     type Reply = ();
 
     ghost may = { λ self steps reply. steps ≡ [] };
+
+    ghost replies = { λ reply. Unit {0} };
 
     fn call<P: EventPoller, R: Wait + Clock>(self, _registry: &mut Registry<S, P>, _rt: &R) {}
 }
