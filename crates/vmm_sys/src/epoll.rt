@@ -147,6 +147,3 @@ impl<R: Wait + Clock + Clone + Send + Drop> Poller for Epoll<R> {
         self.table.wait_at_most(limit, buffer, &self.rt)
     }
 }
-
-#[cfg(test)]
-mod tests;
