@@ -55,16 +55,21 @@ fn changes_of_interests(rt: HostRuntime) -> Result<(), Fail> {
 }
 
 #[test]
-fn reads_writes_and_settings(rt: HostRuntime) -> Result<(), Fail> {
+fn each_descriptor_has_the_calls_of_its_kind(rt: HostRuntime) -> Result<(), Fail> {
     let mut table = Table::new(rt.alloc());
-    assert_eq!(rt; table.add_counter(0), Ok(0));
-    assert_eq!(rt; table.add_line(), Ok(1));
-    assert_eq!(rt; table.write(1, u64::MAX), Err(Errno::EBADF));
-    assert_eq!(rt; table.read(0), Err(Errno::EAGAIN));
-    assert_eq!(rt; table.write(0, 0), Ok(()));
-    assert_eq!(rt; table.read(0), Err(Errno::EAGAIN));
-    assert_eq!(rt; table.set_line(1, EventSet::IN), Ok(()));
-    assert_eq!(rt; table.set_line(0, EventSet::IN), Err(Errno::EBADF));
+    table.add_counter(0)?;
+    table.add_line()?;
+    let rows = [
+        (0, Ok(()), Ok(5), Err(Errno::EBADF)),
+        (1, Err(Errno::EBADF), Err(Errno::EBADF), Ok(())),
+        (2, Err(Errno::EBADF), Err(Errno::EBADF), Err(Errno::EBADF)),
+        (-1, Err(Errno::EBADF), Err(Errno::EBADF), Err(Errno::EBADF)),
+    ];
+    for (fd, written, read, set) in rows {
+        assert_eq!(rt; table.write(fd, 5), written);
+        assert_eq!(rt; table.read(fd), read);
+        assert_eq!(rt; table.set_line(fd, EventSet::IN), set);
+    }
     Ok(())
 }
 
@@ -142,26 +147,38 @@ fn highest_value(rt: HostRuntime) -> Result<(), Fail> {
     let mut table = Table::new(rt.alloc());
     assert_eq!(rt; table.add_counter(u64::MAX), Err(Errno::EINVAL));
     assert_eq!(rt; table.add_counter(HIGHEST), Ok(0));
-    assert_eq!(rt; table.write(0, 1), Err(Errno::EAGAIN));
-    assert_eq!(rt; table.write(0, u64::MAX), Err(Errno::EINVAL));
-    table.ctl(ADD, 0, wanting(EventSet::OUT, 1))?;
-    assert_eq!(rt; table.wait(&mut [no_event()]), Ok(0));
+    let rows = [
+        (u64::MAX, Err(Errno::EINVAL)),
+        (1, Err(Errno::EAGAIN)),
+        (0, Ok(())),
+    ];
+    for (value, answer) in rows {
+        assert_eq!(rt; table.write(0, value), answer);
+    }
     assert_eq!(rt; table.read(0), Ok(HIGHEST));
-    assert_eq!(rt; table.wait(&mut [no_event()]), Ok(1));
+    assert_eq!(rt; table.read(0), Err(Errno::EAGAIN));
+    Ok(())
+}
+
+#[test]
+fn a_full_counter_is_not_ready_for_a_write(rt: HostRuntime) -> Result<(), Fail> {
+    for (value, count) in [(HIGHEST, 0), (18446744073709551613, 1), (0, 1)] {
+        let mut table = Table::new(rt.alloc());
+        let fd = table.add_counter(value)?;
+        table.ctl(ADD, fd, wanting(EventSet::OUT, 1))?;
+        assert_eq!(rt; table.wait(&mut [no_event()]), Ok(count));
+    }
     Ok(())
 }
 
 #[test]
 fn as_a_boxed_poller(rt: HostRuntime) -> Result<(), Fail> {
-    let mut table = Table::new(rt.alloc());
-    assert_eq!(rt; table.add_counter(0), Ok(0));
+    let table = ready_counters(rt.alloc(), 1)?;
     let mut poller: Box<dyn Poller + Send> = Box::new(rt.alloc(), table)?;
     let output = wanting(EventSet::OUT, 5);
-    assert_eq!(rt; poller.ctl(ADD, 0, output), Ok(()));
-    assert_eq!(rt; poller.ctl(ADD, 0, output), Err(Errno::EEXIST));
+    assert_eq!(rt; poller.ctl(MODIFY, 0, output), Ok(()));
     let mut buffer = [no_event(); 2];
     assert_eq!(rt; poller.wait(-1, &mut buffer), Ok(1));
     assert_eq!(rt; buffer, [output, no_event()]);
-    assert_eq!(rt; poller.wait(-1, &mut []), Err(Errno::EINVAL));
     Ok(())
 }

@@ -1,6 +1,6 @@
 //! What ends a wait on another thread.
 
-use crate::desk::{Change, Desk};
+use crate::desk::{Change, Desk, want};
 use crate::host::{Host, pause};
 use crate::waiter::{Waiter, no_event};
 use std::alloc::Global;
@@ -113,38 +113,38 @@ fn no_write_is_missed_by_a_wait_with_a_limit(rt: HostRuntime) -> Result<(), Fail
     expect_no_write_to_be_missed(rt, rt.alloc(), LONG)
 }
 
+// A counter, and how often it was read.
+#[derive(Drop)]
+struct Mailbox {
+    counter: EventFd,
+    reads: AtomicU64,
+}
+
 // Each write comes as soon as the one before was read, so just as the reader goes to sleep.
 fn expect_no_write_to_be_missed<R: Host>(rt: R, alloc: Global, ms: i32) -> Result<(), Fail> {
     let mut epoll = Epoll::new(rt, alloc)?;
-    let counter = Arc::new(alloc, EventFd::new(&epoll, 0, &rt)?)?;
-    crate::desk::want(&mut epoll, &*counter, EventSet::IN)?;
-    let rounds = Arc::new(alloc, AtomicU64::new(0))?;
-    let (their_counter, their_rounds) = (Arc::try_clone(&counter)?, Arc::try_clone(&rounds)?);
-    let reader = thread::spawn(&rt, move || {
-        read_each(&rt, epoll, ms, &their_counter, &their_rounds)
-    })?;
+    let counter = EventFd::new(&epoll, 0, &rt)?;
+    want(&mut epoll, &counter, EventSet::IN)?;
+    let reads = AtomicU64::new(0);
+    let ours = Arc::new(alloc, Mailbox { counter, reads })?;
+    let theirs = Arc::try_clone(&ours)?;
+    let reader = thread::spawn(&rt, move || read_each(&rt, epoll, ms, &theirs))?;
     for round in 0..ROUNDS {
-        counter.write(1, &rt)?;
-        expect_more_than(&rt, &rounds, round);
+        ours.counter.write(1, &rt)?;
+        expect_more_than(&rt, &ours.reads, round);
     }
     assert_eq!(rt; reader.join(&rt), ROUNDS);
     Ok(())
 }
 
 // Waits and reads so many times; answers the sum of what was read.
-fn read_each<R: Host>(
-    rt: &R,
-    epoll: Epoll<R>,
-    ms: i32,
-    counter: &EventFd,
-    rounds: &AtomicU64,
-) -> u64 {
+fn read_each<R: Host>(rt: &R, epoll: Epoll<R>, ms: i32, mailbox: &Mailbox) -> u64 {
     let mut epoll = epoll;
     let mut sum = 0u64;
     for round in 0..ROUNDS {
         assert_eq!(rt; epoll.wait(ms, &mut [no_event()]), Ok(1));
-        sum = sum.wrapping_add(counter.read(rt).unwrap_or(0));
-        rounds.store(round + 1, Ordering::SeqCst);
+        sum = sum.wrapping_add(mailbox.counter.read(rt).unwrap_or(0));
+        mailbox.reads.store(round + 1, Ordering::SeqCst);
     }
     sum
 }
