@@ -136,9 +136,9 @@ impl<R: Wait + Clock + Clone + Send + Drop> Poller for Epoll<R> {
     /// As [`Table::wait`](crate::table::Table::wait), tried until something is ready where `ms` is
     /// negative, and once where it is 0.
     ///
-    /// Else it is tried, and where nothing is ready tried once more, after so many milliseconds at
-    /// most: the second try comes as soon as the table was changed, so 0 may be answered early.
-    /// `EINVAL`, at once: the buffer has no room.
+    /// Else it is tried, and where nothing is ready tried once more: after so many milliseconds, or
+    /// once the table was changed, so 0 may be answered early. `EINVAL`, at once: the buffer has no
+    /// room.
     fn wait(&mut self, ms: i32, buffer: &mut [EpollEvent]) -> Result<usize, Errno> {
         if ms < 0 {
             return self.table.wait_until_ready(buffer, &self.rt);
@@ -147,6 +147,3 @@ impl<R: Wait + Clock + Clone + Send + Drop> Poller for Epoll<R> {
         self.table.wait_at_most(limit, buffer, &self.rt)
     }
 }
-
-#[cfg(test)]
-mod tests;

@@ -47,30 +47,3 @@ impl fmt::Display for Errno {
 }
 
 impl std::error::Error for Errno {}
-
-#[cfg(test)]
-mod tests {
-    use super::*;
-    use std::test::Fail;
-
-    #[test]
-    fn numbers_and_texts(rt: HostRuntime) -> Result<(), Fail> {
-        let table = [
-            (Errno::ENOENT, 2, "os error 2"),
-            (Errno::EINTR, 4, "os error 4"),
-            (Errno::EBADF, 9, "os error 9"),
-            (Errno::EAGAIN, 11, "os error 11"),
-            (Errno::ENOMEM, 12, "os error 12"),
-            (Errno::EEXIST, 17, "os error 17"),
-            (Errno::EINVAL, 22, "os error 22"),
-            (Errno::EMFILE, 24, "os error 24"),
-            (Errno(-5), -5, "os error -5"),
-        ];
-        for (errno, number, text) in table {
-            assert_eq!(rt; errno.0, number);
-            let printed = format!(in rt.alloc(); "{errno}")?;
-            assert_eq!(rt; printed.as_str(), text);
-        }
-        Ok(())
-    }
-}

@@ -63,35 +63,3 @@ impl AsRawFd for EventFd {
         self.fd
     }
 }
-
-#[cfg(test)]
-mod tests {
-    use super::*;
-    use std::test::Fail;
-
-    #[test]
-    fn highest_value(rt: HostRuntime) -> Result<(), Fail> {
-        let epoll = Epoll::new(rt, rt.alloc())?;
-        let event_fd = EventFd::new(&epoll, 18446744073709551614, &rt)?;
-        assert_eq!(rt; event_fd.write(1, &rt), Err(Errno::EAGAIN));
-        assert_eq!(rt;
-            event_fd.write(18446744073709551615, &rt),
-            Err(Errno::EINVAL)
-        );
-        assert_eq!(rt; event_fd.read(&rt), Ok(18446744073709551614));
-        assert_eq!(rt; event_fd.read(&rt), Err(Errno::EAGAIN));
-        Ok(())
-    }
-
-    #[test]
-    fn counters_of_one_table_are_apart(rt: HostRuntime) -> Result<(), Fail> {
-        let epoll = Epoll::new(rt, rt.alloc())?;
-        let first = EventFd::new(&epoll, 0, &rt)?;
-        let second = EventFd::new(&epoll, 1, &rt)?;
-        assert_eq!(rt; first.write(5, &rt), Ok(()));
-        assert_eq!(rt; first.write(7, &rt), Ok(()));
-        assert_eq!(rt; second.read(&rt), Ok(1));
-        assert_eq!(rt; first.read(&rt), Ok(12));
-        Ok(())
-    }
-}

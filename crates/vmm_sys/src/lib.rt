@@ -16,5 +16,3 @@ pub mod poller;
 pub mod script_poller;
 mod shared_table;
 pub mod table;
-#[cfg(test)]
-mod tests;

@@ -52,32 +52,3 @@ impl AsRawFd for Line {
         self.fd
     }
 }
-
-#[cfg(test)]
-mod tests {
-    use super::*;
-    use crate::epoll::{ControlOperation, EpollEvent};
-    use crate::poller::Poller;
-    use std::test::Fail;
-
-    #[test]
-    fn reports_what_was_set(rt: HostRuntime) -> Result<(), Fail> {
-        let mut epoll = Epoll::new(rt, rt.alloc())?;
-        let first = Line::new(&epoll, &rt)?;
-        let second = Line::new(&epoll, &rt)?;
-        for line in [&first, &second] {
-            let event = EpollEvent::new(EventSet::IN, 4);
-            assert_eq!(rt;
-                epoll.ctl(ControlOperation::Add, line.as_raw_fd(), event),
-                Ok(())
-            );
-        }
-        assert_eq!(rt; second.set(EventSet::IN | EventSet::OUT, &rt), Ok(()));
-        let mut buffer = [EpollEvent::new(EventSet::empty(), 0); 2];
-        assert_eq!(rt; epoll.wait(0, &mut buffer), Ok(1));
-        assert_eq!(rt; buffer[0], EpollEvent::new(EventSet::IN, 4));
-        assert_eq!(rt; second.set(EventSet::empty(), &rt), Ok(()));
-        assert_eq!(rt; epoll.wait(0, &mut buffer), Ok(0));
-        Ok(())
-    }
-}

@@ -1,14 +1,14 @@
 //! Each call that requests memory. With one request refused (`rt try --test --fail-alloc N`) the
 //! same call made again answers what a first one would have.
 
-use crate::epoll::{AsRawFd, ControlOperation, Epoll, EpollEvent, EventSet};
-use crate::errno::Errno;
-use crate::eventfd::EventFd;
-use crate::line::Line;
-use crate::poller::Poller;
-use crate::script_poller::ScriptPoller;
-use crate::table::Table;
 use std::test::Fail;
+use vmm_sys::epoll::{AsRawFd, ControlOperation, Epoll, EpollEvent, EventSet};
+use vmm_sys::errno::Errno;
+use vmm_sys::eventfd::EventFd;
+use vmm_sys::line::Line;
+use vmm_sys::poller::Poller;
+use vmm_sys::script_poller::ScriptPoller;
+use vmm_sys::table::Table;
 
 macro_rules! with_memory {
     ($call:expr) => {
@@ -79,7 +79,7 @@ fn requests_of_a_shared_table(rt: HostRuntime) -> Result<(), Fail> {
     let added = with_memory!(epoll.ctl(ControlOperation::Add, 0, event(4)));
     assert_eq!(rt; added, Ok(()));
     let mut buffer = [event(0)];
-    assert_eq!(rt; other.wait(-1, &mut buffer), Ok(1));
+    assert_eq!(rt; other.wait(0, &mut buffer), Ok(1));
     assert_eq!(rt; buffer, [event(4)]);
     Ok(())
 }

@@ -1,0 +1,113 @@
+//! A shared table for tests of what ends a wait.
+
+use crate::host::Host;
+use std::alloc::Global;
+use vmm_sys::epoll::{AsRawFd, ControlOperation, Epoll, EpollEvent, EventSet};
+use vmm_sys::errno::Errno;
+use vmm_sys::eventfd::EventFd;
+use vmm_sys::line::Line;
+use vmm_sys::poller::Poller;
+
+pub(crate) const HIGHEST: u64 = 18446744073709551614;
+
+/// A call after which something is ready on a [`Desk`].
+#[derive(Clone, Copy)]
+pub(crate) enum Change {
+    Add,
+    Modify,
+    Write,
+    Read,
+    Set,
+}
+
+/// A table in which nothing is ready: an empty counter and a line are wanted for `IN`, a full
+/// counter for `OUT`, and a counter of 1 isn't wanted.
+#[derive(Drop)]
+pub(crate) struct Desk<R> {
+    pub(crate) epoll: Epoll<R>,
+    pub(crate) empty: EventFd,
+    full: EventFd,
+    line: Line,
+    unwanted: EventFd,
+}
+
+impl<R: Host> Desk<R> {
+    pub(crate) fn new(rt: R, alloc: Global) -> Result<Desk<R>, Errno> {
+        let mut epoll = Epoll::new(rt, alloc)?;
+        let empty = EventFd::new(&epoll, 0, &rt)?;
+        let full = EventFd::new(&epoll, HIGHEST, &rt)?;
+        let line = Line::new(&epoll, &rt)?;
+        let unwanted = EventFd::new(&epoll, 1, &rt)?;
+        want(&mut epoll, &empty, EventSet::IN)?;
+        want(&mut epoll, &full, EventSet::OUT)?;
+        want(&mut epoll, &line, EventSet::IN)?;
+        Ok(Desk {
+            epoll,
+            empty,
+            full,
+            line,
+            unwanted,
+        })
+    }
+
+    /// Makes the call; the answer is the one entry that a wait then reports.
+    pub(crate) fn make(&mut self, change: Change, rt: &R) -> Result<EpollEvent, Errno> {
+        let input = EpollEvent::new(EventSet::IN, 7);
+        match change {
+            Change::Add => {
+                let fd = self.unwanted.as_raw_fd();
+                self.epoll.ctl(ControlOperation::Add, fd, input)?;
+                Ok(input)
+            }
+            Change::Modify => {
+                let fd = self.full.as_raw_fd();
+                self.epoll.ctl(ControlOperation::Modify, fd, input)?;
+                Ok(input)
+            }
+            Change::Write => {
+                self.empty.write(1, rt)?;
+                Ok(entry(&self.empty, EventSet::IN))
+            }
+            Change::Read => {
+                self.full.read(rt)?;
+                Ok(entry(&self.full, EventSet::OUT))
+            }
+            Change::Set => {
+                self.line.set(EventSet::IN, rt)?;
+                Ok(entry(&self.line, EventSet::IN))
+            }
+        }
+    }
+
+    /// Makes calls of each kind that may be refused, and answers what they did.
+    pub(crate) fn make_refused(&mut self, rt: &R) -> [Option<Errno>; 7] {
+        let none = EpollEvent::new(EventSet::empty(), 0);
+        let (empty, unwanted) = (self.empty.as_raw_fd(), self.unwanted.as_raw_fd());
+        [
+            self.empty.write(u64::MAX, rt).err(),
+            self.full.write(1, rt).err(),
+            self.empty.read(rt).err(),
+            self.epoll.ctl(ControlOperation::Add, empty, none).err(),
+            self.epoll
+                .ctl(ControlOperation::Modify, unwanted, none)
+                .err(),
+            self.epoll.ctl(ControlOperation::Delete, 99, none).err(),
+            EventFd::new(&self.epoll, u64::MAX, rt).err(),
+        ]
+    }
+}
+
+/// The entry of a descriptor, whose word is its number.
+pub(crate) fn entry<D: AsRawFd>(descriptor: &D, set: EventSet) -> EpollEvent {
+    EpollEvent::new(set, descriptor.as_raw_fd() as u64)
+}
+
+/// Adds an interest in a descriptor.
+pub(crate) fn want<R: Host, D: AsRawFd>(
+    epoll: &mut Epoll<R>,
+    descriptor: &D,
+    set: EventSet,
+) -> Result<(), Errno> {
+    let event = entry(descriptor, set);
+    epoll.ctl(ControlOperation::Add, descriptor.as_raw_fd(), event)
+}

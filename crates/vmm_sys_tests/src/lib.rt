@@ -1,0 +1,28 @@
+//! Tests of `vmm_sys`: worked examples, and what its contracts leave open, such as what happens
+//! under the lock of a shared table.
+#![tactic(auto)]
+
+#[cfg(test)]
+mod desk;
+#[cfg(test)]
+mod host;
+#[cfg(test)]
+mod hundreds;
+#[cfg(test)]
+mod memory;
+#[cfg(test)]
+mod script_poller;
+#[cfg(test)]
+mod shared_table;
+#[cfg(test)]
+mod steps;
+#[cfg(test)]
+mod table;
+#[cfg(test)]
+mod time_limits;
+#[cfg(test)]
+mod values;
+#[cfg(test)]
+mod waiter;
+#[cfg(test)]
+mod wake_ups;

@@ -1,0 +1,99 @@
+//! A thread that waits on a table, looked at from outside with a bound.
+
+use crate::host::{Host, pause};
+use std::alloc::Global;
+use std::sync::Arc;
+use std::sync::atomic::{AtomicBool, Ordering};
+use std::test::Fail;
+use std::thread;
+use std::thread::JoinHandle;
+use std::time::{Duration, Instant};
+use vmm_sys::epoll::{Epoll, EpollEvent, EventSet};
+use vmm_sys::errno::Errno;
+use vmm_sys::poller::Poller;
+
+/// How many milliseconds a call may last past what ends it.
+const PATIENCE: u64 = 10_000;
+
+/// What a wait answered, the first two entries of its buffer, and how long it took.
+#[derive(Clone, Copy)]
+pub(crate) struct Report {
+    pub(crate) answer: Result<usize, Errno>,
+    pub(crate) buffer: [EpollEvent; 2],
+    pub(crate) took: Duration,
+}
+
+/// A thread that waits once.
+#[derive(Drop)]
+pub(crate) struct Waiter {
+    over: Arc<AtomicBool, Global>,
+    thread: JoinHandle<Report>,
+}
+
+impl Waiter {
+    pub(crate) fn start<R: Host>(
+        rt: R,
+        alloc: Global,
+        epoll: &Epoll<R>,
+        ms: i32,
+    ) -> Result<Waiter, Fail> {
+        Waiter::start_with_room(rt, alloc, epoll, ms, 2)
+    }
+
+    /// The room is 2 at most.
+    pub(crate) fn start_with_room<R: Host>(
+        rt: R,
+        alloc: Global,
+        epoll: &Epoll<R>,
+        ms: i32,
+        room: usize,
+    ) -> Result<Waiter, Fail> {
+        let epoll = epoll.try_clone()?;
+        let over = Arc::new(alloc, AtomicBool::new(false))?;
+        let theirs = Arc::try_clone(&over)?;
+        let thread = thread::spawn(&rt, move || {
+            let report = wait_once(&rt, epoll, ms, room);
+            theirs.store(true, Ordering::SeqCst);
+            report
+        })?;
+        Ok(Waiter { over, thread })
+    }
+
+    pub(crate) fn is_over(&self) -> bool {
+        self.over.load(Ordering::SeqCst)
+    }
+
+    /// What the wait answers. Ends the test where it doesn't end by itself.
+    pub(crate) fn report<R: Host>(self, rt: &R) -> Report {
+        expect_set(rt, &self.over);
+        self.thread.join(rt)
+    }
+}
+
+/// Ends the test unless the flag is soon set.
+pub(crate) fn expect_set<R: Host>(rt: &R, flag: &AtomicBool) {
+    for _ in 0..PATIENCE {
+        if flag.load(Ordering::SeqCst) {
+            return;
+        }
+        pause(rt, 1);
+    }
+    panic!(rt; "the other thread still waits");
+}
+
+pub(crate) fn no_event() -> EpollEvent {
+    EpollEvent::new(EventSet::empty(), 0)
+}
+
+fn wait_once<R: Host>(rt: &R, epoll: Epoll<R>, ms: i32, room: usize) -> Report {
+    let mut epoll = epoll;
+    let mut buffer = [no_event(); 2];
+    let start = Instant::now(rt).expect(rt, "the clock is read");
+    let answer = epoll.wait(ms, &mut buffer[..room.min(2)]);
+    let took = start.elapsed(rt).expect(rt, "the clock is read");
+    Report {
+        answer,
+        buffer,
+        took,
+    }
+}

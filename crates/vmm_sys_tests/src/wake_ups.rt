@@ -1,0 +1,163 @@
+//! What ends a wait on another thread.
+
+use crate::desk::{Change, Desk, want};
+use crate::host::{Host, pause};
+use crate::waiter::{Waiter, no_event};
+use std::alloc::Global;
+use std::sync::Arc;
+use std::sync::atomic::{AtomicU64, Ordering};
+use std::test::Fail;
+use std::thread;
+use std::time::Duration;
+use vmm_sys::epoll::{Epoll, EventSet};
+use vmm_sys::errno::Errno;
+use vmm_sys::eventfd::EventFd;
+use vmm_sys::poller::Poller;
+
+/// How many milliseconds a thread is given to fall asleep.
+const TO_SLEEP: u64 = 100;
+
+/// A limit far above what a test has patience for.
+const LONG: i32 = 60_000;
+
+const ROUNDS: u64 = 10_000;
+
+#[test]
+fn an_add_ends_waits(rt: HostRuntime) -> Result<(), Fail> {
+    expect_to_end_waits(rt, rt.alloc(), Change::Add)
+}
+
+#[test]
+fn a_modify_ends_waits(rt: HostRuntime) -> Result<(), Fail> {
+    expect_to_end_waits(rt, rt.alloc(), Change::Modify)
+}
+
+#[test]
+fn a_write_ends_waits(rt: HostRuntime) -> Result<(), Fail> {
+    expect_to_end_waits(rt, rt.alloc(), Change::Write)
+}
+
+#[test]
+fn a_read_ends_waits(rt: HostRuntime) -> Result<(), Fail> {
+    expect_to_end_waits(rt, rt.alloc(), Change::Read)
+}
+
+#[test]
+fn a_set_ends_waits(rt: HostRuntime) -> Result<(), Fail> {
+    expect_to_end_waits(rt, rt.alloc(), Change::Set)
+}
+
+// The change ends a wait without a limit and one with a long limit, which answer what is ready.
+fn expect_to_end_waits<R: Host>(rt: R, alloc: Global, change: Change) -> Result<(), Fail> {
+    for ms in [-1, LONG] {
+        let mut desk = Desk::new(rt, alloc)?;
+        let waiter = Waiter::start(rt, alloc, &desk.epoll, ms)?;
+        pause(&rt, TO_SLEEP);
+        assert!(rt; !waiter.is_over());
+        let event = desk.make(change, &rt)?;
+        let report = waiter.report(&rt);
+        assert_eq!(rt; report.answer, Ok(1));
+        assert_eq!(rt; report.buffer, [event, no_event()]);
+    }
+    Ok(())
+}
+
+#[test]
+fn one_write_ends_each_wait(rt: HostRuntime) -> Result<(), Fail> {
+    let mut desk = Desk::new(rt, rt.alloc())?;
+    let mut waiters = Vec::new(rt.alloc());
+    for ms in [-1, LONG, -1] {
+        waiters.push(Waiter::start(rt, rt.alloc(), &desk.epoll, ms)?)?;
+    }
+    pause(&rt, TO_SLEEP);
+    desk.make(Change::Write, &rt)?;
+    for waiter in waiters {
+        assert_eq!(rt; waiter.report(&rt).answer, Ok(1));
+    }
+    Ok(())
+}
+
+#[test]
+fn refused_calls_end_no_wait(rt: HostRuntime) -> Result<(), Fail> {
+    let mut desk = Desk::new(rt, rt.alloc())?;
+    let waiter = Waiter::start(rt, rt.alloc(), &desk.epoll, 400)?;
+    for _ in 0..15 {
+        pause(&rt, 20);
+        let refusals = desk.make_refused(&rt);
+        assert_eq!(rt;
+            refusals,
+            [
+                Some(Errno::EINVAL),
+                Some(Errno::EAGAIN),
+                Some(Errno::EAGAIN),
+                Some(Errno::EEXIST),
+                Some(Errno::ENOENT),
+                Some(Errno::EBADF),
+                Some(Errno::EINVAL)
+            ]
+        );
+    }
+    let report = waiter.report(&rt);
+    assert_eq!(rt; report.answer, Ok(0));
+    assert!(rt; report.took >= Duration::from_millis(400));
+    Ok(())
+}
+
+#[test]
+fn no_write_is_missed_by_a_wait_without_limit(rt: HostRuntime) -> Result<(), Fail> {
+    expect_no_write_to_be_missed(rt, rt.alloc(), -1)
+}
+
+#[test]
+fn no_write_is_missed_by_a_wait_with_a_limit(rt: HostRuntime) -> Result<(), Fail> {
+    expect_no_write_to_be_missed(rt, rt.alloc(), LONG)
+}
+
+// A counter, and how often it was read.
+#[derive(Drop)]
+struct Mailbox {
+    counter: EventFd,
+    reads: AtomicU64,
+}
+
+// Each write comes as soon as the one before was read, so just as the reader goes to sleep.
+fn expect_no_write_to_be_missed<R: Host>(rt: R, alloc: Global, ms: i32) -> Result<(), Fail> {
+    let mut epoll = Epoll::new(rt, alloc)?;
+    let counter = EventFd::new(&epoll, 0, &rt)?;
+    want(&mut epoll, &counter, EventSet::IN)?;
+    let reads = AtomicU64::new(0);
+    let ours = Arc::new(alloc, Mailbox { counter, reads })?;
+    let theirs = Arc::try_clone(&ours)?;
+    let reader = thread::spawn(&rt, move || read_each(&rt, epoll, ms, &theirs))?;
+    for round in 0..ROUNDS {
+        ours.counter.write(1, &rt)?;
+        expect_more_than(&rt, &ours.reads, round);
+    }
+    assert_eq!(rt; reader.join(&rt), ROUNDS);
+    Ok(())
+}
+
+// Waits and reads so many times; answers the sum of what was read.
+fn read_each<R: Host>(rt: &R, epoll: Epoll<R>, ms: i32, mailbox: &Mailbox) -> u64 {
+    let mut epoll = epoll;
+    let mut sum = 0u64;
+    for round in 0..ROUNDS {
+        assert_eq!(rt; epoll.wait(ms, &mut [no_event()]), Ok(1));
+        sum = sum.wrapping_add(mailbox.counter.read(rt).unwrap_or(0));
+        mailbox.reads.store(round + 1, Ordering::SeqCst);
+    }
+    sum
+}
+
+// Looks many times at once, and then for ten seconds. Ends the test where the number stands still.
+fn expect_more_than<R: Host>(rt: &R, number: &AtomicU64, least: u64) {
+    for look in 0..20_000 {
+        if number.load(Ordering::SeqCst) > least {
+            return;
+        }
+        if look >= 10_000 {
+            pause(rt, 1);
+        }
+    }
+    panic!(rt; "a wake-up was lost");
+}
