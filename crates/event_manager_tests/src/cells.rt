@@ -56,7 +56,6 @@ fn busy_cell_skips_the_call(rt: HostRuntime) -> Result<(), Fail> {
     Ok(())
 }
 
-
 // Ends the test unless the flag is set within 10,000 looks, a millisecond apart.
 fn expect_set<R: Clock + Abort>(rt: &R, flag: &AtomicBool) {
     for _ in 0..10000 {

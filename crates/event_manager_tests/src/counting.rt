@@ -103,7 +103,11 @@ where
 }
 
 /// A run answers this count.
-pub fn run_counts<S, P, R>(rt: &R, manager: &mut EventManager<S, P>, count: usize) -> Result<(), Fail>
+pub fn run_counts<S, P, R>(
+    rt: &R,
+    manager: &mut EventManager<S, P>,
+    count: usize,
+) -> Result<(), Fail>
 where
     S: MutEventSubscriber,
     P: EventPoller,

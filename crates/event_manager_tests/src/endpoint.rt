@@ -153,7 +153,11 @@ fn endpoint_is_read_after_the_deliveries(rt: HostRuntime) -> std::result::Result
     let probe = Probe::new(epoll, &counter)?;
     let mut manager = EventManager::new(rt.alloc(), PlainPoller(script), counter)?;
     let own = Events::new_raw(3, EventSet::IN);
-    let id = manager.add_subscriber(Looking { probe, own, was_read: None })?;
+    let id = manager.add_subscriber(Looking {
+        probe,
+        own,
+        was_read: None,
+    })?;
     assert_eq!(rt; manager.run(&rt), Ok(3));
     let looking = manager.subscriber_mut(id)?;
     assert_eq!(rt; looking.was_read, Some(false));

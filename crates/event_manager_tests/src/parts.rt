@@ -12,11 +12,7 @@ use vmm_sys::eventfd::EventFd;
 use vmm_sys::script_poller::ScriptPoller;
 
 /// A script of one report: of these words, each with this set.
-pub fn script_of_words(
-    alloc: Global,
-    set: EventSet,
-    words: &[u64],
-) -> Result<ScriptPoller, Errno> {
+pub fn script_of_words(alloc: Global, set: EventSet, words: &[u64]) -> Result<ScriptPoller, Errno> {
     let mut script = ScriptPoller::new(alloc);
     let mut report = Vec::new(alloc);
     for &word in words {

@@ -7,8 +7,8 @@ ghost use Rattle.event_manager.specs.LoopState.{HasStepped, IsRequest};
 use crate::counting::manager_over;
 use crate::parts::{Control, Recorder, silent_endpoint};
 use event_manager::{
-    Error, EventManager, EventOps, EventPoller, Events, MutEventSubscriber, Request,
-    Result, SubscriberId, SubscriberOps,
+    Error, EventManager, EventOps, EventPoller, Events, MutEventSubscriber, Request, Result,
+    SubscriberId, SubscriberOps,
 };
 use std::process::Abort;
 use std::test::Fail;
@@ -82,8 +82,14 @@ fn one_delete_each_in_the_order_of_addition(rt: HostRuntime) -> std::result::Res
     let recorder = Recorder::new(rt.alloc())?;
     let endpoint = silent_endpoint(rt, rt.alloc())?;
     let mut manager = EventManager::new(rt.alloc(), recorder.try_clone()?, endpoint)?;
-    let id = manager.add_subscriber(Pair { first: 3, second: 4 })?;
-    manager.add_subscriber(Pair { first: 5, second: 6 })?;
+    let id = manager.add_subscriber(Pair {
+        first: 3,
+        second: 4,
+    })?;
+    manager.add_subscriber(Pair {
+        first: 5,
+        second: 6,
+    })?;
     let requests = [
         (Request::Remove(wanted(3)), Ok(())),
         (Request::Add(wanted(7)), Ok(())),
@@ -107,8 +113,14 @@ fn leaving_frees_whatever_the_poller_answers(rt: HostRuntime) -> std::result::Re
     let mut script = ScriptPoller::new(rt.alloc());
     script.push_refusal(ControlOperation::Delete, 4, Errno(22))?;
     let mut manager = manager_over(rt, rt.alloc(), script)?;
-    let id = manager.add_subscriber(Pair { first: 3, second: 4 })?;
-    let neighbour = manager.add_subscriber(Pair { first: 5, second: 6 })?;
+    let id = manager.add_subscriber(Pair {
+        first: 3,
+        second: 4,
+    })?;
+    let neighbour = manager.add_subscriber(Pair {
+        first: 5,
+        second: 6,
+    })?;
     let taken = Err(Error::FdAlreadyRegistered);
     let before = [
         (Request::Add(wanted(3)), taken),
@@ -161,8 +173,14 @@ fn a_request_is_answered_by_the_table(rt: HostRuntime) -> std::result::Result<()
     script.push_refusal(ControlOperation::Modify, 3, Errno(5))?;
     script.push_refusal(ControlOperation::Delete, 4, Errno(22))?;
     let mut manager = manager_over(rt, rt.alloc(), script)?;
-    let id = manager.add_subscriber(Pair { first: 3, second: 4 })?;
-    manager.add_subscriber(Pair { first: 5, second: 6 })?;
+    let id = manager.add_subscriber(Pair {
+        first: 3,
+        second: 4,
+    })?;
+    manager.add_subscriber(Pair {
+        first: 5,
+        second: 6,
+    })?;
     expect_answers(&rt, &mut manager, id, &requests_and_answers());
     Ok(())
 }

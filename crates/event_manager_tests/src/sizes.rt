@@ -97,7 +97,9 @@ fn three_hundred_requests_at_one_event(rt: HostRuntime) -> Result<(), Fail> {
     let endpoint = silent_endpoint(rt, rt.alloc())?;
     let mut manager = EventManager::new(rt.alloc(), PlainPoller(script), endpoint)?;
     let id = manager.add_subscriber(make_grabbing(rt.alloc(), false, &agreed)?)?;
-    manager.event_ops(id)?.add(Events::new_raw(400, EventSet::IN))?;
+    manager
+        .event_ops(id)?
+        .add(Events::new_raw(400, EventSet::IN))?;
     assert_eq!(rt; manager.run(&rt), Ok(1));
     assert_eq!(rt; agreed.load(Ordering::SeqCst), 300);
     Ok(())

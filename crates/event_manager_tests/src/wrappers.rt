@@ -1,6 +1,8 @@
 //! Subscribers behind pointers, and one of two kinds.
 
-use crate::counting::{Counting, counting_on, manager_over, run_counts, shared_counting, two_reports};
+use crate::counting::{
+    Counting, counting_on, manager_over, run_counts, shared_counting, two_reports,
+};
 use crate::log::{Log, Watcher, got, make_watcher};
 use crate::parts::script_of;
 use event_manager::{Either, EventManager, EventPoller, Events, SubscriberId, SubscriberOps};
