@@ -1,10 +1,10 @@
 //! Tests of the last ids, and of what the endpoint's events leave, which nobody outside the crate sees.
 
+use crate::Error;
 use crate::events::{EventOps, Events};
 use crate::manager::SubscriberOps;
 use crate::poller::{EventPoller, PlainPoller};
 use crate::subscribers::{MutEventSubscriber, Registry};
-use crate::Error;
 use std::alloc::{AllocError, Global};
 use std::test::Fail;
 use vmm_sys::epoll::{EpollEvent, EventSet};
@@ -45,7 +45,7 @@ fn make_registry(
     Registry::with_next_id(alloc, PlainPoller(script), ENDPOINT, 4, next)
 }
 
-fn single(fd: u8) -> Single {
+fn make_single(fd: u8) -> Single {
     Single {
         own: Events::new_raw(fd as i32, EventSet::IN),
     }
@@ -55,9 +55,9 @@ fn single(fd: u8) -> Single {
 fn the_last_id_is_given_once(rt: HostRuntime) -> std::result::Result<(), Fail> {
     let script = ScriptPoller::new(rt.alloc());
     let mut registry = make_registry(rt.alloc(), script, u64::MAX - 1)?;
-    let id = registry.add_subscriber(single(3))?;
+    let id = registry.add_subscriber(make_single(3))?;
     assert_eq!(rt; id.number(), 18446744073709551614);
-    let refused = registry.add_subscriber(single(4)).err();
+    let refused = registry.add_subscriber(make_single(4)).err();
     assert_eq!(rt; refused, Some(Error::IdsUsedUp));
     let entry = EpollEvent::new(EventSet::IN, 4);
     assert_eq!(rt; registry.ops.epoll.registrations.owner(&entry), None);
@@ -68,7 +68,7 @@ fn the_last_id_is_given_once(rt: HostRuntime) -> std::result::Result<(), Fail> {
 fn no_id_is_left(rt: HostRuntime) -> std::result::Result<(), Fail> {
     let script = ScriptPoller::new(rt.alloc());
     let mut registry = make_registry(rt.alloc(), script, u64::MAX)?;
-    let refused = registry.add_subscriber(single(3)).err();
+    let refused = registry.add_subscriber(make_single(3)).err();
     assert_eq!(rt; refused, Some(Error::IdsUsedUp));
     Ok(())
 }

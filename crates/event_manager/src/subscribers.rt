@@ -182,7 +182,12 @@ impl<S: MutEventSubscriber, P: EventPoller> Registry<S, P> {
     pub(crate) fn run_with_timeout(&mut self, ms: i32) -> Result<usize>
         ensures { IsLoopIteration S.serves P.controls P.waits (loop_state self.old) ms result (loop_state self.new) }
     {
-        match self.ops.epoll.registrations.wait(&mut self.ops.epoll.poller, ms) {
+        match self
+            .ops
+            .epoll
+            .registrations
+            .wait(&mut self.ops.epoll.poller, ms)
+        {
             Ok(count) => {
                 self.dispatch();
                 Ok(count)
