@@ -1,4 +1,4 @@
-//! Jobs that run on the loop's registry, between two batches.
+//! Jobs on the loop's registry, between two batches. The laws speak of histories with jobs; no call runs one yet.
 
 ghost use Rattle.std.specs.Prelude.{◌≡◌, List, []};
 ghost use Rattle.event_manager.specs.Registry.{Step};

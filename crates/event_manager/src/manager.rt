@@ -129,8 +129,8 @@ impl<S: MutEventSubscriber, P: EventPoller> EventManager<S, P> {
     /// passes here, and is left to the poller's `wait`.
     ///
     /// Refused, in this order, and neither poller nor `event_fd` comes back: `InvalidCapacity` above
-    /// [`MAX_READY_EVENTS_CAPACITY`]; `OutOfMemory`; `Epoll` with the number that the poller answers. The first two are
-    /// answered before the poller is asked.
+    /// [`MAX_READY_EVENTS_CAPACITY`], where the poller isn't asked; `OutOfMemory`; `Epoll` with the number that the
+    /// poller answers.
     pub fn new_with_capacity(
         alloc: Global,
         poller: P,
