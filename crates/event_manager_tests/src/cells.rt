@@ -52,7 +52,7 @@ fn busy_cell_skips_the_call(rt: HostRuntime) -> Result<(), Fail> {
         assert_eq!(rt; held.count, 0);
     }
     run_counts(&rt, &mut manager, 1)?;
-    assert_eq!(rt; cell.try_borrow().map(|held| held.count).ok(), Some(1));
+    assert_eq!(rt; count_in(&cell), Some(1));
     Ok(())
 }
 

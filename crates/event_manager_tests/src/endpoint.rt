@@ -43,7 +43,7 @@ struct Probed<S, T> {
     probe: Probe<T>,
 }
 
-/// Its endpoint has this descriptor and value 3.
+/// Such a manager, whose endpoint has this descriptor and value 3.
 fn make_probed<S, R>(
     rt: &R,
     alloc: Global,
