@@ -1,4 +1,4 @@
-//! Calls of a manager and their replies, as values.
+//! Calls of a manager and their replies, as values: the laws' histories are made of these.
 
 use crate::Result;
 use crate::events::Request;

@@ -272,7 +272,7 @@ impl<P: EventPoller> EpollWrapper<P> {
     }
 
     /// Frees all descriptors of the id, and asks the poller one Delete for each, in the order in which they were added
-    /// and whatever it answers. Takes no memory, and time in the descriptors of this id alone.
+    /// and whatever it answers. Takes no memory.
     pub(crate) fn release(&mut self, id: u64)
         ensures { HasReleased P.controls P.waits self.old self.new id }
     {

@@ -8,7 +8,8 @@ use vmm_sys::errno::Errno;
 
 /// Why a call was refused. The first seven are the Rust crate's, the last three this port's.
 ///
-/// A refused call leaves registrations, owners and pending events as they were.
+/// A refused call leaves registrations, owners and pending events as they were. `ChannelSend`, `ChannelRecv`, `EventFd`
+/// and `TicketsUsedUp` are those of jobs and their endpoint, and no call answers them yet.
 #[derive(Clone, Copy, PartialEq, Eq, Debug)]
 pub enum Error {
     /// A job can't be sent to the loop: it is closed.

@@ -1,4 +1,5 @@
-//! Jobs that run on the loop's registry, between two batches, and the queue in which they wait.
+//! Jobs on the loop's registry, between two batches, and the queue in which they wait. The laws speak of histories with
+//! jobs; no call of a manager runs one yet.
 
 pub mod account;
 pub mod job;

@@ -44,8 +44,8 @@ pub trait SubscriberOps {
     /// Takes a subscriber in under the next id, and calls its `init`. The subscriber stays whatever `init` asked for and
     /// whatever it was answered.
     ///
-    /// Refused, both before `init`, the subscriber then dropped: `IdsUsedUp` where the next id is `u64::MAX`; then
-    /// `OutOfMemory`.
+    /// Refused, both before `init`, and the subscriber doesn't come back: `IdsUsedUp` where the next id is `u64::MAX`;
+    /// then `OutOfMemory`.
     fn add_subscriber(&mut self, subscriber: Self::Subscriber) -> Result<SubscriberId>
         ensures { (step : Step Self.Subscriber) × IsJoin subscriber result step
             × HasStepped Self.Subscriber.begins Self.Poller.controls Self.Poller.waits (seen self.old) step (seen self.new) };
@@ -131,8 +131,9 @@ impl<S: MutEventSubscriber, P: EventPoller> EventManager<S, P> {
     /// The poller is asked to add the endpoint's descriptor with the set `IN` and the descriptor as word. Capacity 0
     /// passes here, and is left to the poller's `wait`.
     ///
-    /// Refused, in this order, poller and `event_fd` then dropped: `InvalidCapacity` above
-    /// [`MAX_READY_EVENTS_CAPACITY`]; `OutOfMemory`; `Epoll` with the number that the poller answers.
+    /// Refused, in this order, and neither poller nor `event_fd` comes back: `InvalidCapacity` above
+    /// [`MAX_READY_EVENTS_CAPACITY`], where the poller isn't asked; `OutOfMemory`; `Epoll` with the number that the
+    /// poller answers.
     pub fn new_with_capacity(
         alloc: Global,
         poller: P,

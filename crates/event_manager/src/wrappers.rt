@@ -103,7 +103,8 @@ impl<T: MutEventSubscriber> MutEventSubscriber for Box<T> {
 
 /// Passes on to the subscriber in the cell. Where the cell is borrowed, the call is skipped; the Rust crate panics.
 ///
-/// Of what the cell holds nothing is claimed: the exchanges are none, or some that the held type may make.
+/// Of what the cell holds nothing is claimed: the exchanges are some that the held type may make; or none, which a busy
+/// cell makes, and which the relation allows of a free one too.
 impl<T: MutEventSubscriber> EventSubscriber for RefCell<T> {
     ghost begins_shared = { λ v exchanges. (exchanges ≡ []) ⊎ ((x y : T) × T.begins x exchanges y) };
 
@@ -139,8 +140,8 @@ impl<T: MutEventSubscriber> MutEventSubscriber for RefCell<T> {
 
 /// A subscriber under a lock, with the handle by which it waits for that lock: in place of the Rust crate's `Mutex`.
 ///
-/// Its calls may wait for the lock. Of what the lock guards nothing is claimed: the exchanges are some that the held
-/// type may make.
+/// Its calls wait for the lock, and free it when they end. Of what the lock guards nothing is claimed: the exchanges are
+/// some that the held type may make.
 #[derive(Drop)]
 pub struct Locked<T, R> {
     /// The subscriber; other holders lock it as they do std's.

@@ -1,6 +1,6 @@
 //! A manager over the in-process table.
 
-use super::log::{Log, Watcher, got, make_watcher};
+use crate::log::{Log, Watcher, got, make_watcher};
 use event_manager::{
     BoxedPoller, Error, EventManager, EventOps, EventPoller, Events, MutEventSubscriber,
     PlainPoller, SubscriberOps,

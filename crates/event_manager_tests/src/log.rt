@@ -5,11 +5,7 @@ use std::alloc::{AllocError, Global};
 use std::cell::RefCell;
 use std::rc::Rc;
 use std::sync::{Arc, Mutex, Wait};
-use std::time::Clock;
-use vmm_sys::epoll::{Epoll, EpollEvent, EventSet};
-use vmm_sys::errno::Errno;
-use vmm_sys::eventfd::EventFd;
-use vmm_sys::script_poller::ScriptPoller;
+use vmm_sys::epoll::EventSet;
 
 /// A delivery: the number of the subscriber, and the event.
 #[derive(Clone, Copy, PartialEq, Eq, Debug)]
@@ -159,32 +155,4 @@ pub fn make_watcher(
     let log = log.try_clone()?;
     let sink: Box<dyn Sink> = Box::new(alloc, LogSink { number, log })?;
     Ok(Watcher { own, sink })
-}
-
-/// A script of one report of these descriptors, each with `IN` and data 0.
-pub fn script_of(alloc: Global, fds: &[u32]) -> Result<ScriptPoller, Errno> {
-    let mut script = ScriptPoller::new(alloc);
-    let mut report = Vec::new(alloc);
-    for &fd in fds {
-        if report
-            .push(EpollEvent::new(EventSet::IN, u64::from(fd)))
-            .is_err()
-        {
-            return Err(Errno::ENOMEM);
-        }
-    }
-    script.push_report(report)?;
-    Ok(script)
-}
-
-/// A counter with descriptor 0 and value 0, in a table that nobody else has: an endpoint that stays silent.
-pub fn silent_endpoint<R: Wait + Clock + Clone + Send + Drop>(
-    rt: R,
-    alloc: Global,
-) -> Result<EventFd, Errno> {
-    let Ok(handle) = rt.clone() else {
-        return Err(Errno::ENOMEM);
-    };
-    let epoll = Epoll::new(handle, alloc)?;
-    EventFd::new(&epoll, 0, &rt)
 }

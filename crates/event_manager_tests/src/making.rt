@@ -2,7 +2,8 @@
 
 ghost use Rattle.std.specs.Prelude.{◌≤ℤ◌, pos};
 
-use super::log::{Log, Watcher, got, make_watcher, script_of, silent_endpoint};
+use crate::log::{Log, Watcher, got, make_watcher};
+use crate::parts::{Recorder, script_of, silent_endpoint};
 use event_manager::{
     BoxedPoller, Error, EventManager, EventOps, EventPoller, Events, MAX_READY_EVENTS_CAPACITY,
     SubscriberOps,
@@ -39,6 +40,20 @@ fn capacity_has_a_limit(rt: HostRuntime) -> Result<(), Fail> {
         );
         assert_eq!(rt; made.err(), Some(Error::InvalidCapacity));
     }
+    Ok(())
+}
+
+#[test]
+fn capacity_above_the_limit_asks_the_poller_for_nothing(rt: HostRuntime) -> Result<(), Fail> {
+    let recorder = Recorder::new(rt.alloc())?;
+    let made = EventManager::<Watcher, _>::new_with_capacity(
+        rt.alloc(),
+        recorder.try_clone()?,
+        silent_endpoint(rt, rt.alloc())?,
+        MAX_READY_EVENTS_CAPACITY + 1,
+    );
+    assert!(rt; made.is_err());
+    assert!(rt; recorder.was_asked(&[]));
     Ok(())
 }
 

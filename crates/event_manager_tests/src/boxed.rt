@@ -1,6 +1,7 @@
 //! Several kinds of subscribers in one manager.
 
-use super::log::{SharedLog, got, silent_endpoint};
+use crate::log::{SharedLog, got};
+use crate::parts::silent_endpoint;
 use event_manager::{
     BoxedPoller, BoxedSubscriber, EventManager, Events, Request, StepInput, StepSubscriber,
     SubscriberOps,

@@ -1,0 +1,132 @@
+//! Subscribers that count their events, and managers of them over a script.
+
+use crate::parts::{script_of, silent_endpoint};
+use event_manager::{
+    EventManager, EventOps, EventPoller, EventSubscriber, Events, MutEventSubscriber, PlainPoller,
+};
+use std::alloc::Global;
+use std::process::Abort;
+use std::sync::atomic::{AtomicU64, Ordering};
+use std::sync::{Arc, Wait};
+use std::test::Fail;
+use std::time::Clock;
+use vmm_sys::epoll::{EpollEvent, EventSet};
+use vmm_sys::script_poller::ScriptPoller;
+
+/// Adds one descriptor in `init`, and counts its events.
+#[derive(Drop)]
+pub struct Counting {
+    pub own: Events,
+    pub count: u64,
+}
+
+impl MutEventSubscriber for Counting {
+    ghost use Rattle.std.specs.Prelude.{◌≡◌, [], ◌∷◌};
+    ghost use Rattle.event_manager.specs.Exchange.{Answer};
+    ghost use Rattle.event_manager.specs.declared.events.Request.TheVariants.{Add};
+
+    ghost begins = { λ v exchanges w. (answer : Answer) × (exchanges ≡ (Add v.own, answer) ∷ []) };
+
+    ghost serves = { λ v event exchanges w. exchanges ≡ [] };
+
+    fn process<P: EventPoller>(&mut self, _events: Events, ops: &mut EventOps<P>) {
+        self.count = self.count.saturating_add(1);
+    }
+
+    fn init<P: EventPoller>(&mut self, ops: &mut EventOps<P>) {
+        let _ = ops.add(self.own);
+    }
+}
+
+/// The same with a count that it shares.
+#[derive(Drop)]
+pub struct SharedCounting {
+    pub own: Events,
+    pub count: Arc<AtomicU64>,
+}
+
+impl EventSubscriber for SharedCounting {
+    ghost use Rattle.std.specs.Prelude.{◌≡◌, [], ◌∷◌};
+    ghost use Rattle.event_manager.specs.Exchange.{Answer};
+    ghost use Rattle.event_manager.specs.declared.events.Request.TheVariants.{Add};
+
+    ghost begins_shared = { λ v exchanges. (answer : Answer) × (exchanges ≡ (Add v.own, answer) ∷ []) };
+
+    ghost serves_shared = { λ v event exchanges. exchanges ≡ [] };
+
+    fn process<P: EventPoller>(&self, _events: Events, ops: &mut EventOps<P>) {
+        self.count.fetch_add(1, Ordering::SeqCst);
+    }
+
+    fn init<P: EventPoller>(&self, ops: &mut EventOps<P>) {
+        let _ = ops.add(self.own);
+    }
+}
+
+impl MutEventSubscriber for SharedCounting {
+    ghost use Rattle.std.specs.Prelude.{◌≡◌, [], ◌∷◌};
+    ghost use Rattle.event_manager.specs.Exchange.{Answer};
+    ghost use Rattle.event_manager.specs.declared.events.Request.TheVariants.{Add};
+
+    ghost begins = { λ v exchanges w. (answer : Answer) × (exchanges ≡ (Add v.own, answer) ∷ []) };
+
+    ghost serves = { λ v event exchanges w. exchanges ≡ [] };
+
+    fn process<P: EventPoller>(&mut self, events: Events, ops: &mut EventOps<P>) {
+        EventSubscriber::process(&*self, events, ops)
+    }
+
+    fn init<P: EventPoller>(&mut self, ops: &mut EventOps<P>) {
+        EventSubscriber::init(&*self, ops)
+    }
+}
+
+/// Two reports of descriptor 3.
+pub fn two_reports(alloc: Global) -> Result<ScriptPoller, Fail> {
+    let mut script = script_of(alloc, &[3])?;
+    script.push_report(vec![in alloc; EpollEvent::new(EventSet::IN, 3)]?)?;
+    Ok(script)
+}
+
+/// A manager over a script.
+pub fn manager_over<S, R>(
+    rt: R,
+    alloc: Global,
+    script: ScriptPoller,
+) -> Result<EventManager<S, PlainPoller<ScriptPoller>>, Fail>
+where
+    S: MutEventSubscriber + Drop,
+    R: Wait + Clock + Clone + Send + Drop,
+{
+    let endpoint = silent_endpoint(rt, alloc)?;
+    Ok(EventManager::new(alloc, PlainPoller(script), endpoint)?)
+}
+
+/// A run answers this count.
+pub fn run_counts<S, P, R>(
+    rt: &R,
+    manager: &mut EventManager<S, P>,
+    count: usize,
+) -> Result<(), Fail>
+where
+    S: MutEventSubscriber,
+    P: EventPoller,
+    R: Abort + Wait + Clock,
+{
+    assert_eq!(rt; manager.run(rt), Ok(count));
+    Ok(())
+}
+
+pub fn counting_on(fd: u16) -> Counting {
+    Counting {
+        own: Events::new_raw(i32::from(fd), EventSet::IN),
+        count: 0,
+    }
+}
+
+pub fn shared_counting(count: &Arc<AtomicU64>) -> Result<SharedCounting, Fail> {
+    Ok(SharedCounting {
+        own: Events::new_raw(3, EventSet::IN),
+        count: count.clone()?,
+    })
+}

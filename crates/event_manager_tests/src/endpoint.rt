@@ -1,0 +1,166 @@
+//! When the endpoint's counter is read.
+
+use crate::log::Watcher;
+use crate::parts::{counter_at, script_of, script_of_words};
+use event_manager::{
+    Error, EventManager, EventOps, EventPoller, Events, MutEventSubscriber, PlainPoller,
+    SubscriberOps,
+};
+use std::alloc::Global;
+use std::process::Abort;
+use std::sync::Wait;
+use std::test::Fail;
+use std::time::Clock;
+use vmm_sys::epoll::{AsRawFd, ControlOperation, Epoll, EpollEvent, EventSet};
+use vmm_sys::errno::Errno;
+use vmm_sys::eventfd::EventFd;
+use vmm_sys::poller::Poller;
+use vmm_sys::script_poller::ScriptPoller;
+
+/// A poller of the table that a counter is in, which shows whether that counter was read: reading takes all its value.
+#[derive(Drop)]
+struct Probe<T> {
+    poller: T,
+}
+
+impl<T: Poller> Probe<T> {
+    fn new(mut poller: T, counter: &EventFd) -> std::result::Result<Probe<T>, Errno> {
+        let wanted = EpollEvent::new(EventSet::IN, 0);
+        poller.ctl(ControlOperation::Add, counter.as_raw_fd(), wanted)?;
+        Ok(Probe { poller })
+    }
+
+    fn is_read(&mut self) -> bool {
+        let mut buffer = [EpollEvent::new(EventSet::empty(), 0)];
+        self.poller.wait(0, &mut buffer) == Ok(0)
+    }
+}
+
+/// A manager over a script, and what shows whether its endpoint was read.
+#[derive(Drop)]
+struct Probed<S, T> {
+    manager: EventManager<S, PlainPoller<ScriptPoller>>,
+    probe: Probe<T>,
+}
+
+/// Such a manager, whose endpoint has this descriptor and value 3.
+fn make_probed<S, R>(
+    rt: &R,
+    alloc: Global,
+    script: ScriptPoller,
+    endpoint: u8,
+) -> std::result::Result<Probed<S, Epoll<R>>, Fail>
+where
+    S: MutEventSubscriber + Drop,
+    R: Wait + Clock + Copy + Send + Drop,
+{
+    let epoll = Epoll::new(*rt, alloc)?;
+    let counter = counter_at(&epoll, endpoint, 3, rt)?;
+    let probe = Probe::new(epoll, &counter)?;
+    let manager = EventManager::new(alloc, PlainPoller(script), counter)?;
+    Ok(Probed { manager, probe })
+}
+
+/// Notes at its event whether the endpoint was read by then.
+#[derive(Drop)]
+struct Looking<T> {
+    probe: Probe<T>,
+    own: Events,
+    was_read: Option<bool>,
+}
+
+impl<T: Poller> MutEventSubscriber for Looking<T> {
+    ghost use Rattle.std.specs.Prelude.{◌≡◌, [], ◌∷◌};
+    ghost use Rattle.event_manager.specs.Exchange.{Answer};
+    ghost use Rattle.event_manager.specs.declared.events.Request.TheVariants.{Add};
+
+    ghost begins = { λ v exchanges w. (answer : Answer) × (exchanges ≡ (Add v.own, answer) ∷ []) };
+
+    ghost serves = { λ v event exchanges w. exchanges ≡ [] };
+
+    fn process<P: EventPoller>(&mut self, _events: Events, _ops: &mut EventOps<P>) {
+        self.was_read = Some(self.probe.is_read());
+    }
+
+    fn init<P: EventPoller>(&mut self, ops: &mut EventOps<P>) {
+        let _ = ops.add(self.own);
+    }
+}
+
+/// Whether the endpoint of this descriptor is read by a run that reports these words, each with this set.
+fn is_read_after<R: Wait + Clock + Copy + Send + Drop>(
+    rt: &R,
+    alloc: Global,
+    endpoint: u8,
+    set: EventSet,
+    words: &[u64],
+) -> std::result::Result<bool, Fail> {
+    let script = script_of_words(alloc, set, words)?;
+    let mut probed = make_probed::<Watcher, R>(rt, alloc, script, endpoint)?;
+    probed.manager.run(rt)?;
+    Ok(probed.probe.is_read())
+}
+
+#[test]
+fn endpoint_is_read_after_a_batch_with_its_entry(rt: HostRuntime) -> std::result::Result<(), Fail> {
+    let data = 7 << 32;
+    let batches: [&[u64]; 6] = [&[2], &[2, 3], &[3, 2], &[3, 2, 4], &[2, 2], &[3, data + 2]];
+    for set in [EventSet::IN, EventSet::OUT, EventSet::empty()] {
+        for words in batches {
+            let is_read = is_read_after(&rt, rt.alloc(), 2, set, words)?;
+            assert!(rt; is_read, "{words:?} with {set:?}");
+        }
+    }
+    Ok(())
+}
+
+#[test]
+fn endpoint_is_left_after_a_batch_without_its_entry(
+    rt: HostRuntime,
+) -> std::result::Result<(), Fail> {
+    let data = 2 << 32;
+    let batches: [&[u64]; 4] = [&[], &[3], &[3, 4], &[data + 3]];
+    for endpoint in [0, 2] {
+        for words in batches {
+            let is_read = is_read_after(&rt, rt.alloc(), endpoint, EventSet::IN, words)?;
+            assert!(rt; !is_read, "{words:?} beside {endpoint}");
+        }
+    }
+    Ok(())
+}
+
+#[test]
+fn endpoint_is_left_where_the_wait_is_refused(rt: HostRuntime) -> std::result::Result<(), Fail> {
+    let answers = [
+        (Errno::EINTR, Ok(0)),
+        (Errno::EBADF, Err(Error::Epoll(Errno::EBADF))),
+    ];
+    for (errno, answer) in answers {
+        let mut script = ScriptPoller::new(rt.alloc());
+        script.push_fault(errno)?;
+        let mut probed = make_probed::<Watcher, _>(&rt, rt.alloc(), script, 2)?;
+        assert_eq!(rt; probed.manager.run(&rt), answer);
+        assert!(rt; !probed.probe.is_read(), "{errno}");
+    }
+    Ok(())
+}
+
+#[test]
+fn endpoint_is_read_after_the_deliveries(rt: HostRuntime) -> std::result::Result<(), Fail> {
+    let epoll = Epoll::new(rt, rt.alloc())?;
+    let counter = counter_at(&epoll, 2, 3, &rt)?;
+    let script = script_of(rt.alloc(), &[2, 3, 2])?;
+    let probe = Probe::new(epoll, &counter)?;
+    let mut manager = EventManager::new(rt.alloc(), PlainPoller(script), counter)?;
+    let own = Events::new_raw(3, EventSet::IN);
+    let id = manager.add_subscriber(Looking {
+        probe,
+        own,
+        was_read: None,
+    })?;
+    assert_eq!(rt; manager.run(&rt), Ok(3));
+    let looking = manager.subscriber_mut(id)?;
+    assert_eq!(rt; looking.was_read, Some(false));
+    assert!(rt; looking.probe.is_read());
+    Ok(())
+}

@@ -1,0 +1,27 @@
+//! Tests of the event manager over pollers and subscribers of many kinds.
+#![tactic(auto)]
+
+#[cfg(test)]
+mod boxed;
+#[cfg(test)]
+mod cells;
+#[cfg(test)]
+mod counting;
+#[cfg(test)]
+mod endpoint;
+#[cfg(test)]
+mod events;
+#[cfg(test)]
+mod log;
+#[cfg(test)]
+mod making;
+#[cfg(test)]
+mod parts;
+#[cfg(test)]
+mod real_parts;
+#[cfg(test)]
+mod requests;
+#[cfg(test)]
+mod sizes;
+#[cfg(test)]
+mod wrappers;
