@@ -12,8 +12,6 @@ pub mod requests;
 pub mod run;
 pub mod script;
 pub mod subscriber;
-#[cfg(test)]
-mod tests;
 
 use output::Out;
 use run::run_script;
