@@ -1,6 +1,8 @@
 pub mod Asked
 pub mod Coming
 pub mod FaultOf
+pub mod Item
+pub mod Joins
 pub mod Name
 pub mod Number
 pub mod ScriptedPoller

@@ -1,6 +1,7 @@
 //! A script, run over an event manager.
 
 ghost use Rattle.std.specs.Prelude.{◌≡◌, IfOk, OnOk, IsOkUnless};
+ghost use Rattle.evloop.specs.Joins.{id_at};
 ghost use Rattle.evloop.specs.ScriptedPoller.{empty, answer_of, with_waits, with_refusals};
 ghost use Rattle.vmm_sys.specs.ScriptPoller.{with_answer};
 
@@ -177,7 +178,9 @@ where
 }
 
 // The id of the join at this place; `InvalidId` where the join was refused.
-fn id_of(ids: &[Option<SubscriberId>], join: usize) -> Result<SubscriberId, Error> {
+fn id_of(ids: &[Option<SubscriberId>], join: usize) -> Result<SubscriberId, Error>
+    ensures { result ≡ id_at ids.now join }
+{
     match ids.get(join) {
         Some(Some(id)) => Ok(*id),
         _ => Err(Error::InvalidId),
