@@ -1,4 +1,5 @@
 pub mod Asked
+pub mod Calls
 pub mod Coming
 pub mod FaultOf
 pub mod Item
