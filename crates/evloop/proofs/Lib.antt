@@ -1,1 +1,2 @@
 pub mod AskedSoFar
+pub mod Pairs

@@ -1,5 +1,5 @@
 -- A poller that is to follow a script.
-use Rattle.std.specs.Prelude.{◌≡◌, List, [], ◌∷◌, Ok, Err}
+use Rattle.std.specs.Prelude.{List, [], ◌∷◌, Ok, Err}
 use Rattle.vmm_sys.specs.ScriptPoller.{Script, Answer, with_answer, with_refusal}
 use Rattle.vmm_sys.specs.declared.errno.TheConstants.Errno.{EINTR}
 use Rattle.evloop.specs.declared.script.Wait.{Wait}

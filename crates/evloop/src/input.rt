@@ -37,7 +37,7 @@ mod tests {
     struct Trickle {
         bytes: [u8; 4],
         given: usize,
-        fails: bool,
+        error: Option<ErrorKind>,
     }
 
     impl Read for Trickle {
@@ -50,24 +50,24 @@ mod tests {
                 self.given += 1;
                 return Ok(1);
             }
-            if self.fails {
-                return Err(io::Error::from(ErrorKind::ConnectionReset));
+            match self.error {
+                Some(kind) => Err(io::Error::from(kind)),
+                None => Ok(0),
             }
-            Ok(0)
         }
     }
 
-    fn make_trickle(fails: bool) -> Trickle {
+    fn make_trickle(error: Option<ErrorKind>) -> Trickle {
         Trickle {
             bytes: *b"run\n",
             given: 0,
-            fails,
+            error,
         }
     }
 
     #[test]
     fn all_bytes_are_read(rt: HostRuntime) -> Result<(), Fail> {
-        let text = read_text(rt.alloc(), &mut make_trickle(false))?;
+        let text = read_text(rt.alloc(), &mut make_trickle(None))?;
         assert_eq!(rt; text.as_str(), "run\n");
         let mut bytes = "# \u{4e16}\n".as_bytes();
         let text = read_text(rt.alloc(), &mut bytes)?;
@@ -77,26 +77,29 @@ mod tests {
 
     #[test]
     fn a_failing_read_is_told(rt: HostRuntime) {
-        let read = read_text(rt.alloc(), &mut make_trickle(true));
+        let mut input = make_trickle(Some(ErrorKind::ConnectionReset));
+        let read = read_text(rt.alloc(), &mut input);
         assert_eq!(rt; read.err(), Some(Fault::CannotRead));
     }
 
     #[test]
+    fn want_of_memory_while_reading_is_told(rt: HostRuntime) {
+        let mut input = make_trickle(Some(ErrorKind::OutOfMemory));
+        let read = read_text(rt.alloc(), &mut input);
+        assert_eq!(rt; read.err(), Some(Fault::OutOfMemory));
+    }
+
+    #[test]
     fn other_encodings_are_refused(rt: HostRuntime) {
-        let mut cut = b"run\n# \xe4\xb8".as_slice();
-        assert_eq!(rt;
-            read_text(rt.alloc(), &mut cut).err(),
-            Some(Fault::CannotRead)
-        );
-        let mut first = b"\xffrun now".as_slice();
-        assert_eq!(rt;
-            read_text(rt.alloc(), &mut first).err(),
-            Some(Fault::CannotRead)
-        );
-        let mut surrogate = b"run\n# \xed\xa0\x80\n".as_slice();
-        assert_eq!(rt;
-            read_text(rt.alloc(), &mut surrogate).err(),
-            Some(Fault::CannotRead)
-        );
+        let inputs = [
+            b"run\n# \xe4\xb8".as_slice(),
+            b"\xffrun now",
+            b"run\n# \xed\xa0\x80\n",
+        ];
+        for bytes in inputs {
+            let mut input = bytes;
+            let read = read_text(rt.alloc(), &mut input);
+            assert_eq!(rt; read.err(), Some(Fault::CannotRead));
+        }
     }
 }

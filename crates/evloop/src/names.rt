@@ -92,7 +92,9 @@ mod tests {
     fn sets_are_printed_in_the_order_of_bits(rt: HostRuntime) -> Result<(), Fail> {
         let table = [
             (0, "-"),
+            (0x40, "-"),
             (0x1, "IN"),
+            (0x41, "IN"),
             (0x5, "IN+OUT"),
             (0x2018, "ERROR+HANG_UP+READ_HANG_UP"),
             (0x8000_0002, "PRIORITY+EDGE_TRIGGERED"),

@@ -146,11 +146,13 @@ impl<O: Out> Printer<O> {
         Ok(Printer::new(alloc, out)?)
     }
 
-    /// Writes the line.
+    /// Writes the line: all of it, however little the output takes at a time. A write that is interrupted
+    /// is tried again.
     ///
     /// # Errors
     ///
-    /// `CannotWrite` where the output refuses it.
+    /// `CannotWrite` where the output refuses it. What the output took before stays written, and the next
+    /// line goes right behind it.
     pub fn print(&mut self, line: &OutputLine<'_>) -> Result<(), Fault> {
         self.line.clear();
         match writeln!(self.line, "{line}") {
@@ -161,5 +163,33 @@ impl<O: Out> Printer<O> {
             Ok(()) => Ok(()),
             Err(_) => Err(Fault::CannotWrite),
         }
+    }
+}
+
+#[cfg(test)]
+mod tests {
+    use super::*;
+    use std::test::Fail;
+    use vmm_sys::errno::Errno;
+
+    // What no script can bring about.
+    #[test]
+    fn refused_joins_and_runs_have_their_texts(rt: HostRuntime) -> Result<(), Fail> {
+        let joined = OutputLine::Joined {
+            name: "a",
+            answer: Err(Error::IdsUsedUp),
+        };
+        let ran = OutputLine::Ran {
+            answer: Err(Error::Epoll(Errno(9))),
+        };
+        assert_eq!(rt;
+            joined.to_string(rt.alloc())?.as_str(),
+            "sub a: event_manager: subscriber ids used up"
+        );
+        assert_eq!(rt;
+            ran.to_string(rt.alloc())?.as_str(),
+            "run: event_manager: failed to manage epoll file descriptor: os error 9"
+        );
+        Ok(())
     }
 }

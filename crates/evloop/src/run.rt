@@ -1,6 +1,9 @@
 //! A script, run over an event manager.
 
 ghost use Rattle.std.specs.Prelude.{◌≡◌, IfOk, OnOk, IsOkUnless};
+ghost use Rattle.event_manager.specs.Manager.{state_of};
+ghost use Rattle.evloop.specs.Calls.{Joins, Leaves};
+ghost use Rattle.evloop.specs.Joins.{id_at};
 ghost use Rattle.evloop.specs.ScriptedPoller.{empty, answer_of, with_waits, with_refusals};
 ghost use Rattle.vmm_sys.specs.ScriptPoller.{with_answer};
 
@@ -12,7 +15,8 @@ use crate::requests::make_requests;
 use crate::script::{Call, Refusal, Wait as ScriptedWait, parse};
 use crate::subscriber::Subscriber;
 use event_manager::{
-    BoxedPoller, Error, EventManager, EventPoller, Request, SubscriberId, SubscriberOps,
+    BoxedPoller, Error, EventManager, EventPoller, MutEventSubscriber, Request, SubscriberId,
+    SubscriberOps,
 };
 use std::alloc::Global;
 use std::io::Read;
@@ -152,15 +156,17 @@ where
 }
 
 // Takes a subscriber in, and prints the answer; gives its id, unless it was refused.
-fn join<'a, O, P>(
-    manager: &mut EventManager<Subscriber<'a, O>, P>,
-    subscriber: Subscriber<'a, O>,
-    name: &'a str,
+fn join<S, O, P>(
+    manager: &mut EventManager<S, P>,
+    subscriber: S,
+    name: &str,
     printer: &mut Printer<O>,
 ) -> Result<Option<SubscriberId>, Fault>
 where
+    S: MutEventSubscriber + Drop,
     O: Out + Drop,
     P: EventPoller,
+    ensures { Joins S.begins P.controls P.waits subscriber result (state_of manager.old) (state_of manager.new) }
 {
     match manager.add_subscriber(subscriber) {
         Ok(id) => {
@@ -177,7 +183,9 @@ where
 }
 
 // The id of the join at this place; `InvalidId` where the join was refused.
-fn id_of(ids: &[Option<SubscriberId>], join: usize) -> Result<SubscriberId, Error> {
+fn id_of(ids: &[Option<SubscriberId>], join: usize) -> Result<SubscriberId, Error>
+    ensures { result ≡ id_at ids.now join }
+{
     match ids.get(join) {
         Some(Some(id)) => Ok(*id),
         _ => Err(Error::InvalidId),
@@ -185,14 +193,15 @@ fn id_of(ids: &[Option<SubscriberId>], join: usize) -> Result<SubscriberId, Erro
 }
 
 // Makes requests of one subscriber, and prints their answers.
-fn ask<'a, O, P>(
-    manager: &mut EventManager<Subscriber<'a, O>, P>,
+fn ask<S, O, P>(
+    manager: &mut EventManager<S, P>,
     id: Result<SubscriberId, Error>,
-    name: &'a str,
+    name: &str,
     requests: &[Request],
     printer: &mut Printer<O>,
 ) -> Result<(), Fault>
 where
+    S: MutEventSubscriber + Drop,
     O: Out + Drop,
     P: EventPoller,
 {
@@ -208,15 +217,17 @@ where
 }
 
 // Lets a subscriber leave, and prints the answer.
-fn leave<'a, O, P>(
-    manager: &mut EventManager<Subscriber<'a, O>, P>,
+fn leave<S, O, P>(
+    manager: &mut EventManager<S, P>,
     id: Result<SubscriberId, Error>,
-    name: &'a str,
+    name: &str,
     printer: &mut Printer<O>,
 ) -> Result<(), Fault>
 where
+    S: MutEventSubscriber + Drop,
     O: Out + Drop,
     P: EventPoller,
+    ensures { Leaves S.begins P.controls P.waits id (state_of manager.old) (state_of manager.new) }
 {
     let answer = match id {
         Ok(id) => match manager.remove_subscriber(id) {

@@ -27,7 +27,10 @@ impl<'a, O: Out> Subscriber<'a, O> {
         first: Vec<Request>,
         reactions: Reactions,
         printer: Printer<O>,
-    ) -> Subscriber<'a, O> {
+    ) -> Subscriber<'a, O>
+        ensures first { result.first ≡ first }
+        ensures reactions { result.reactions ≡ reactions }
+    {
         Subscriber {
             name,
             first,
@@ -38,7 +41,7 @@ impl<'a, O: Out> Subscriber<'a, O> {
 }
 
 impl<O: Out> MutEventSubscriber for Subscriber<'_, O> {
-    ghost begins = { λ v exchanges w. requests_of exchanges ≡ v.first.items };
+    ghost begins = { λ v exchanges w. (requests_of exchanges ≡ v.first.items) × (w.first ≡ v.first) × (w.reactions ≡ v.reactions) };
 
     ghost serves = { λ v event exchanges w. Reacts v.reactions.queues event.fd exchanges w.reactions.queues };
 

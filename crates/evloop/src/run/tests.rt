@@ -5,13 +5,14 @@ ghost use Rattle.std.specs.Prelude.{◌≤◌, length, IfOk};
 use super::*;
 use std::alloc::AllocError;
 use std::cell::RefCell;
+use std::fmt::Write as _;
 use std::io;
 use std::io::{ErrorKind, Write};
 use std::process::Abort;
 use std::rc::Rc;
 use std::test::Fail;
 
-/// Which writes a [`Memory`] refuses, counted from 0.
+/// Which writes an output refuses, counted from 0.
 #[derive(Clone, Copy)]
 enum Refused {
     None,
@@ -19,12 +20,27 @@ enum Refused {
     From(u64),
 }
 
+/// What an output takes: at most so many bytes a write, and no write that is refused.
+#[derive(Clone, Copy)]
+struct Terms {
+    at_most: usize,
+    refused: Refused,
+    error: ErrorKind,
+}
+
+/// Takes all that it is given, and at once.
+const ALL: Terms = Terms {
+    at_most: 65536,
+    refused: Refused::None,
+    error: ErrorKind::StorageFull,
+};
+
 /// What was written so far.
 #[derive(Drop)]
 struct Page {
     bytes: Vec<u8>,
     writes: u64,
-    refused: Refused,
+    terms: Terms,
 }
 
 /// An output in memory. Its handles write to one page, and `handles` more of them can be made.
@@ -40,16 +56,17 @@ impl Page {
     {
         let write = self.writes;
         self.writes = write.saturating_add(1);
-        let is_refused = match self.refused {
+        let is_refused = match self.terms.refused {
             Refused::None => false,
             Refused::Only(number) => write == number,
             Refused::From(number) => write >= number,
         };
         if is_refused {
-            return Err(io::Error::from(ErrorKind::StorageFull));
+            return Err(io::Error::from(self.terms.error));
         }
-        self.bytes.extend_from_slice(bytes)?;
-        Ok(bytes.len())
+        let count = bytes.len().min(self.terms.at_most);
+        self.bytes.extend_from_slice(&bytes[..count])?;
+        Ok(count)
     }
 }
 
@@ -84,12 +101,11 @@ impl Read for Broken {
     }
 }
 
-fn make_page(alloc: Global, refused: Refused) -> Result<Rc<RefCell<Page>>, AllocError> {
-    let bytes = Vec::with_capacity(alloc, 65536)?;
+fn make_page(alloc: Global, terms: Terms) -> Result<Rc<RefCell<Page>>, AllocError> {
     let page = Page {
-        bytes,
+        bytes: Vec::new(alloc),
         writes: 0,
-        refused,
+        terms,
     };
     Ok(Rc::new(alloc, RefCell::new(page))?)
 }
@@ -100,19 +116,28 @@ fn text_of(alloc: Global, page: &RefCell<Page>) -> Result<String, Fail> {
     Ok(String::from_str(alloc, text)?)
 }
 
-// What the script answers and writes on an output that refuses these writes.
+// What the program answers on this input, and what it writes to an output on these terms.
+fn outcome_of<R: Wait + Clock + AllocGlobal + Clone + Send + Drop, I: Read + Drop>(
+    rt: &R,
+    input: I,
+    terms: Terms,
+    handles: u64,
+) -> Result<(Option<Fault>, String), Fail> {
+    let page = make_page(rt.alloc(), terms)?;
+    let out = Memory {
+        page: page.clone()?,
+        handles,
+    };
+    let answer = run_script(rt, rt.alloc(), input, out);
+    Ok((answer.err(), text_of(rt.alloc(), &page)?))
+}
+
 fn outcome<R: Wait + Clock + AllocGlobal + Clone + Send + Drop>(
     rt: &R,
     script: &str,
-    refused: Refused,
+    terms: Terms,
 ) -> Result<(Option<Fault>, String), Fail> {
-    let page = make_page(rt.alloc(), refused)?;
-    let out = Memory {
-        page: page.clone()?,
-        handles: 1000,
-    };
-    let answer = run_script(rt, rt.alloc(), script.as_bytes(), out);
-    Ok((answer.err(), text_of(rt.alloc(), &page)?))
+    outcome_of(rt, script.as_bytes(), terms, 1000)
 }
 
 // A script that runs to its end writes this.
@@ -121,7 +146,7 @@ fn writes<R: Abort + Wait + Clock + AllocGlobal + Clone + Send + Drop>(
     script: &str,
     want: &str,
 ) -> Result<(), Fail> {
-    let (fault, text) = outcome(rt, script, Refused::None)?;
+    let (fault, text) = outcome(rt, script, ALL)?;
     assert_eq!(rt; fault, None);
     assert_eq!(rt; text.as_str(), want);
     Ok(())
@@ -189,16 +214,13 @@ fn refusals_are_used_once(rt: HostRuntime) -> Result<(), Fail> {
 
 #[test]
 fn a_long_report_takes_two_runs(rt: HostRuntime) -> Result<(), Fail> {
-    let mut script = String::from_str(rt.alloc(), "sub a add 3 IN 0\nbatch")?;
-    let mut want = String::from_str(rt.alloc(), "reply a add 3: ok\nsub a: 1\n")?;
-    for number in 1..301 {
-        script.push_str(" 3:IN:0")?;
-        want.push_str("deliver a 3 IN 0\n")?;
-        if number == 256 {
-            want.push_str("run: 256\n")?;
-        }
-    }
+    let alloc = rt.alloc();
+    let mut script = repeated(alloc, "sub a add 3 IN 0\nbatch", " 3:IN:0", 300)?;
     script.push_str("\nrun\nrun\n")?;
+    let first = "reply a add 3: ok\nsub a: 1\n";
+    let mut want = repeated(alloc, first, "deliver a 3 IN 0\n", 256)?;
+    want.push_str("run: 256\n")?;
+    let mut want = repeated(alloc, &want, "deliver a 3 IN 0\n", 44)?;
     want.push_str("run: 44\n")?;
     writes(&rt, script.as_str(), want.as_str())
 }
@@ -288,13 +310,11 @@ fn refusals_come_in_the_order_of_their_lines(rt: HostRuntime) -> Result<(), Fail
 
 #[test]
 fn the_rest_of_a_long_report_comes_before_the_next(rt: HostRuntime) -> Result<(), Fail> {
-    let mut script = String::from_str(rt.alloc(), "sub a add 3 IN 0\nbatch")?;
-    let mut want = String::from_str(rt.alloc(), "reply a add 3: ok\nsub a: 1\n")?;
-    for _ in 0..256 {
-        script.push_str(" 3:IN:0")?;
-        want.push_str("deliver a 3 IN 0\n")?;
-    }
+    let alloc = rt.alloc();
+    let mut script = repeated(alloc, "sub a add 3 IN 0\nbatch", " 3:IN:0", 256)?;
     script.push_str(" 3:IN:1\nbatch 3:OUT:2\nrun\nrun\nrun\n")?;
+    let first = "reply a add 3: ok\nsub a: 1\n";
+    let mut want = repeated(alloc, first, "deliver a 3 IN 0\n", 256)?;
     want.push_str("run: 256\ndeliver a 3 IN 1\nrun: 1\ndeliver a 3 OUT 2\nrun: 1\n")?;
     writes(&rt, script.as_str(), want.as_str())
 }
@@ -346,43 +366,92 @@ fn sets_and_data_are_delivered_as_reported(rt: HostRuntime) -> Result<(), Fail> 
 
 #[test]
 fn a_bad_script_runs_nothing(rt: HostRuntime) -> Result<(), Fail> {
-    let (fault, text) = outcome(&rt, "run now", Refused::None)?;
-    assert_eq!(rt; fault, Some(Fault::BadScript(1)));
-    assert_eq!(rt; text.as_str(), "");
-    let (fault, text) = outcome(&rt, "sub a add 3 IN 0\nrun\n\nrun now\n", Refused::None)?;
-    assert_eq!(rt; fault, Some(Fault::BadScript(4)));
-    assert_eq!(rt; text.as_str(), "");
+    let table = [
+        ("run now", 1),
+        ("sub a add 3 IN 0\nrun\n\nrun now\n", 4),
+        ("sub a\nrun\non b 3 remove 3\n", 3),
+    ];
+    for (script, line) in table {
+        let (fault, text) = outcome(&rt, script, ALL)?;
+        assert_eq!(rt; fault, Some(Fault::BadScript(line)));
+        assert_eq!(rt; text.as_str(), "");
+    }
     Ok(())
 }
 
 #[test]
 fn a_script_that_cannot_be_read_runs_nothing(rt: HostRuntime) -> Result<(), Fail> {
-    let page = make_page(rt.alloc(), Refused::None)?;
-    let out = Memory {
-        page: page.clone()?,
-        handles: 1000,
-    };
-    let answer = run_script(&rt, rt.alloc(), Broken, out);
-    assert_eq!(rt; answer, Err(Fault::CannotRead));
-    let out = Memory {
-        page: page.clone()?,
-        handles: 1000,
-    };
-    let answer = run_script(&rt, rt.alloc(), b"run\nrun now\n# \xff".as_slice(), out);
-    assert_eq!(rt; answer, Err(Fault::CannotRead));
-    assert_eq!(rt; text_of(rt.alloc(), &page)?.as_str(), "");
+    let (fault, text) = outcome_of(&rt, Broken, ALL, 1000)?;
+    assert_eq!(rt; fault, Some(Fault::CannotRead));
+    assert_eq!(rt; text.as_str(), "");
+    let (fault, text) = outcome_of(&rt, b"run\nrun now\n# \xff".as_slice(), ALL, 1000)?;
+    assert_eq!(rt; fault, Some(Fault::CannotRead));
+    assert_eq!(rt; text.as_str(), "");
     Ok(())
 }
 
 #[test]
 fn a_refused_endpoint_ends_the_run(rt: HostRuntime) -> Result<(), Fail> {
-    let (fault, text) = outcome(&rt, "refuse add 9 22\nsub a\nrun\n", Refused::None)?;
+    let (fault, text) = outcome(&rt, "refuse add 9 22\nsub a\nrun\n", ALL)?;
     assert_eq!(rt; fault, Some(Fault::Manager(Error::Epoll(Errno(22)))));
     assert_eq!(rt; text.as_str(), "");
     Ok(())
 }
 
 const TWO_SUBSCRIBERS: &str = "sub a add 3 IN 0\nsub b\nbatch 3:IN:0\nrun\nask b remove 3\nrun\n";
+
+#[test]
+fn an_output_that_takes_single_bytes_loses_nothing(rt: HostRuntime) -> Result<(), Fail> {
+    let terms = Terms { at_most: 1, ..ALL };
+    let (fault, text) = outcome(&rt, TWO_SUBSCRIBERS, terms)?;
+    assert_eq!(rt; fault, None);
+    assert_eq!(rt;
+        text.as_str(),
+        "reply a add 3: ok\nsub a: 1\nsub b: 2\ndeliver a 3 IN 0\nrun: 1\nreply b remove 3: event_manager: failed to manage epoll file descriptor: os error 2\nrun: 0\n"
+    );
+    Ok(())
+}
+
+// The output takes five bytes a write, and `reply a add 3: ok`, `sub a: 1` and `run: 0` are eighteen, nine
+// and seven with their ends.
+#[test]
+fn a_line_refused_in_the_middle_keeps_its_beginning(rt: HostRuntime) -> Result<(), Fail> {
+    let table = [
+        (2, None, "reply a adsub a: 1\nrun: 0\n"),
+        (5, Some(Fault::CannotWrite), "reply a add 3: ok\nsub a"),
+        (
+            7,
+            Some(Fault::CannotWrite),
+            "reply a add 3: ok\nsub a: 1\nrun: ",
+        ),
+    ];
+    for (write, want, written) in table {
+        let terms = Terms {
+            at_most: 5,
+            refused: Refused::Only(write),
+            ..ALL
+        };
+        let (fault, text) = outcome(&rt, "sub a add 3 IN 0\nrun\n", terms)?;
+        assert_eq!(rt; fault, want, "{write}");
+        assert_eq!(rt; text.as_str(), written);
+    }
+    Ok(())
+}
+
+#[test]
+fn an_interrupted_write_is_tried_again(rt: HostRuntime) -> Result<(), Fail> {
+    for write in [0, 2, 4, 7] {
+        let terms = Terms {
+            at_most: 5,
+            refused: Refused::Only(write),
+            error: ErrorKind::Interrupted,
+        };
+        let (fault, text) = outcome(&rt, "sub a add 3 IN 0\nrun\n", terms)?;
+        assert_eq!(rt; fault, None, "{write}");
+        assert_eq!(rt; text.as_str(), "reply a add 3: ok\nsub a: 1\nrun: 0\n");
+    }
+    Ok(())
+}
 
 #[test]
 fn lines_of_subscribers_that_cannot_be_written_are_dropped(rt: HostRuntime) -> Result<(), Fail> {
@@ -401,7 +470,11 @@ fn lines_of_subscribers_that_cannot_be_written_are_dropped(rt: HostRuntime) -> R
         ),
     ];
     for (write, want) in table {
-        let (fault, text) = outcome(&rt, TWO_SUBSCRIBERS, Refused::Only(write))?;
+        let terms = Terms {
+            refused: Refused::Only(write),
+            ..ALL
+        };
+        let (fault, text) = outcome(&rt, TWO_SUBSCRIBERS, terms)?;
         assert_eq!(rt; fault, None, "{write}");
         assert_eq!(rt; text.as_str(), want);
     }
@@ -421,7 +494,8 @@ fn lines_of_the_program_that_cannot_be_written_end_it(rt: HostRuntime) -> Result
         (Refused::From(3), "reply a add 3: ok\nsub a: 1\nsub b: 2\n"),
     ];
     for (refused, want) in table {
-        let (fault, text) = outcome(&rt, TWO_SUBSCRIBERS, refused)?;
+        let terms = Terms { refused, ..ALL };
+        let (fault, text) = outcome(&rt, TWO_SUBSCRIBERS, terms)?;
         assert_eq!(rt; fault, Some(Fault::CannotWrite));
         assert_eq!(rt; text.as_str(), want);
     }
@@ -430,13 +504,61 @@ fn lines_of_the_program_that_cannot_be_written_end_it(rt: HostRuntime) -> Result
 
 #[test]
 fn an_output_without_another_handle_ends_the_run(rt: HostRuntime) -> Result<(), Fail> {
-    let page = make_page(rt.alloc(), Refused::None)?;
-    let out = Memory {
-        page: page.clone()?,
-        handles: 0,
-    };
-    let answer = run_script(&rt, rt.alloc(), "run\nsub a add 3 IN 0\n".as_bytes(), out);
-    assert_eq!(rt; answer, Err(Fault::OutOfMemory));
-    assert_eq!(rt; text_of(rt.alloc(), &page)?.as_str(), "run: 0\n");
+    let script = "run\nsub a add 3 IN 0\n".as_bytes();
+    let (fault, text) = outcome_of(&rt, script, ALL, 0)?;
+    assert_eq!(rt; fault, Some(Fault::OutOfMemory));
+    assert_eq!(rt; text.as_str(), "run: 0\n");
     Ok(())
+}
+
+// A text with another behind it, so many times.
+fn repeated(alloc: Global, text: &str, part: &str, count: u32) -> Result<String, Fail> {
+    let mut whole = String::from_str(alloc, text)?;
+    for _ in 0..count {
+        whole.push_str(part)?;
+    }
+    Ok(whole)
+}
+
+#[test]
+fn thousands_of_lines_are_run(rt: HostRuntime) -> Result<(), Fail> {
+    let alloc = rt.alloc();
+    let first = "sub a add 3 IN 0\n";
+    let script = repeated(alloc, first, "batch 3:IN:0\nrun\n", 2000)?;
+    let first = "reply a add 3: ok\nsub a: 1\n";
+    let want = repeated(alloc, first, "deliver a 3 IN 0\nrun: 1\n", 2000)?;
+    writes(&rt, script.as_str(), want.as_str())
+}
+
+#[test]
+fn hundreds_of_reactions_are_made(rt: HostRuntime) -> Result<(), Fail> {
+    let alloc = rt.alloc();
+    let first = "sub a add 3 IN 0\n";
+    let part = "on a 3 modify 3 OUT 1\nbatch 3:IN:0\nrun\n";
+    let script = repeated(alloc, first, part, 500)?;
+    let first = "reply a add 3: ok\nsub a: 1\n";
+    let part = "deliver a 3 IN 0\nreply a modify 3: ok\nrun: 1\n";
+    let want = repeated(alloc, first, part, 500)?;
+    writes(&rt, script.as_str(), want.as_str())
+}
+
+#[test]
+fn hundreds_of_requests_of_one_line_are_made(rt: HostRuntime) -> Result<(), Fail> {
+    let alloc = rt.alloc();
+    let first = "sub a add 3 IN 0\nask a";
+    let script = repeated(alloc, first, " modify 3 OUT 1", 500)?;
+    let first = "reply a add 3: ok\nsub a: 1\n";
+    let want = repeated(alloc, first, "reply a modify 3: ok\n", 500)?;
+    writes(&rt, script.as_str(), want.as_str())
+}
+
+#[test]
+fn hundreds_of_names_are_joined(rt: HostRuntime) -> Result<(), Fail> {
+    let mut script = String::new(rt.alloc());
+    let mut want = String::new(rt.alloc());
+    for number in 1..501 {
+        writeln!(script, "sub a{number}")?;
+        writeln!(want, "sub a{number}: {number}")?;
+    }
+    writes(&rt, script.as_str(), want.as_str())
 }

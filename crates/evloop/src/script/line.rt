@@ -1,9 +1,11 @@
 //! The grammar of one line.
 
-ghost use Rattle.std.specs.Prelude.{◌≡◌, ◌≤◌, ◌<◌, ◌↔◌, ◌/◌, ◌^◌, IsTrue, IfSome, IfOk, All, length, codes, Some, vec_len};
+ghost use Rattle.std.specs.Prelude.{◌≡◌, ◌≤◌, ◌<◌, ◌↔◌, ◌/◌, ◌^◌, IsTrue, IfSome, IfOk, All, length, codes, Some};
 ghost use Rattle.evloop.specs.Asked.{IsAddition};
+ghost use Rattle.evloop.specs.Item.{before_colon, after_colon, IsOfItem};
 ghost use Rattle.evloop.specs.Name.{IsName, IsNameByte};
 ghost use Rattle.evloop.specs.declared.script.line.LineError.TheVariants as line_error;
+ghost use Rattle.std.specs.List.{AllZip};
 ghost use Rattle.std.specs.Str.Parse.{digits_value};
 ghost use Rattle.vmm_sys.specs.EpollEvent.{low_half_signed};
 
@@ -182,17 +184,26 @@ fn word_of(fd: RawFd, payload: u32) -> u64
     u64::from(payload) << 32 | u64::from(fd.cast_unsigned())
 }
 
+// What stands before and behind the first colon.
+fn cut_at_colon(text: &str) -> Option<(&str, &str)>
+    ensures { IfSome result (λ parts. (parts.0.now ≡ before_colon text.now) × (parts.1.now ≡ after_colon text.now)) }
+{
+    text.split_once(':')
+}
+
 // A reported event, as `FD:SET:DATA`.
-fn event(item: &str) -> Option<EpollEvent> {
-    let (fd, rest) = item.split_once(':')?;
-    let (set, data) = rest.split_once(':')?;
+fn event(item: &str) -> Option<EpollEvent>
+    ensures { IfSome result (λ event. IsOfItem item.now event) }
+{
+    let (fd, rest) = cut_at_colon(item)?;
+    let (set, data) = cut_at_colon(rest)?;
     let word = word_of(signed_descriptor(fd)?, payload(data)?);
     Some(EpollEvent::new(event_set(set)?, word))
 }
 
-// All words as reported events.
+// The event of each word, in the order of the words.
 fn events(alloc: Global, items: &[&str]) -> Result<Vec<EpollEvent>, LineError>
-    ensures { IfOk result (λ events. vec_len events ≡ length items.now) }
+    ensures { IfOk result (λ events. AllZip (λ item event. IsOfItem item.now event) items.now events.items) }
 {
     let mut events = Vec::new(alloc);
     for item in items {

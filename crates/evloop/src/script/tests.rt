@@ -2,108 +2,131 @@
 
 use super::*;
 use event_manager::Events;
+use std::fmt::Write;
 use std::process::Abort;
 use std::test::Fail;
-use vmm_sys::epoll::EventSet;
+
+const EVERY_LINE: &str = "# a comment\n\
+    sub a add 3 IN 0 add 4 IN+OUT 7\n\
+    batch 3:IN:0 -1:-:4294967295\n\
+    sub b\n\
+    ask a modify 4 OUT 8 remove 3 add 5 - 1\n\
+    refuse delete 4 22\n\
+    intr\n\
+    run\n\
+    drop a\n\
+    batch\n\
+    refuse add 3 12\n\
+    refuse modify 2147483647 4095\n\
+    ask b add 3 IN 0\n\
+    run\n";
+
+// Sets are numbers here; an event has the word that its data and descriptor make, and a call the place
+// of its join.
+const ITS_LISTS: &str = "join a add 3 1 0 add 4 5 7\n\
+    join b\n\
+    ask a 0 modify 4 4 8 remove 3 0 0 add 5 0 1\n\
+    run\n\
+    leave a 0\n\
+    ask b 1 add 3 1 0\n\
+    run\n\
+    report 1:3 0:18446744073709551615\n\
+    interrupted\n\
+    report\n\
+    Delete 4 22\n\
+    Add 3 12\n\
+    Modify 2147483647 4095\n";
 
 #[test]
 fn a_script_is_sorted_into_its_lists(rt: HostRuntime) -> Result<(), Fail> {
-    let alloc = rt.alloc();
-    let text = "# a comment\n\
-        sub a add 3 IN 0 add 4 IN+OUT 7\n\
-        batch 3:IN:0 -1:-:4294967295\n\
-        sub b\n\
-        ask a modify 4 OUT 8 remove 3 add 5 - 1\n\
-        refuse delete 4 22\n\
-        intr\n\
-        run\n\
-        drop a\n\
-        batch\n\
-        refuse add 3 12\n\
-        refuse modify 2147483647 4095\n\
-        ask b add 3 IN 0\n\
-        run\n";
-    let script = parse(alloc, text)?;
-    let calls = vec![in alloc;
-        Call::Join {
-            name: "a",
-            requests: vec![in alloc;
-                Request::Add(Events::with_data_raw(3, 0, EventSet::IN)),
-                Request::Add(Events::with_data_raw(4, 7, EventSet::from_bits_retain(5)))
-            ]?,
-        },
-        Call::Join {
-            name: "b",
-            requests: Vec::new(alloc)
-        },
+    let script = parse(rt.alloc(), EVERY_LINE)?;
+    assert_eq!(rt; lists_of(rt.alloc(), &script)?.as_str(), ITS_LISTS);
+    Ok(())
+}
+
+fn lists_of(alloc: Global, script: &Script) -> Result<String, Fail> {
+    let mut text = String::new(alloc);
+    for call in &script.calls {
+        push_call(&mut text, call)?;
+    }
+    for wait in &script.waits {
+        push_wait(&mut text, wait)?;
+    }
+    for refusal in &script.refusals {
+        let Errno(errno) = refusal.errno;
+        let fd = refusal.fd;
+        writeln!(text, "{:?} {fd} {errno}", refusal.operation)?;
+    }
+    Ok(text)
+}
+
+fn push_call(text: &mut String, call: &Call) -> Result<(), Fail> {
+    match call {
+        Call::Join { name, requests } => {
+            write!(text, "join {name}")?;
+            push_requests(text, requests)?;
+        }
         Call::Ask {
-            name: "a",
-            join: 0,
-            requests: vec![in alloc;
-                Request::Modify(Events::with_data_raw(4, 8, EventSet::OUT)),
-                Request::Remove(Events::empty_raw(3)),
-                Request::Add(Events::with_data_raw(5, 1, EventSet::empty()))
-            ]?,
-        },
-        Call::Run,
-        Call::Leave { name: "a", join: 0 },
-        Call::Ask {
-            name: "b",
-            join: 1,
-            requests: vec![in alloc; Request::Add(Events::with_data_raw(3, 0, EventSet::IN))]?,
-        },
-        Call::Run,
-    ]?;
-    assert!(rt; script.calls == calls);
-    let reports = vec![in alloc;
-        Wait::Report(vec![in alloc;
-            EpollEvent::new(EventSet::IN, 3),
-            EpollEvent::new(EventSet::empty(), 18446744073709551615)
-        ]?),
-        Wait::Interrupted,
-        Wait::Report(Vec::new(alloc)),
-    ]?;
-    assert_eq!(rt; script.waits, reports);
-    let refusals = vec![in alloc;
-        Refusal {
-            operation: ControlOperation::Delete,
-            fd: 4,
-            errno: Errno(22)
-        },
-        Refusal {
-            operation: ControlOperation::Add,
-            fd: 3,
-            errno: Errno(12)
-        },
-        Refusal {
-            operation: ControlOperation::Modify,
-            fd: 2147483647,
-            errno: Errno(4095)
-        },
-    ]?;
-    assert_eq!(rt; script.refusals, refusals);
+            name,
+            join,
+            requests,
+        } => {
+            write!(text, "ask {name} {join}")?;
+            push_requests(text, requests)?;
+        }
+        Call::Leave { name, join } => write!(text, "leave {name} {join}")?,
+        Call::Run => text.push_str("run")?,
+    }
+    Ok(text.push('\n')?)
+}
+
+fn push_wait(text: &mut String, wait: &Wait) -> Result<(), Fail> {
+    match wait {
+        Wait::Report(events) => {
+            text.push_str("report")?;
+            for event in events {
+                let bits = event.events();
+                let word = event.data();
+                write!(text, " {bits}:{word}")?;
+            }
+        }
+        Wait::Interrupted => text.push_str("interrupted")?,
+    }
+    Ok(text.push('\n')?)
+}
+
+fn push_requests(text: &mut String, requests: &[Request]) -> Result<(), Fail> {
+    for request in requests {
+        let (operation, events) = match request {
+            Request::Add(events) => ("add", events),
+            Request::Modify(events) => ("modify", events),
+            Request::Remove(events) => ("remove", events),
+        };
+        let fd = events.fd();
+        let bits = events.event_set().bits();
+        let data = events.data();
+        write!(text, " {operation} {fd} {bits} {data}")?;
+    }
     Ok(())
 }
 
 #[test]
 fn words_of_reported_events(rt: HostRuntime) -> Result<(), Fail> {
     let table = [
-        ("batch 5:IN:42", 180388626437),
-        ("batch 5:IN:43", 184683593733),
-        ("batch -1:IN:0", 4294967295),
-        ("batch -2147483648:IN:0", 2147483648),
-        ("batch -2147483648:IN:1", 6442450944),
-        ("batch 2147483647:IN:4294967295", 18446744071562067967),
-        ("batch 0005:IN:0042", 180388626437),
+        ("batch 5:IN:42", "report 1:180388626437\n"),
+        ("batch 5:OUT:43", "report 4:184683593733\n"),
+        ("batch -1:IN:0", "report 1:4294967295\n"),
+        ("batch -2147483648:-:0", "report 0:2147483648\n"),
+        ("batch -2147483648:IN:1", "report 1:6442450944\n"),
+        (
+            "batch 2147483647:IN:4294967295",
+            "report 1:18446744071562067967\n",
+        ),
+        ("batch 0005:IN:0042", "report 1:180388626437\n"),
     ];
-    for (text, word) in table {
+    for (text, want) in table {
         let script = parse(rt.alloc(), text)?;
-        let events = vec![in rt.alloc(); EpollEvent::new(EventSet::IN, word)]?;
-        assert_eq!(rt;
-            script.waits,
-            vec![in rt.alloc(); Wait::Report(events)]?,
-            "{text}"
-        );
+        assert_eq!(rt; lists_of(rt.alloc(), &script)?.as_str(), want);
     }
     Ok(())
 }
@@ -331,34 +354,31 @@ fn the_first_bad_line_is_named(rt: HostRuntime) {
 
 #[test]
 fn reactions_stand_by_name_and_descriptor(rt: HostRuntime) -> Result<(), Fail> {
-    let alloc = rt.alloc();
     let text =
         "on a 3 remove 4\nsub a\non b 3 remove 5\nsub b\non a 4 remove 6\non a 3 remove 7 remove 8\n";
-    let script = parse(alloc, text)?;
-    let mut reactions = script.reactions.into_iter();
-    let mut of_a = reactions.next().ok_or("a")?;
-    assert!(rt;
-        of_a.next(Events::empty_raw(3))
-            == Some(vec![in alloc; Request::Remove(Events::empty_raw(4))]?)
-    );
-    assert!(rt;
-        of_a.next(Events::empty_raw(4))
-            == Some(vec![in alloc; Request::Remove(Events::empty_raw(6))]?)
-    );
-    assert!(rt;
-        of_a.next(Events::empty_raw(3))
-            == Some(vec![in alloc;
-                Request::Remove(Events::empty_raw(7)),
-                Request::Remove(Events::empty_raw(8))
-            ]?)
-    );
-    assert!(rt; of_a.next(Events::empty_raw(3)).is_none());
-    assert!(rt; of_a.next(Events::empty_raw(5)).is_none());
-    let mut of_b = reactions.next().ok_or("b")?;
-    assert!(rt; of_b.next(Events::empty_raw(4)).is_none());
-    assert!(rt;
-        of_b.next(Events::empty_raw(3))
-            == Some(vec![in alloc; Request::Remove(Events::empty_raw(5))]?)
-    );
+    let mut script = parse(rt.alloc(), text)?;
+    let table = [
+        (0, 3, " remove 4 0 0"),
+        (0, 4, " remove 6 0 0"),
+        (0, 3, " remove 7 0 0 remove 8 0 0"),
+        (0, 3, ""),
+        (0, 5, ""),
+        (1, 4, ""),
+        (1, 3, " remove 5 0 0"),
+    ];
+    for (join, fd, want) in table {
+        let next = next_reaction(rt.alloc(), &mut script, join, fd)?;
+        assert_eq!(rt; next.as_str(), want);
+    }
     Ok(())
+}
+
+// The requests of the next event of the descriptor.
+fn next_reaction(alloc: Global, script: &mut Script, join: usize, fd: u8) -> Result<String, Fail> {
+    let mut text = String::new(alloc);
+    let reactions = script.reactions.get_mut(join).ok_or("no such join")?;
+    if let Some(requests) = reactions.next(Events::empty_raw(RawFd::from(fd))) {
+        push_requests(&mut text, &requests)?;
+    }
+    Ok(text)
 }

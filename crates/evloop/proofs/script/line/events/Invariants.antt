@@ -1,5 +1,7 @@
-use Rattle.std.proofs.Common.{◌≡◌, vec_len}
+use Rattle.std.proofs.Common.{take}
+use Rattle.std.specs.List.{AllZip}
+use Rattle.evloop.specs.Item.{IsOfItem}
 use Rattle.evloop.proofs.script.line.events.Given as goal
 
 abbrev pub invariant-loop-item : goal.invariant-loop-item
-invariant-loop-item l = vec_len l.events ≡ l.item-index
+invariant-loop-item l = AllZip (λ item event. IsOfItem item.now event) (take l.item-index l.items) l.events.items

@@ -1,4 +1,4 @@
-use Rattle.std.proofs.Common.{[], ◌∷◌, ◌≡◌, List, refl, subst, sym}
+use Rattle.std.proofs.Common.{[], ◌≡◌, List, refl, subst, sym}
 use Rattle.event_manager.proofs.ExchangeLemmas.{none_made}
 use Rattle.event_manager.specs.declared.events.Request.{Request}
 use Rattle.evloop.specs.Coming.{AreFirst}

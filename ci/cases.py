@@ -1,0 +1,48 @@
+"""The cases of the program, as files of crates/evloop/cases.
+
+NAME is a standard input; NAME.stdout and NAME.stderr are what the program must write on it (no such file: nothing), and
+NAME.status is how it must end (no such file: 0). Where there is NAME.refused its number says which allocation is refused,
+counted from 1: only `rt try` can do that.
+"""
+
+import os
+from typing import NamedTuple
+
+ROOT = os.path.dirname(os.path.dirname(os.path.abspath(__file__)))
+FOLDER = f"{ROOT}/crates/evloop/cases"
+
+
+class Outcome(NamedTuple):
+    status: int = 0
+    stdout: bytes = b""
+    stderr: bytes = b""
+
+    def differs(self, wanted):
+        """What is not as wanted, in words; nothing where all is."""
+        fields = zip(self._fields, self, wanted)
+        return "; ".join(f"{name} is {got!r:.300} and not {want!r:.300}" for name, got, want in fields if got != want)
+
+
+def read(path, otherwise=b""):
+    try:
+        with open(path, "rb") as it:
+            return it.read()
+    except FileNotFoundError:
+        return otherwise
+
+
+def names():
+    """The cases that any build of the program can be run on."""
+    files = os.listdir(FOLDER)
+    return sorted(it for it in files if "." not in it and f"{it}.refused" not in files)
+
+
+def wanted(name):
+    path = f"{FOLDER}/{name}"
+    return Outcome(int(read(f"{path}.status", b"0")), read(f"{path}.stdout"), read(f"{path}.stderr"))
+
+
+def refused(name):
+    """The words by which `rt try` refuses the case's allocation."""
+    number = read(f"{FOLDER}/{name}.refused").decode().split()
+    return ["--fail-alloc", *number] if number else []
