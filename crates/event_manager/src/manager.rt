@@ -209,3 +209,6 @@ impl<S: MutEventSubscriber + Drop, P: EventPoller> SubscriberOps for EventManage
         self.registry.event_ops(id)
     }
 }
+
+#[cfg(test)]
+mod tests;

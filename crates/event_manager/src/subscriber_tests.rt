@@ -1,4 +1,4 @@
-//! Tests of the last ids, and of what the endpoint's events leave, which nobody outside the crate sees.
+//! Tests of the last ids, which nobody outside the crate can come to.
 
 use crate::Error;
 use crate::events::{EventOps, Events};
@@ -70,25 +70,5 @@ fn no_id_is_left(rt: HostRuntime) -> std::result::Result<(), Fail> {
     let mut registry = make_registry(rt.alloc(), script, u64::MAX)?;
     let refused = registry.add_subscriber(make_single(3)).err();
     assert_eq!(rt; refused, Some(Error::IdsUsedUp));
-    Ok(())
-}
-
-#[test]
-fn endpoint_is_ready_once_and_for_its_batch_alone(
-    rt: HostRuntime,
-) -> std::result::Result<(), Fail> {
-    let mut script = ScriptPoller::new(rt.alloc());
-    for word in [9, 3, 9] {
-        script.push_report(vec![in rt.alloc(); EpollEvent::new(EventSet::IN, word)]?)?;
-    }
-    let mut registry = make_registry(rt.alloc(), script, 1)?;
-    registry.run_with_timeout(-1)?;
-    // Nobody asked after the first batch.
-    for is_ready in [false, true] {
-        registry.run_with_timeout(-1)?;
-        let registrations = &mut registry.ops.epoll.registrations;
-        assert_eq!(rt; registrations.take_endpoint_ready(), is_ready);
-        assert!(rt; !registrations.take_endpoint_ready());
-    }
     Ok(())
 }

@@ -12,6 +12,8 @@ mod endpoint;
 #[cfg(test)]
 mod events;
 #[cfg(test)]
+mod jobs;
+#[cfg(test)]
 mod log;
 #[cfg(test)]
 mod making;

@@ -159,3 +159,44 @@ impl<J, Q> JobQueue<J, Q> {
         self.closed = true;
     }
 }
+
+#[cfg(test)]
+mod tests {
+    use super::*;
+    use std::cell::Cell;
+    use std::test::Fail;
+
+    /// Agrees, and counts its rings.
+    #[derive(Drop)]
+    struct Counting {
+        rings: Cell<u64>,
+    }
+
+    impl Bell for Counting {
+        ghost rings = { λ bell answer. Unit {0} };
+
+        fn ring<R: Wait + Clock>(&self, _rt: &R) -> std::result::Result<(), Errno> {
+            self.rings.set(self.rings.get().saturating_add(1));
+            Ok(())
+        }
+    }
+
+    #[test]
+    fn the_last_ticket_is_issued_once(rt: HostRuntime) -> std::result::Result<(), Fail> {
+        let bell = Counting {
+            rings: Cell::new(0),
+        };
+        let mut queue: JobQueue<char, ()> = JobQueue {
+            waiting: Vec::new(rt.alloc()),
+            taken: 9223372036854775806,
+            issued: 9223372036854775806,
+            closed: false,
+        };
+        let last = queue.send('a', None, &bell, &rt);
+        assert_eq!(rt; last, Ok(9223372036854775807));
+        let refused = queue.send('b', None, &bell, &rt);
+        assert_eq!(rt; refused, Err(Error::TicketsUsedUp));
+        assert_eq!(rt; (bell.rings.get(), queue.waiting()), (1, 1));
+        Ok(())
+    }
+}
