@@ -169,8 +169,49 @@ impl<O: Out> Printer<O> {
 #[cfg(test)]
 mod tests {
     use super::*;
+    use std::io;
     use std::test::Fail;
+    use vmm_sys::epoll::EventSet;
     use vmm_sys::errno::Errno;
+
+    /// Takes all that it is given.
+    #[derive(Drop)]
+    struct Sink;
+
+    impl Write for Sink {
+        fn write(&mut self, bytes: &[u8]) -> io::Result<usize> {
+            Ok(bytes.len())
+        }
+
+        fn flush(&mut self) -> io::Result<()> {
+            Ok(())
+        }
+    }
+
+    impl Out for Sink {
+        fn try_clone(&self) -> Option<Sink> {
+            Some(Sink)
+        }
+    }
+
+    #[test]
+    fn the_longest_lines_take_no_memory(rt: HostRuntime) -> Result<(), Fail> {
+        let mut printer = Printer::new(rt.alloc(), Sink)?;
+        let room = printer.line.capacity();
+        let name = "abcdefghijklmnopqrstuvwxyz012345";
+        let events = Events::with_data_raw(2147483647, 4294967295, EventSet::all());
+        let request = Request::Modify(events);
+        let answer = Err(Error::Epoll(Errno(4095)));
+        printer.print(&OutputLine::Deliver { name, events })?;
+        assert_eq!(rt; printer.line.capacity(), room);
+        printer.print(&OutputLine::Reply {
+            name,
+            request,
+            answer,
+        })?;
+        assert_eq!(rt; printer.line.capacity(), room);
+        Ok(())
+    }
 
     // What no script can bring about.
     #[test]
