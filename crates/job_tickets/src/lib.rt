@@ -8,5 +8,7 @@
 
 pub mod ledgers;
 pub mod taken;
+#[cfg(test)]
+mod tests;
 pub mod tickets;
 mod weights;

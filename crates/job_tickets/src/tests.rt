@@ -1,0 +1,75 @@
+//! Tickets and counts over ledgers that a body is given.
+
+use crate::ledgers::{WithLedgers, with_ledgers};
+use crate::taken::open;
+use crate::tickets::{Register, Ticket};
+use std::alloc::Global;
+use std::sync::ledger::{Blank, Ledger};
+use std::test::Fail;
+
+/// Issues three tickets and gathers two of them, then all.
+#[derive(Drop)]
+struct Gathering {
+    alloc: Global,
+}
+
+/// Whether two of three tickets are all, whether three are, and their numbers then.
+type Gathered = (bool, bool, [u64; 3]);
+
+fn numbers_of<L: Ledger>(tickets: &[Ticket<L>]) -> [u64; 3] {
+    match tickets {
+        [first, second, third] => [first.number(), second.number(), third.number()],
+        _ => [0; 3],
+    }
+}
+
+impl WithLedgers for Gathering {
+    type Output = Option<Gathered>;
+
+    fn run<L: Ledger + Send + Sync, T: Ledger + Send + Sync>(
+        self,
+        tickets: Blank,
+        _taken: Blank,
+    ) -> Option<Gathered> {
+        let mut register = Register::<L>::new(tickets);
+        let (first, second, third) = (register.issue(), register.issue(), register.issue());
+        let mut gathered = Vec::new(self.alloc);
+        gathered.push(third).ok()?;
+        gathered.push(first).ok()?;
+        let are_two_all = register.gather(&mut gathered);
+        gathered.push(second).ok()?;
+        let are_three_all = register.gather(&mut gathered);
+        Some((are_two_all, are_three_all, numbers_of(&gathered)))
+    }
+}
+
+#[test]
+fn all_tickets_are_gathered_and_sorted(rt: HostRuntime) {
+    let gathered = with_ledgers(Gathering { alloc: rt.alloc() });
+    assert_eq!(rt; gathered, Some((false, true, [1, 2, 3])));
+}
+
+/// Counts five jobs, and then two.
+#[derive(Drop)]
+struct Counting;
+
+impl WithLedgers for Counting {
+    type Output = u64;
+
+    fn run<L: Ledger + Send + Sync, T: Ledger + Send + Sync>(
+        self,
+        _tickets: Blank,
+        taken: Blank,
+    ) -> u64 {
+        let (mut book, mut count) = open::<T>(taken);
+        count.add(&mut book, 5);
+        count.add(&mut book, 2);
+        count.count()
+    }
+}
+
+#[test]
+fn taken_jobs_add_up(rt: HostRuntime) -> Result<(), Fail> {
+    assert_eq!(rt; with_ledgers(Counting), 7);
+    Ok(())
+}
