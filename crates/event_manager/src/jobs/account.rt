@@ -113,7 +113,7 @@ fn replay_one<J: Drop, R: Wait + Clock>(
 /// Accepted are the jobs that are sent before the first close and whose bell agrees, up to 9223372036854775807; the n-th
 /// has ticket n. Handed out are those accepted before the last take that comes before the first close.
 ///
-/// `OutOfMemory` alone is refused; all room is made before the first step.
+/// The one refusal is `OutOfMemory`; then nothing of the outcome comes back.
 pub fn replay<J: Drop, R: Wait + Clock>(
     rt: &R,
     alloc: Global,
