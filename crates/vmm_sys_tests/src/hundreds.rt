@@ -1,6 +1,6 @@
 //! A thousand of each thing: no call is refused for want of memory, and none is lost.
 
-use crate::desk::want;
+use crate::fixture::want;
 use crate::host::Host;
 use crate::waiter::no_event;
 use std::process::Abort;

@@ -3,7 +3,7 @@
 #![tactic(auto)]
 
 #[cfg(test)]
-mod desk;
+mod fixture;
 #[cfg(test)]
 mod host;
 #[cfg(test)]

@@ -1,6 +1,6 @@
 //! A table that pollers, counters and lines share, on one thread.
 
-use crate::desk::{HIGHEST, entry, want};
+use crate::fixture::{HIGHEST, entry, want};
 use crate::host::Host;
 use crate::waiter::{Waiter, expect_set, no_event};
 use std::alloc::Global;

@@ -1,6 +1,6 @@
 //! The table, as one owner uses it.
 
-use crate::desk::HIGHEST;
+use crate::fixture::HIGHEST;
 use crate::waiter::no_event;
 use std::alloc::Global;
 use std::test::Fail;

@@ -1,6 +1,6 @@
 //! What ends a wait on another thread.
 
-use crate::desk::{Change, Desk, want};
+use crate::fixture::{Change, Fixture, want};
 use crate::host::{Host, pause};
 use crate::waiter::{Waiter, no_event};
 use std::alloc::Global;
@@ -50,11 +50,11 @@ fn a_set_ends_waits(rt: HostRuntime) -> Result<(), Fail> {
 // The change ends a wait without a limit and one with a long limit, which answer what is ready.
 fn expect_to_end_waits<R: Host>(rt: R, alloc: Global, change: Change) -> Result<(), Fail> {
     for ms in [-1, LONG] {
-        let mut desk = Desk::new(rt, alloc)?;
-        let waiter = Waiter::start(rt, alloc, &desk.epoll, ms)?;
+        let mut fixture = Fixture::new(rt, alloc)?;
+        let waiter = Waiter::start(rt, alloc, &fixture.epoll, ms)?;
         pause(&rt, TO_SLEEP);
         assert!(rt; !waiter.is_over());
-        let event = desk.make(change, &rt)?;
+        let event = fixture.make(change, &rt)?;
         let report = waiter.report(&rt);
         assert_eq!(rt; report.answer, Ok(1));
         assert_eq!(rt; report.buffer, [event, no_event()]);
@@ -64,13 +64,13 @@ fn expect_to_end_waits<R: Host>(rt: R, alloc: Global, change: Change) -> Result<
 
 #[test]
 fn one_write_ends_each_wait(rt: HostRuntime) -> Result<(), Fail> {
-    let mut desk = Desk::new(rt, rt.alloc())?;
+    let mut fixture = Fixture::new(rt, rt.alloc())?;
     let mut waiters = Vec::new(rt.alloc());
     for ms in [-1, LONG, -1] {
-        waiters.push(Waiter::start(rt, rt.alloc(), &desk.epoll, ms)?)?;
+        waiters.push(Waiter::start(rt, rt.alloc(), &fixture.epoll, ms)?)?;
     }
     pause(&rt, TO_SLEEP);
-    desk.make(Change::Write, &rt)?;
+    fixture.make(Change::Write, &rt)?;
     for waiter in waiters {
         assert_eq!(rt; waiter.report(&rt).answer, Ok(1));
     }
@@ -79,11 +79,11 @@ fn one_write_ends_each_wait(rt: HostRuntime) -> Result<(), Fail> {
 
 #[test]
 fn refused_calls_end_no_wait(rt: HostRuntime) -> Result<(), Fail> {
-    let mut desk = Desk::new(rt, rt.alloc())?;
-    let waiter = Waiter::start(rt, rt.alloc(), &desk.epoll, 400)?;
+    let mut fixture = Fixture::new(rt, rt.alloc())?;
+    let waiter = Waiter::start(rt, rt.alloc(), &fixture.epoll, 400)?;
     for _ in 0..15 {
         pause(&rt, 20);
-        let refusals = desk.make_refused(&rt);
+        let refusals = fixture.make_refused(&rt);
         assert_eq!(rt;
             refusals,
             [

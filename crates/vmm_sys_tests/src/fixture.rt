@@ -10,7 +10,7 @@ use vmm_sys::poller::Poller;
 
 pub(crate) const HIGHEST: u64 = 18446744073709551614;
 
-/// A call after which something is ready on a [`Desk`].
+/// A call after which something is ready on a [`Fixture`].
 #[derive(Clone, Copy)]
 pub(crate) enum Change {
     Add,
@@ -23,7 +23,7 @@ pub(crate) enum Change {
 /// A table in which nothing is ready: an empty counter and a line are wanted for `IN`, a full
 /// counter for `OUT`, and a counter of 1 isn't wanted.
 #[derive(Drop)]
-pub(crate) struct Desk<R> {
+pub(crate) struct Fixture<R> {
     pub(crate) epoll: Epoll<R>,
     pub(crate) empty: EventFd,
     full: EventFd,
@@ -31,8 +31,8 @@ pub(crate) struct Desk<R> {
     unwanted: EventFd,
 }
 
-impl<R: Host> Desk<R> {
-    pub(crate) fn new(rt: R, alloc: Global) -> Result<Desk<R>, Errno> {
+impl<R: Host> Fixture<R> {
+    pub(crate) fn new(rt: R, alloc: Global) -> Result<Fixture<R>, Errno> {
         let mut epoll = Epoll::new(rt, alloc)?;
         let empty = EventFd::new(&epoll, 0, &rt)?;
         let full = EventFd::new(&epoll, HIGHEST, &rt)?;
@@ -41,7 +41,7 @@ impl<R: Host> Desk<R> {
         want(&mut epoll, &empty, EventSet::IN)?;
         want(&mut epoll, &full, EventSet::OUT)?;
         want(&mut epoll, &line, EventSet::IN)?;
-        Ok(Desk {
+        Ok(Fixture {
             epoll,
             empty,
             full,
