@@ -20,4 +20,4 @@ module _ {S P : Type 0} {begins : S → Exchanges → S → Type 0} {controls : 
       let fits = subst (λ r. ExchangesFit id r exchanges calls now) stands.registrations idle in
       let led = subst (λ p. Leads controls waits p calls left.epoll.poller) stands.poller made.made.led in
       subst (λ s. HasStepped begins controls waits before (Requested id exchanges calls) s) (sym is)
-      (record { stepped = (value, now, has, fits, refl); led = led; same_capacity = made.made.same_capacity ∙ stands.capacity })
+      (record { stepped = (value, now, has, fits, refl); led = led; same_taken = refl; same_capacity = made.made.same_capacity ∙ stands.capacity })

@@ -19,3 +19,4 @@ pub mod Watching
 pub mod LentSteps
 pub mod Accounts
 pub mod QueueLemmas
+pub mod JobLemmas

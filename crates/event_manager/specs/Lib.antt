@@ -23,3 +23,5 @@ pub mod StepExchanges
 pub mod EitherSubscriber
 pub mod Account
 pub mod JobQueue
+pub mod Endpoint
+pub mod JobRuns

@@ -6,15 +6,16 @@ use Rattle.event_manager.specs.declared.error.Error.{Error}
 use Rattle.event_manager.specs.declared.error.Error.TheVariants.{InvalidId}
 use Rattle.event_manager.specs.declared.events.Request.{Request}
 use Rattle.event_manager.specs.Event.{Event}
-use Rattle.event_manager.specs.PollerCall.{PollerCall, Wait, Controls, Waits, Leads}
+use Rattle.event_manager.specs.PollerCall.{PollerCall, Controls, Waits, Leads}
 use Rattle.event_manager.specs.Exchange.{Exchanges, Answer}
 use Rattle.event_manager.specs.Registry.{Registry, Step, Steps, Joined, NotJoined, Left, NotLeft, Requested, NotRequested, calls_of}
 use Rattle.event_manager.specs.Dispatch.{Position, IsDispatch}
-use Rattle.event_manager.specs.Iteration.{AllSteps, calls_of_steps, calls_of_positions, answer_of}
+use Rattle.event_manager.specs.Iteration.{ManagerState, Iteration, AllSteps, IsIteration, calls_of_steps, calls_of_iteration, answer_of}
 
--- the subscribers, the next id and the registrations; the poller; the capacity of a batch
+-- the subscribers, the next id and the registrations; how many jobs were taken; the poller; the capacity of a batch
 pub record LoopState (S P : Type 0) : Type 0 where
   pub registry : Registry S
+  pub taken : ℕ
   pub poller : P
   pub capacity : ℕ
 
@@ -22,9 +23,14 @@ pub record LoopState (S P : Type 0) : Type 0 where
 abbrev pub new_loop : {S P : Type 0} → ℕ → P → ℕ → LoopState S P
 new_loop endpoint poller capacity = record {
   registry = record { values = map.empty; next = 1; registrations = record { owner = map.empty; endpoint = endpoint; pending = [] } };
+  taken = 0;
   poller = poller;
   capacity = capacity;
 }
+
+-- without poller and capacity
+abbrev pub manager_state : {S P : Type 0} → LoopState S P → ManagerState S
+manager_state state = record { registry = state.registry; taken = state.taken }
 
 -- with another value at the id
 abbrev pub with_value : {S P : Type 0} → LoopState S P → ℕ → S → LoopState S P
@@ -35,12 +41,14 @@ module _ {S P : Type 0} (begins : S → Exchanges → S → Type 0) (controls : 
   pub record HasStepped (before : LoopState S P) (step : Step S) (after : LoopState S P) : Type 0 where
     pub stepped : Steps begins before.registry step after.registry
     pub led : Leads controls waits before.poller (calls_of step) after.poller
+    pub same_taken : after.taken ≡ before.taken
     pub same_capacity : after.capacity ≡ before.capacity
 
   -- the steps were made, one after another
   pub record HaveStepped (before : LoopState S P) (steps : List (Step S)) (after : LoopState S P) : Type 0 where
     pub stepped : AllSteps begins before.registry steps after.registry
     pub led : Leads controls waits before.poller (calls_of_steps steps) after.poller
+    pub same_taken : after.taken ≡ before.taken
     pub same_capacity : after.capacity ≡ before.capacity
 
 -- the step of a join, by what it answered
@@ -64,11 +72,12 @@ module _ {S : Type 0} (serves : S → Event → Exchanges → S → Type 0) wher
   IsDispatchedAfter (Ok report) positions before after = IsDispatch serves before report positions after
   IsDispatchedAfter (Err errno) positions before after = (positions ≡ []) × (after ≡ before)
 
-  -- An iteration of the loop: one wait with the capacity, and the dispatch of what that wait reported.
+module _ {S J R : Type 0} (begins : S → Exchanges → S → Type 0) (serves : S → Event → Exchanges → S → Type 0) (may : J → List (Step S) → R → Type 0) where
+  -- An iteration of the loop: one wait with the capacity, the dispatch of what that wait reported, and the jobs after it.
   pub record IsLoopIteration {P : Type 0} (controls : Controls P) (waits : Waits P) (before : LoopState S P) (ms : ℤ) (result : Result ℕ Error) (after : LoopState S P) : Type 0 where
-    pub waited : Result (List Event) Errno
-    pub positions : List (Position S)
-    pub answer : result ≡ answer_of waited
-    pub dispatched : IsDispatchedAfter waited positions before.registry after.registry
-    pub led : Leads controls waits before.poller (Wait ms before.capacity waited ∷ calls_of_positions positions) after.poller
+    pub iteration : Iteration S J R
+    pub milliseconds : iteration.ms ≡ ms
+    pub answer : result ≡ answer_of iteration.waited
+    pub iterated : IsIteration begins serves may (manager_state before) iteration (manager_state after)
+    pub led : Leads controls waits before.poller (calls_of_iteration before.capacity iteration) after.poller
     pub same_capacity : after.capacity ≡ before.capacity

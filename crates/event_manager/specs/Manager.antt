@@ -12,8 +12,8 @@ use Rattle.event_manager.specs.declared.error.Error.TheVariants.{ChannelSend, Ch
 use Rattle.event_manager.specs.declared.error.Error.TheVariants as error
 use Rattle.event_manager.specs.declared.manager.EventManager.{EventManager}
 
-abbrev pub state_of : {S P : Type 0} → EventManager S P → LoopState S P
-state_of m = loop_state m.registry
+abbrev pub state_of : {S J L T P R : Type 0} → EventManager S J L T P R → LoopState S P
+state_of m = record (loop_state m.registry) { taken = m.channel }
 
 -- the number of the endpoint's descriptor
 abbrev pub endpoint_of : EventFd → ℕ
@@ -42,7 +42,7 @@ module _ {P : Type 0} (controls : Controls P) (poller : P) (endpoint capacity : 
   IsMakingRefused TicketsUsedUp = ⊥
 
   -- a new manager, whose poller agreed to add the endpoint's descriptor; or a refusal
-  abbrev pub IsMade : {S : Type 0} → Result (EventManager S P) Error → Type 0
-  IsMade (Ok manager) =
-      (capacity ≤ max_capacity) × (after : P) × controls poller operation.Add endpoint (endpoint_event endpoint) (Ok tt) after × (state_of manager ≡ new_loop endpoint after capacity)
-  IsMade (Err error) = IsMakingRefused error
+  abbrev pub IsMade : {S M : Type 0} → (M → LoopState S P) → Result M Error → Type 0
+  IsMade state (Ok manager) =
+      (capacity ≤ max_capacity) × (after : P) × controls poller operation.Add endpoint (endpoint_event endpoint) (Ok tt) after × (state manager ≡ new_loop endpoint after capacity)
+  IsMade state (Err error) = IsMakingRefused error

@@ -32,6 +32,7 @@ pub record StandsFor {S P : Type 0} (ops : EventOps P) (id : ℕ) (state : LoopS
 abbrev pub with_ops : {S P : Type 0} → LoopState S P → EventOps P → LoopState S P
 with_ops state ops = record {
   registry = record state.registry { registrations = record (registrations_of ops.epoll.registrations) { pending = [] } };
+  taken = state.taken;
   poller = ops.epoll.poller;
   capacity = ops.epoll.registrations.capacity;
 }

@@ -25,9 +25,9 @@ module _ {S P : Type 0} where
   abbrev pub registry_of : Registry S P → model.Registry S
   registry_of r = record { values = map.from_entries r.subscribers.entries; next = r.next; registrations = registrations_of r.ops.epoll.registrations }
 
-  -- between two batches nothing is pending: the next wait writes over the ready list
+  -- between two batches nothing is pending: the next wait writes over the ready list; a registry alone takes no jobs
   abbrev pub loop_state : Registry S P → LoopState S P
-  loop_state r = record { registry = idle (registry_of r); poller = r.ops.epoll.poller; capacity = r.ops.epoll.registrations.capacity }
+  loop_state r = record { registry = idle (registry_of r); taken = 0; poller = r.ops.epoll.poller; capacity = r.ops.epoll.registrations.capacity }
 
   module _ (serves : S → Event → Exchanges → S → Type 0) where
     -- the position had this outcome; `cancelled` says whether it was cancelled before, `later` is what comes after it

@@ -1,5 +1,4 @@
-//! Jobs on the loop's registry, between two batches, and the queue in which they wait. The laws speak of histories with
-//! jobs; no call of a manager runs one yet.
+//! Jobs on the loop's registry, between two batches, and the queue in which they wait.
 
 pub mod account;
 pub mod job;

@@ -2,11 +2,12 @@
 //!
 //! Subscribers register descriptors with a poller through an [`EventOps`]. Each run of an [`EventManager`] waits once
 //! and hands each event of the report, in order, to the subscriber that owns its descriptor at that moment, unless the
-//! descriptor was removed since the poll.
+//! descriptor was removed since the poll. Then it runs the jobs that a [`RemoteEndpoint`] has sent, each once.
 #![tactic(auto)]
 
 pub mod boxed_subscriber;
 pub mod calls;
+pub mod endpoint;
 pub mod epoll;
 pub mod error;
 pub mod events;
@@ -21,8 +22,13 @@ mod watch_lists;
 pub mod wrappers;
 
 pub use boxed_subscriber::{BoxedSubscriber, StepInput, StepSubscriber};
+pub use endpoint::RemoteEndpoint;
+pub use endpoint::closed::Closed;
 pub use error::{Error, Result};
 pub use events::{EventOps, Events, Request};
+pub use job_tickets::ledgers::{WithLedgers, with_ledgers};
+pub use job_tickets::tickets::Ticket;
+pub use jobs::{Job, NoJob};
 pub use manager::{EventManager, MAX_READY_EVENTS_CAPACITY, SubscriberOps};
 pub use poller::{BoxedPoller, EventPoller, PlainPoller};
 pub use subscribers::{EventSubscriber, MutEventSubscriber, Registry, SubscriberId};

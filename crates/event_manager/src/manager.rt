@@ -9,12 +9,17 @@ ghost use Rattle.event_manager.specs.LoopState.{HasStepped, IsJoin, IsLeave, IsL
 ghost use Rattle.event_manager.specs.Subscribers.{loop_state};
 ghost use Rattle.event_manager.specs.Manager.{state_of, endpoint_of, IsMade};
 
+use crate::endpoint::RemoteEndpoint;
+use crate::endpoint::channel::EventManagerChannel;
+use crate::endpoint::closed::Closed;
 use crate::events::{EventOps, Events};
+use crate::jobs::Job;
 use crate::poller::{BoxedPoller, EventPoller};
 use crate::subscribers::{MutEventSubscriber, Registry, SubscriberId};
 use crate::{Error, Result};
 use std::alloc::Global;
 use std::sync::Wait;
+use std::sync::ledger::{Blank, Ledger};
 use std::time::Clock;
 use vmm_sys::epoll::{ControlOperation, EventSet};
 use vmm_sys::eventfd::EventFd;
@@ -108,28 +113,49 @@ impl<S: MutEventSubscriber + Drop, P: EventPoller> SubscriberOps for Registry<S,
     }
 }
 
-/// An event loop over a poller, and the subscribers that it serves.
+/// An event loop over a poller, the subscribers that it serves, and the jobs that its endpoints send.
+///
+/// `L` and `T` are the ledgers of the tickets and of the taken jobs; [`with_ledgers`](crate::with_ledgers) names them.
+/// Where no jobs are needed, `J` is [`NoJob`](crate::jobs::NoJob).
 #[derive(Drop)]
-pub struct EventManager<S, P = BoxedPoller> {
+pub struct EventManager<
+    S: MutEventSubscriber,
+    J: Job<S>,
+    L: Ledger,
+    T: Ledger,
+    P = BoxedPoller,
+> {
     registry: Registry<S, P>,
-    event_fd: EventFd,
+    channel: EventManagerChannel<S, J, L, T>,
 }
 
-impl<S: MutEventSubscriber, P: EventPoller> EventManager<S, P> {
+impl<S: MutEventSubscriber, J: Job<S>, L: Ledger, T: Ledger, P: EventPoller>
+    EventManager<S, J, L, T, P>
+{
     /// A manager with capacity 256, as [`new_with_capacity`](EventManager::new_with_capacity) makes it.
-    pub fn new(alloc: Global, poller: P, event_fd: EventFd) -> Result<Self>
+    pub fn new(
+        alloc: Global,
+        poller: P,
+        event_fd: EventFd,
+        tickets: Blank,
+        taken: Blank,
+    ) -> Result<Self>
     where
         S: Drop,
         P: Drop,
-        ensures { IsMade P.controls poller (endpoint_of event_fd) 256 result }
+        requires tickets_name { tickets.name ≡ L.name }
+        requires tickets_parts { (tickets.parts ≡ L.parts) × (tickets.parts ≡ 9223372036854775808) }
+        requires taken_name { taken.name ≡ T.name }
+        requires taken_parts { (taken.parts ≡ T.parts) × (taken.parts ≡ 1) }
+        ensures { IsMade P.controls poller (endpoint_of event_fd) 256 state_of result }
     {
-        EventManager::new_with_capacity(alloc, poller, event_fd, DEFAULT_CAPACITY)
+        EventManager::new_with_capacity(alloc, poller, event_fd, DEFAULT_CAPACITY, tickets, taken)
     }
 
     /// A manager with no subscriber, whose batches have up to `capacity` events. Its endpoint is `event_fd`.
     ///
     /// The poller is asked to add the endpoint's descriptor with the set `IN` and the descriptor as word. Capacity 0
-    /// passes here, and is left to the poller's `wait`.
+    /// passes here, and is left to the poller's `wait`. The blanks are those of [`with_ledgers`](crate::with_ledgers).
     ///
     /// Refused, in this order, and neither poller nor `event_fd` comes back: `InvalidCapacity` above
     /// [`MAX_READY_EVENTS_CAPACITY`], where the poller isn't asked; `OutOfMemory`; `Epoll` with the number that the
@@ -139,11 +165,17 @@ impl<S: MutEventSubscriber, P: EventPoller> EventManager<S, P> {
         poller: P,
         event_fd: EventFd,
         capacity: usize,
+        tickets: Blank,
+        taken: Blank,
     ) -> Result<Self>
     where
         S: Drop,
         P: Drop,
-        ensures { IsMade P.controls poller (endpoint_of event_fd) capacity result }
+        requires tickets_name { tickets.name ≡ L.name }
+        requires tickets_parts { (tickets.parts ≡ L.parts) × (tickets.parts ≡ 9223372036854775808) }
+        requires taken_name { taken.name ≡ T.name }
+        requires taken_parts { (taken.parts ≡ T.parts) × (taken.parts ≡ 1) }
+        ensures { IsMade P.controls poller (endpoint_of event_fd) capacity state_of result }
     {
         if capacity > MAX_READY_EVENTS_CAPACITY {
             return Err(Error::InvalidCapacity);
@@ -152,41 +184,72 @@ impl<S: MutEventSubscriber, P: EventPoller> EventManager<S, P> {
         let Ok(mut registry) = Registry::new(alloc, poller, events.number(), capacity) else {
             return Err(Error::OutOfMemory);
         };
+        let Ok(channel) = EventManagerChannel::new(alloc, event_fd, tickets, taken) else {
+            return Err(Error::OutOfMemory);
+        };
         match registry.ops.epoll.ctl(ControlOperation::Add, events) {
-            Ok(()) => Ok(EventManager { registry, event_fd }),
+            Ok(()) => Ok(EventManager { registry, channel }),
             Err(e) => Err(Error::Epoll(e)),
         }
     }
 
     /// [`run_with_timeout`](EventManager::run_with_timeout) without a limit.
     pub fn run<R: Wait + Clock>(&mut self, rt: &R) -> Result<usize>
-        ensures { IsLoopIteration S.serves P.controls P.waits (state_of self.old) (negsuc 0) result (state_of self.new) }
+        ensures { IsLoopIteration S.begins S.serves J.may P.controls P.waits (state_of self.old) (negsuc 0) result (state_of self.new) }
     {
         self.run_with_timeout(-1, rt)
     }
 
-    /// Waits once, for at most `ms` milliseconds (negative: without a limit), and dispatches what is reported.
+    /// Waits once, for at most `ms` milliseconds (negative: without a limit), dispatches what is reported, and then runs
+    /// the jobs that wait.
     ///
     /// Each event goes, in the order of the report and once, to the subscriber that owns its descriptor at its turn,
     /// unless a `remove` of that descriptor has succeeded since the wait; else to nobody. Events on the endpoint's
-    /// descriptor go to nobody; where there was one, the endpoint's `EventFd` is read once, after all deliveries.
-    /// Answers how many events were reported, cancelled ones and those of nobody included.
+    /// descriptor go to nobody; where there was one, then after all deliveries the endpoint's `EventFd` is read once, all
+    /// jobs that wait are taken, and each is run once, in the order of the tickets. The queue's lock is free while they
+    /// run; a job that is sent meanwhile waits for a later run. Answers how many events were reported, cancelled ones and
+    /// those of nobody included.
     ///
     /// An interrupted wait (`EINTR`) answers 0; one that is refused with another number is `Epoll` with it. Then nobody
     /// is called and nothing changes but the poller. A run whose wait succeeded answers `Ok`, and takes no memory of
     /// the manager's.
     pub fn run_with_timeout<R: Wait + Clock>(&mut self, ms: i32, rt: &R) -> Result<usize>
-        ensures { IsLoopIteration S.serves P.controls P.waits (state_of self.old) ms result (state_of self.new) }
+        ensures { IsLoopIteration S.begins S.serves J.may P.controls P.waits (state_of self.old) ms result (state_of self.new) }
     {
         let batch = self.registry.run_with_timeout(ms)?;
         if batch.endpoint_ready {
-            let _ = self.event_fd.read(rt);
+            self.channel.run_jobs(&mut self.registry, rt);
         }
         Ok(batch.count)
     }
+
+    /// An endpoint, by which other threads send jobs to this manager. `OutOfMemory` where one more owner is refused.
+    pub fn remote_endpoint(&self) -> Result<RemoteEndpoint<S, J, L, T>>
+        ensures refusals { IfErr result (λ e. e ≡ Error.OutOfMemory) }
+    {
+        self.channel.remote_endpoint()
+    }
+
+    /// Closes the queue in one turn: from then on a send is refused with `ChannelSend`. The jobs that wait are dropped, and
+    /// whoever waits for a reply of theirs gets `ChannelRecv`. Then subscribers and poller are dropped; the poller is
+    /// asked for nothing.
+    pub fn close<R: Wait + Clock>(self, rt: &R) -> Closed<L>
+    where
+        S: Drop,
+        P: Drop,
+        ensures taken { result.taken ≡ (state_of self).taken }
+    {
+        let EventManager {
+            registry: _,
+            channel,
+        } = self;
+        channel.close(rt)
+    }
 }
 
-impl<S: MutEventSubscriber + Drop, P: EventPoller> SubscriberOps for EventManager<S, P> {
+impl<S: MutEventSubscriber + Drop, J: Job<S>, L: Ledger, T: Ledger, P: EventPoller> SubscriberOps
+    for EventManager<S, J, L, T, P>
+{
     type Subscriber = S;
 
     type Poller = P;

@@ -16,7 +16,7 @@ use std::time::Clock;
 /// what holds of each reply.
 pub trait Job<S: MutEventSubscriber>: Drop {
     /// What the job replies.
-    type Reply;
+    type Reply: Drop;
 
     ghost use Rattle.std.specs.Prelude.{List};
     ghost use Rattle.event_manager.specs.Registry.{Step};

@@ -1,9 +1,11 @@
 //! What a run does with an endpoint that is written to again, which nobody outside the crate can do.
 
 use super::*;
+use crate::{NoJob, WithLedgers, with_ledgers};
 use crate::poller::PlainPoller;
 use std::test::Fail;
 use vmm_sys::epoll::{Epoll, EpollEvent};
+use vmm_sys::errno::Errno;
 use vmm_sys::script_poller::ScriptPoller;
 
 /// Asks for nothing.
@@ -22,20 +24,56 @@ impl MutEventSubscriber for Idle {
     fn init<P: EventPoller>(&mut self, _ops: &mut EventOps<P>) {}
 }
 
+/// Two runs over this script and endpoint, and a kick between them; what is then left in the endpoint.
+struct TwoRuns<'a, R> {
+    rt: &'a R,
+    alloc: Global,
+    script: ScriptPoller,
+    event_fd: EventFd,
+}
+
+impl<R: Wait + Clock> WithLedgers for TwoRuns<'_, R> {
+    type Output = Result<std::result::Result<u64, Errno>>;
+
+    fn run<L: Ledger + Send + Sync, T: Ledger + Send + Sync>(
+        self,
+        tickets: Blank,
+        taken: Blank,
+    ) -> Result<std::result::Result<u64, Errno>> {
+        let TwoRuns {
+            rt,
+            alloc,
+            script,
+            event_fd,
+        } = self;
+        let poller = PlainPoller(script);
+        let mut manager =
+            EventManager::<Idle, NoJob, L, T, _>::new(alloc, poller, event_fd, tickets, taken)?;
+        let endpoint = manager.remote_endpoint()?;
+        manager.run(rt)?;
+        endpoint.kick(rt)?;
+        manager.run(rt)?;
+        Ok(endpoint.channel.event_fd.read(rt))
+    }
+}
+
 #[test]
 fn endpoint_event_is_answered_by_its_own_run_alone(
     rt: HostRuntime,
 ) -> std::result::Result<(), Fail> {
-    let epoll = Epoll::new(rt, rt.alloc())?;
-    let endpoint = EventFd::new(&epoll, 3, &rt)?;
-    let mut script = ScriptPoller::new(rt.alloc());
+    let alloc = rt.alloc();
+    let epoll = Epoll::new(rt, alloc)?;
+    let event_fd = EventFd::new(&epoll, 3, &rt)?;
+    let mut script = ScriptPoller::new(alloc);
     for word in [0, 7] {
-        script.push_report(vec![in rt.alloc(); EpollEvent::new(EventSet::IN, word)]?)?;
+        script.push_report(vec![in alloc; EpollEvent::new(EventSet::IN, word)]?)?;
     }
-    let mut manager = EventManager::<Idle, _>::new(rt.alloc(), PlainPoller(script), endpoint)?;
-    assert_eq!(rt; manager.run(&rt), Ok(1));
-    assert_eq!(rt; manager.event_fd.write(5, &rt), Ok(()));
-    assert_eq!(rt; manager.run(&rt), Ok(1));
-    assert_eq!(rt; manager.event_fd.read(&rt), Ok(5));
+    let left = with_ledgers(TwoRuns {
+        rt: &rt,
+        alloc,
+        script,
+        event_fd,
+    });
+    assert_eq!(rt; left, Ok(Ok(1)));
     Ok(())
 }

@@ -20,7 +20,7 @@ same_registry r es same = ap (λ xs. idle (record { values = from_entries {R = n
 pub returns-in-Err : goal.returns-in-Err
 returns-in-Err g c =
     let same = same_registry c.args.self.now _ c.in-Err.ensures.err in
-    (NotJoined c.args.subscriber OutOfMemory, refl, record { stepped = (inr (omega (arith, c.if-self.false), refl), same); led = refl; same_capacity = refl })
+    (NotJoined c.args.subscriber OutOfMemory, refl, record { stepped = (inr (omega (arith, c.if-self.false), refl), same); led = refl; same_taken = refl; same_capacity = refl })
 
 pub returns : goal.returns
 returns g c =
@@ -40,6 +40,7 @@ returns g c =
       record {
         stepped = (_, omega (arith, c.if-self.false), refl, fits, began, λ k. record { values = values k; next = id + 1; registrations = record after { pending = [] } });
         led = called.3.made.led;
+        same_taken = refl;
         same_capacity = called.3.made.same_capacity;
       },
     )

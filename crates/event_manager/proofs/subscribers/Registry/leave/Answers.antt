@@ -20,6 +20,7 @@ returns-in-Some g c =
       record {
         stepped = (released.fds, has, released.owned, released.deletes, λ k. record { values = values k; next = old.next; registrations = record (registrations k) { pending = [] } });
         led = released.led;
+        same_taken = refl;
         same_capacity = ap (λ (b : RegistrationState). b.capacity) released.freed;
       },
     )
@@ -29,4 +30,4 @@ returns-in-None g c =
     let old = c.args.self.now in
     let lacks = get_of_tree nat_cmp_total old.subscribers c.args.id ∙ sym c.in-None.ensures.value in
     let same = ap (λ es. idle (record { values = from_entries {R = nat_cmp} es; next = old.next; registrations = registrations_of old.ops.epoll.registrations })) c.in-None.ensures.unchanged in
-    (NotLeft c.args.id, (refl, refl), record { stepped = (lacks, same); led = refl; same_capacity = refl })
+    (NotLeft c.args.id, (refl, refl), record { stepped = (lacks, same); led = refl; same_taken = refl; same_capacity = refl })

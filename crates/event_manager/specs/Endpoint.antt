@@ -1,0 +1,17 @@
+-- Which refusals the calls of an endpoint may answer.
+use Rattle.std.specs.Prelude.{◌≡◌, ◌⊎◌}
+use Rattle.vmm_sys.specs.declared.errno.Errno.{Errno}
+use Rattle.event_manager.specs.declared.error.Error.{Error}
+use Rattle.event_manager.specs.declared.error.Error.TheVariants.{ChannelSend, ChannelRecv, EventFd, OutOfMemory, TicketsUsedUp}
+
+-- of a ring: what the EventFd answered
+abbrev pub IsRingRefusal : Error → Type 0
+IsRingRefusal e = (errno : Errno) × (e ≡ EventFd errno)
+
+-- of a send: closed, no ticket left, no memory, or the ring's
+abbrev pub IsSendRefusal : Error → Type 0
+IsSendRefusal e = (e ≡ ChannelSend) ⊎ (e ≡ TicketsUsedUp) ⊎ (e ≡ OutOfMemory) ⊎ IsRingRefusal e
+
+-- of a call: those of a send, or closed before the job ran
+abbrev pub IsCallRefusal : Error → Type 0
+IsCallRefusal e = (e ≡ ChannelRecv) ⊎ IsSendRefusal e

@@ -1,0 +1,115 @@
+//! The remote endpoint, by which other threads send jobs to the loop.
+
+ghost use Rattle.std.specs.Prelude.{◌≡◌, ◌<◌, IfOk, IfErr};
+ghost use Rattle.event_manager.specs.Endpoint.{IsSendRefusal, IsCallRefusal, IsRingRefusal};
+ghost use Rattle.event_manager.specs.declared.error.Error.TheVariants.{OutOfMemory};
+
+pub(crate) mod channel;
+pub(crate) mod closed;
+mod slot;
+mod state;
+
+use crate::endpoint::channel::Channel;
+use crate::endpoint::slot::Slot;
+use crate::jobs::Job;
+use crate::subscribers::MutEventSubscriber;
+use crate::{Error, Result};
+use job_tickets::tickets::Ticket;
+use std::sync::ledger::Ledger;
+use std::sync::{Arc, Wait};
+use std::time::Clock;
+
+/// Sends jobs to the manager that it comes from, from any thread.
+///
+/// The queue of a manager that was dropped without [`close`](crate::EventManager::close) stays open: sends are still
+/// accepted, nobody runs the jobs, and a `call_blocking` waits for ever. `close` is the way out.
+#[derive(Drop)]
+pub struct RemoteEndpoint<S: MutEventSubscriber, J: Job<S>, L: Ledger, T: Ledger> {
+    pub(crate) channel: Arc<Channel<S, J, L, T>>,
+}
+
+impl<S: MutEventSubscriber, J: Job<S>, L: Ledger, T: Ledger> RemoteEndpoint<S, J, L, T> {
+    /// Sends a job, which the loop runs once, in the order of the tickets, after a later batch. The ticket may be dropped.
+    ///
+    /// Refused, in this order, the queue as it was and the job dropped: `ChannelSend` where the manager was closed;
+    /// `TicketsUsedUp` where 9223372036854775807 tickets were issued; `OutOfMemory`; `EventFd` with the number with which
+    /// the endpoint's `EventFd` refuses the ring (`EAGAIN`: its value is full).
+    pub fn fire<R: Wait + Clock>(&self, job: J, rt: &R) -> Result<Ticket<L>>
+        ensures refusals { IfErr result IsSendRefusal }
+    {
+        let channel = &*self.channel;
+        channel
+            .state
+            .lock(rt)
+            .send(job, None, &channel.event_fd, rt)
+    }
+
+    /// As [`fire`](RemoteEndpoint::fire), with a ticket above the shown one: so the jobs that one thread sends in this
+    /// way run in the order in which it sent them.
+    ///
+    /// Refused as `fire`; `TicketsUsedUp` also where the shown number is above what was issued, which is so of no ticket
+    /// that an endpoint of this manager gave.
+    pub fn fire_after<R: Wait + Clock>(
+        &self,
+        shown: &Ticket<L>,
+        job: J,
+        rt: &R,
+    ) -> Result<Ticket<L>>
+        ensures above { IfOk result (λ n. shown.now < n) }
+        ensures refusals { IfErr result IsSendRefusal }
+    {
+        let channel = &*self.channel;
+        channel
+            .state
+            .lock(rt)
+            .send_after(shown, job, None, &channel.event_fd, rt)
+    }
+
+    /// Sends a job, and waits for its reply. On the loop's own thread it waits for ever, as in the Rust crate.
+    ///
+    /// Refused before it waits, the queue as it was and the job dropped: `OutOfMemory` where there is no memory for the
+    /// reply's place, then as [`fire`](RemoteEndpoint::fire). `ChannelRecv` where the manager was closed before the job
+    /// ran.
+    pub fn call_blocking<R: Wait + Clock>(&self, job: J, rt: &R) -> Result<J::Reply>
+        ensures fact { IfOk result (λ r. J.replies r) }
+        ensures refusals { IfErr result IsCallRefusal }
+    {
+        let channel = &*self.channel;
+        let Ok(own) = Arc::new(channel.alloc, Slot::new()) else {
+            return Err(Error::OutOfMemory);
+        };
+        let Ok(theirs) = Arc::try_clone(&own) else {
+            return Err(Error::OutOfMemory);
+        };
+        let _ticket = channel
+            .state
+            .lock(rt)
+            .send(job, Some(theirs), &channel.event_fd, rt)?;
+        own.wait(rt)
+    }
+
+    /// Ends the loop's wait: writes 1 to the endpoint's `EventFd`. Takes no memory.
+    ///
+    /// `EventFd` with the number with which it is refused; then nothing changes.
+    pub fn kick<R: Wait + Clock>(&self, rt: &R) -> Result<()>
+        ensures refusals { IfErr result IsRingRefusal }
+    {
+        self.channel.event_fd.write(1, rt).map_err(Error::EventFd)
+    }
+
+    /// Another endpoint of the same manager. `OutOfMemory` where one more owner is refused.
+    pub fn try_clone(&self) -> Result<Self>
+        ensures refusals { IfErr result (λ e. e ≡ OutOfMemory) }
+    {
+        match Arc::try_clone(&self.channel) {
+            Ok(channel) => Ok(RemoteEndpoint { channel }),
+            Err(_) => Err(Error::OutOfMemory),
+        }
+    }
+
+    /// How many jobs wait; `None` where the queue's lock is held at this moment. It waits for nobody, and takes no memory.
+    pub fn pending(&self) -> Option<usize> {
+        let state = self.channel.state.try_lock()?;
+        Some(state.waiting())
+    }
+}

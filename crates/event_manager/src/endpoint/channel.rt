@@ -1,0 +1,172 @@
+//! What a manager and its endpoints share, and the manager's side of it.
+
+ghost use Rattle.std.specs.Prelude.{◌≡◌, [], IfErr, IfOk};
+ghost use Rattle.event_manager.specs.JobQueue.{tickets_and_jobs};
+ghost use Rattle.event_manager.specs.JobRuns.{HasRun, HaveRun, JobsAreRun};
+ghost use Rattle.event_manager.specs.Subscribers.{loop_state};
+
+use crate::endpoint::RemoteEndpoint;
+use crate::endpoint::closed::Closed;
+use crate::endpoint::slot::Slot;
+use crate::endpoint::state::ChannelState;
+use crate::jobs::{Entry, Job};
+use crate::poller::EventPoller;
+use crate::subscribers::{MutEventSubscriber, Registry};
+use crate::{Error, Result};
+use job_tickets::taken;
+use job_tickets::taken::TakenCount;
+use job_tickets::tickets::Register;
+use std::alloc::{AllocError, Global};
+use std::marker::Model;
+use std::sync::ledger::{Blank, Ledger};
+use std::sync::{Arc, Mutex, Wait};
+use std::time::Clock;
+use vmm_sys::eventfd::EventFd;
+
+/// What a manager and its endpoints share.
+#[derive(Drop)]
+pub(crate) struct Channel<S: MutEventSubscriber, J: Job<S>, L: Ledger, T: Ledger> {
+    pub(crate) state: Mutex<ChannelState<J, Arc<Slot<S, J>>, L, T>>,
+    pub(crate) event_fd: EventFd,
+    // Of the slots.
+    pub(crate) alloc: Global,
+}
+
+// A job that waits, with the slot of its caller.
+type WaitingJob<S, J> = Entry<J, Arc<Slot<S, J>>>;
+
+// Runs a job, and hands its reply to the caller that waits for it, if one does.
+fn run_one<S: MutEventSubscriber, J: Job<S>, P: EventPoller, R: Wait + Clock>(
+    entry: WaitingJob<S, J>,
+    registry: &mut Registry<S, P>,
+    rt: &R,
+)
+    ensures { HasRun S.begins J.may P.controls P.waits (loop_state registry.old) entry.job (loop_state registry.new) }
+{
+    let Entry {
+        ticket: _,
+        job,
+        slot,
+    } = entry;
+    let reply = job.call(registry, rt);
+    if let Some(slot) = slot {
+        slot.fill(reply, rt);
+    }
+}
+
+// Runs all jobs, the first one first.
+fn run_all<S: MutEventSubscriber, J: Job<S>, P: EventPoller, R: Wait + Clock>(
+    entries: &mut Vec<WaitingJob<S, J>>,
+    registry: &mut Registry<S, P>,
+    rt: &R,
+)
+    ensures ran { HaveRun S.begins J.may P.controls P.waits (loop_state registry.old) (tickets_and_jobs entries.old.items) (loop_state registry.new) }
+    ensures none_left { entries.new.items ≡ [] }
+{
+    entries.reverse();
+    while let Some(entry) = entries.pop() {
+        run_one(entry, registry, rt);
+    }
+}
+
+// Drops these jobs, and tells the callers that wait for their replies.
+fn close_all<S: MutEventSubscriber, J: Job<S>, R: Wait + Clock>(
+    entries: &mut Vec<WaitingJob<S, J>>,
+    rt: &R,
+) {
+    while let Some(Entry { slot, .. }) = entries.pop() {
+        if let Some(slot) = slot {
+            slot.close(rt);
+        }
+    }
+}
+
+/// The manager's side of the channel: it alone takes jobs. Contracts see how many it took.
+#[derive(Drop)]
+pub(crate) struct EventManagerChannel<S: MutEventSubscriber, J: Job<S>, L: Ledger, T: Ledger> {
+    channel: Arc<Channel<S, J, L, T>>,
+    taken: TakenCount<T>,
+    // The list of the next take: it is empty between two runs, and keeps its room.
+    next: Vec<WaitingJob<S, J>>,
+}
+
+impl<S: MutEventSubscriber, J: Job<S>, L: Ledger, T: Ledger> Model for EventManagerChannel<S, J, L, T> {
+    ghost use Rattle.std.specs.Prelude.{◌≡◌, ℕ, []};
+
+    ghost Value = { ℕ };
+
+    ghost view = { λ c. c.taken };
+
+    ghost invariant = { λ c. c.next.items ≡ [] };
+}
+
+impl<S: MutEventSubscriber, J: Job<S>, L: Ledger, T: Ledger> EventManagerChannel<S, J, L, T> {
+    /// An open channel in which no job waits.
+    pub(crate) fn new(
+        alloc: Global,
+        event_fd: EventFd,
+        tickets: Blank,
+        taken: Blank,
+    ) -> std::result::Result<Self, AllocError>
+        requires tickets_name { tickets.name ≡ L.name }
+        requires tickets_parts { (tickets.parts ≡ L.parts) × (tickets.parts ≡ 9223372036854775808) }
+        requires taken_name { taken.name ≡ T.name }
+        requires taken_parts { (taken.parts ≡ T.parts) × (taken.parts ≡ 1) }
+        ensures { IfOk result (λ c. c ≡ 0) }
+    {
+        let (book, count) = taken::open::<T>(taken);
+        let state = ChannelState::new(alloc, Register::new(tickets), book);
+        let channel = Channel {
+            state: Mutex::new(state),
+            event_fd,
+            alloc,
+        };
+        Ok(EventManagerChannel {
+            channel: Arc::new(alloc, channel)?,
+            taken: count,
+            next: Vec::new(alloc),
+        })
+    }
+
+    /// An endpoint of this channel. `OutOfMemory` where one more owner is refused.
+    pub(crate) fn remote_endpoint(&self) -> Result<RemoteEndpoint<S, J, L, T>>
+        ensures refusals { IfErr result (λ e. e ≡ Error.OutOfMemory) }
+    {
+        match Arc::try_clone(&self.channel) {
+            Ok(channel) => Ok(RemoteEndpoint { channel }),
+            Err(_) => Err(Error::OutOfMemory),
+        }
+    }
+
+    /// Reads the `EventFd`, takes all jobs that wait, and runs them in the order of their tickets. The lock of the queue
+    /// is free while they run.
+    pub(crate) fn run_jobs<P: EventPoller, R: Wait + Clock>(
+        &mut self,
+        registry: &mut Registry<S, P>,
+        rt: &R,
+    )
+        ensures { JobsAreRun S.begins S.serves J.may P.controls P.waits (loop_state registry.old) self.old (loop_state registry.new) self.new }
+    {
+        let _ = self.channel.event_fd.read(rt);
+        self.channel
+            .state
+            .lock(rt)
+            .take(&mut self.taken, &mut self.next);
+        run_all(&mut self.next, registry, rt);
+    }
+
+    /// Closes the queue in one turn, and drops the jobs that wait.
+    pub(crate) fn close<R: Wait + Clock>(self, rt: &R) -> Closed<L>
+        ensures { result.taken ≡ self }
+    {
+        let EventManagerChannel {
+            channel,
+            taken: count,
+            mut next,
+        } = self;
+        let taken = count.count();
+        let register = channel.state.lock(rt).close(count, &mut next);
+        close_all(&mut next, rt);
+        Closed { register, taken }
+    }
+}

@@ -1,0 +1,45 @@
+//! What is left of a manager that was closed.
+
+ghost use Rattle.std.specs.Prelude.{◌≡◌, ◌↔◌, true, false, IsTrue, vec_len};
+ghost use Rattle.std.specs.List.Sorted.{IsPermutation};
+ghost use Rattle.job_tickets.specs.Weights.{one_to};
+
+use job_tickets::tickets::{Register, Ticket};
+use std::sync::ledger::Ledger;
+
+/// How many tickets were issued and how many jobs taken, by a manager that was closed.
+#[derive(Drop)]
+pub struct Closed<L: Ledger> {
+    pub(crate) register: Register<L>,
+    pub(crate) taken: u64,
+}
+
+impl<L: Ledger> Closed<L> {
+    /// How many tickets were issued.
+    pub fn issued(&self) -> u64
+        ensures { result ≡ self.now.register }
+    {
+        self.register.issued()
+    }
+
+    /// How many jobs the manager took from the queue and ran.
+    pub fn taken(&self) -> u64
+        ensures { result ≡ self.now.taken }
+    {
+        self.taken
+    }
+
+    /// Whether these are all the tickets that were issued: exactly where they are as many. Then they are sorted, and
+    /// their numbers are 1, 2, 3 and so on; else the list stays as it was. Takes no memory.
+    ///
+    /// The ticket of a `call_blocking` is in nobody's hands, so where one was accepted this answers false.
+    pub fn gather(&mut self, tickets: &mut Vec<Ticket<L>>) -> bool
+        ensures exactly { IsTrue result ↔ vec_len tickets.old ≡ self.old.register }
+        ensures all { result ≡ true → tickets.new.items ≡ one_to self.old.register }
+        ensures same { result ≡ true → IsPermutation tickets.old.items tickets.new.items }
+        ensures none { result ≡ false → tickets.new ≡ tickets.old }
+        ensures kept { self.new ≡ self.old }
+    {
+        self.register.gather(tickets)
+    }
+}

@@ -1,0 +1,135 @@
+//! What lies under the lock of the job queue.
+
+ghost use Rattle.std.specs.Prelude.{◌≡◌, ◌+◌, ◌<◌, [], IfOk, IfErr, vec_len, false};
+ghost use Rattle.event_manager.specs.JobQueue.{new_queue, after_take, after_close, IsSend, TicketsFollow};
+ghost use Rattle.event_manager.specs.Endpoint.{IsSendRefusal};
+
+use crate::jobs::{Bell, Entry, JobQueue};
+use crate::{Error, Result};
+use job_tickets::taken::{TakenBook, TakenCount};
+use job_tickets::tickets::{Register, Ticket};
+use std::alloc::Global;
+use std::marker::Model;
+use std::mem;
+use std::sync::Wait;
+use std::sync::ledger::Ledger;
+use std::time::Clock;
+
+/// The queue, with the books of what was issued and of what was taken. Contracts see it as the queue.
+#[derive(Drop)]
+pub(crate) struct ChannelState<J, Q, L: Ledger, T: Ledger> {
+    queue: JobQueue<J, Q>,
+    // Here while the queue is open.
+    register: Option<Register<L>>,
+    taken: TakenBook<T>,
+    // Here once the queue is closed: so whoever has the count knows that the queue is open.
+    last_count: Option<TakenCount<T>>,
+}
+
+impl<J, Q, L: Ledger, T: Ledger> Model for ChannelState<J, Q, L, T> {
+    ghost use Rattle.std.specs.Prelude.{◌≡◌, true, false, Some, IsSome};
+    ghost use Rattle.event_manager.specs.JobQueue.{QueueState};
+
+    ghost Value = { QueueState J Q };
+
+    ghost view = { λ c. c.queue };
+
+    ghost invariant = { λ c. (c.taken ≡ c.queue.taken) × (c.queue.closed ≡ false → c.register ≡ Some c.queue.issued) × (c.queue.closed ≡ true → IsSome c.last_count) };
+}
+
+impl<J, Q, L: Ledger, T: Ledger> ChannelState<J, Q, L, T> {
+    /// An open queue in which nothing waits.
+    pub(crate) fn new(alloc: Global, register: Register<L>, taken: TakenBook<T>) -> Self
+        requires { (register ≡ 0) × (taken ≡ 0) }
+        ensures { result ≡ new_queue }
+    {
+        ChannelState {
+            queue: JobQueue::new(alloc),
+            register: Some(register),
+            taken,
+            last_count: None,
+        }
+    }
+
+    /// How many jobs wait.
+    pub(crate) fn waiting(&self) -> usize {
+        self.queue.waiting()
+    }
+
+    /// Sends a job, and issues its ticket.
+    pub(crate) fn send<B: Bell, R: Wait + Clock>(
+        &mut self,
+        job: J,
+        slot: Option<Q>,
+        bell: &B,
+        rt: &R,
+    ) -> Result<Ticket<L>>
+    where
+        J: Drop,
+        Q: Drop,
+        ensures { IsSend (B.rings bell.now) self.old job slot result self.new }
+    {
+        self.queue.send(job, slot, bell, rt)?;
+        match &mut self.register {
+            Some(register) => Ok(register.issue()),
+            None => unreachable!(),
+        }
+    }
+
+    /// Sends a job whose ticket has a number above the shown one's.
+    pub(crate) fn send_after<B: Bell, R: Wait + Clock>(
+        &mut self,
+        shown: &Ticket<L>,
+        job: J,
+        slot: Option<Q>,
+        bell: &B,
+        rt: &R,
+    ) -> Result<Ticket<L>>
+    where
+        J: Drop,
+        Q: Drop,
+        ensures above { IfOk result (λ n. shown.now < n) }
+        ensures refusals { IfErr result IsSendRefusal }
+    {
+        if shown.number() > self.queue.issued() {
+            return Err(Error::TicketsUsedUp);
+        }
+        self.send(job, slot, bell, rt)
+    }
+
+    /// Takes all that waits, and counts it.
+    pub(crate) fn take(&mut self, count: &mut TakenCount<T>, into: &mut Vec<Entry<J, Q>>)
+        requires { into.old.items ≡ [] }
+        ensures agree { count.old ≡ self.old.taken }
+        ensures handed_out { into.new.items ≡ self.old.waiting }
+        ensures taken { self.new ≡ after_take self.old }
+        ensures count { count.new ≡ count.old + vec_len into.new }
+        ensures numbers { TicketsFollow count.old into.new.items }
+    {
+        self.queue.take(into);
+        count.add(&mut self.taken, into.len() as u64);
+    }
+
+    /// Closes the queue, which only the holder of the count can do.
+    pub(crate) fn close(
+        &mut self,
+        mut count: TakenCount<T>,
+        into: &mut Vec<Entry<J, Q>>,
+    ) -> Register<L>
+        requires { into.old.items ≡ [] }
+        ensures was_open { self.old.closed ≡ false }
+        ensures agree { count ≡ self.old.taken }
+        ensures issued { result ≡ self.old.issued }
+        ensures handed_out { into.new.items ≡ self.old.waiting }
+        ensures closed { self.new ≡ after_close self.old }
+    {
+        count.is_alone(self.last_count.take());
+        count.agree(&mut self.taken);
+        self.queue.close(into);
+        self.last_count = Some(count);
+        match self.register.take() {
+            Some(register) => register,
+            None => unreachable!(),
+        }
+    }
+}
