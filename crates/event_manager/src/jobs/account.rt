@@ -7,7 +7,7 @@ ghost use Rattle.event_manager.specs.declared.error.Error.TheVariants.{OutOfMemo
 
 use crate::jobs::queue::{Bell, Entry, JobQueue};
 use crate::{Error, Result};
-use std::alloc::Global;
+use std::alloc::{AllocError, Global};
 use std::sync::Wait;
 use std::time::Clock;
 use vmm_sys::errno::Errno;
@@ -107,13 +107,34 @@ fn replay_one<J: Drop, R: Wait + Clock>(
     }
 }
 
+// An outcome in which nothing is noted yet, and two lists of entries, each with room for this many.
+fn make_room<J: Drop>(
+    alloc: Global,
+    queue: &mut JobQueue<J, ()>,
+    count: usize,
+) -> std::result::Result<(Outcome<J>, Vec<Entry<J, ()>>), AllocError>
+    ensures queue { queue.new ≡ queue.old }
+    ensures answers { IfOk result (λ made. made.0.answers.items ≡ []) }
+    ensures taken { IfOk result (λ made. made.0.taken.items ≡ []) }
+    ensures out { IfOk result (λ made. made.1.items ≡ []) }
+{
+    let mut answers = Vec::new(alloc);
+    let mut taken = Vec::new(alloc);
+    let mut out = Vec::new(alloc);
+    queue.reserve(count)?;
+    out.reserve(count)?;
+    answers.reserve(count)?;
+    taken.reserve(count)?;
+    Ok((Outcome { answers, taken }, out))
+}
+
 /// Does the steps in turn on a new queue: its contract is the account of a list of sends, takes and closes, which speaks
 /// of no queue.
 ///
 /// Accepted are the jobs that are sent before the first close and whose bell agrees, up to 9223372036854775807; the n-th
 /// has ticket n. Handed out are those accepted before the last take that comes before the first close.
 ///
-/// The one refusal is `OutOfMemory`; then nothing of the outcome comes back.
+/// All room is made before the first step. The one refusal is `OutOfMemory`; then no step is made.
 pub fn replay<J: Drop, R: Wait + Clock>(
     rt: &R,
     alloc: Global,
@@ -124,16 +145,9 @@ pub fn replay<J: Drop, R: Wait + Clock>(
     ensures err { IfErr result (λ e. e ≡ OutOfMemory) }
 {
     let mut queue = JobQueue::new(alloc);
-    let mut out = Vec::new(alloc);
-    let mut outcome = Outcome {
-        answers: Vec::new(alloc),
-        taken: Vec::new(alloc),
-    };
-    if outcome.answers.reserve(steps.len()).is_err()
-        || outcome.taken.reserve(steps.len()).is_err()
-    {
+    let Ok((mut outcome, mut out)) = make_room(alloc, &mut queue, steps.len()) else {
         return Err(Error::OutOfMemory);
-    }
+    };
     for step in steps {
         replay_one(step, &mut queue, &mut outcome, &mut out, rt)?;
     }

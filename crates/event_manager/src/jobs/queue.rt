@@ -5,7 +5,7 @@ ghost use Rattle.event_manager.specs.JobQueue.{new_queue, after_take, after_clos
 
 use crate::{Error, Result};
 use job_tickets::tickets::MOST_TICKETS;
-use std::alloc::Global;
+use std::alloc::{AllocError, Global};
 use std::marker::Model;
 use std::mem;
 use std::sync::Wait;
@@ -97,6 +97,13 @@ impl<J, Q> JobQueue<J, Q> {
         ensures { result ≡ self.now.issued }
     {
         self.issued
+    }
+
+    /// Makes room for so many more jobs. Refused, and the queue as it was, where memory is.
+    pub(crate) fn reserve(&mut self, additional: usize) -> std::result::Result<(), AllocError>
+        ensures kept { self.new ≡ self.old }
+    {
+        self.waiting.reserve(additional)
     }
 
     /// Rings the bell and puts the job last; answers its ticket, the next number.
