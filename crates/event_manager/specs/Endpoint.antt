@@ -1,5 +1,5 @@
--- Which refusals the calls of an endpoint may answer.
-use Rattle.std.specs.Prelude.{◌≡◌, ◌⊎◌}
+-- Which refusals the calls of an endpoint may answer, and what is left of a manager that was closed.
+use Rattle.std.specs.Prelude.{◌≡◌, ◌⊎◌, ℕ}
 use Rattle.vmm_sys.specs.declared.errno.Errno.{Errno}
 use Rattle.event_manager.specs.declared.error.Error.{Error}
 use Rattle.event_manager.specs.declared.error.Error.TheVariants.{ChannelSend, ChannelRecv, EventFd, OutOfMemory, TicketsUsedUp}
@@ -15,3 +15,8 @@ IsSendRefusal e = (e ≡ ChannelSend) ⊎ (e ≡ TicketsUsedUp) ⊎ (e ≡ OutOf
 -- of a call: those of a send, or closed before the job ran
 abbrev pub IsCallRefusal : Error → Type 0
 IsCallRefusal e = (e ≡ ChannelRecv) ⊎ IsSendRefusal e
+
+-- how many tickets were issued, and how many jobs were taken and run
+pub record ClosedState : Type 0 where
+  pub issued : ℕ
+  pub taken : ℕ

@@ -167,6 +167,6 @@ impl<S: MutEventSubscriber, J: Job<S>, L: Ledger, T: Ledger> EventManagerChannel
         let taken = count.count();
         let register = channel.state.lock(rt).close(count, &mut next);
         close_all(&mut next, rt);
-        Closed { register, taken }
+        Closed::new(register, taken)
     }
 }

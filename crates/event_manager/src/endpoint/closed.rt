@@ -5,19 +5,34 @@ ghost use Rattle.std.specs.List.Sorted.{IsPermutation};
 ghost use Rattle.job_tickets.specs.Weights.{one_to};
 
 use job_tickets::tickets::{Register, Ticket};
+use std::marker::Model;
 use std::sync::ledger::Ledger;
 
-/// How many tickets were issued and how many jobs taken, by a manager that was closed.
+/// What is known of a manager that was closed. Contracts see how many tickets were issued and how many jobs taken.
 #[derive(Drop)]
 pub struct Closed<L: Ledger> {
-    pub(crate) register: Register<L>,
-    pub(crate) taken: u64,
+    register: Register<L>,
+    taken: u64,
+}
+
+impl<L: Ledger> Model for Closed<L> {
+    ghost use Rattle.event_manager.specs.Endpoint.{ClosedState};
+
+    ghost Value = { ClosedState };
+
+    ghost view = { λ c. record { issued = c.register; taken = c.taken } };
 }
 
 impl<L: Ledger> Closed<L> {
+    pub(crate) fn new(register: Register<L>, taken: u64) -> Self
+        ensures { (result.issued ≡ register) × (result.taken ≡ taken) }
+    {
+        Closed { register, taken }
+    }
+
     /// How many tickets were issued.
     pub fn issued(&self) -> u64
-        ensures { result ≡ self.now.register }
+        ensures { result ≡ self.now.issued }
     {
         self.register.issued()
     }
@@ -34,8 +49,8 @@ impl<L: Ledger> Closed<L> {
     ///
     /// The ticket of a `call_blocking` is in nobody's hands, so where one was accepted this answers false.
     pub fn gather(&mut self, tickets: &mut Vec<Ticket<L>>) -> bool
-        ensures exactly { IsTrue result ↔ vec_len tickets.old ≡ self.old.register }
-        ensures all { result ≡ true → tickets.new.items ≡ one_to self.old.register }
+        ensures exactly { IsTrue result ↔ vec_len tickets.old ≡ self.old.issued }
+        ensures all { result ≡ true → tickets.new.items ≡ one_to self.old.issued }
         ensures same { result ≡ true → IsPermutation tickets.old.items tickets.new.items }
         ensures none { result ≡ false → tickets.new ≡ tickets.old }
         ensures kept { self.new ≡ self.old }
