@@ -68,7 +68,7 @@ where
     })
 }
 
-/// The run of a script, once all that it needs has been made but the manager.
+/// A script that is ready to run: all that it needs but the manager, which is made over ledgers.
 struct ScriptRun<'a, R, O> {
     rt: &'a R,
     alloc: Global,
@@ -94,9 +94,8 @@ impl<R: Wait + Clock, O: Out + Drop> WithLedgers for ScriptRun<'_, R, O> {
             endpoint,
             calls,
             reactions,
-            printer,
+            mut printer,
         } = self;
-        let mut printer = printer;
         let mut manager = EventManager::<Subscriber<O>, NoJob, L, T>::new(
             alloc, poller, endpoint, tickets, taken,
         )?;
