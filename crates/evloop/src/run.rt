@@ -1,7 +1,6 @@
 //! A script, run over an event manager.
 
 ghost use Rattle.std.specs.Prelude.{◌≡◌, IfOk, OnOk, IsOkUnless};
-ghost use Rattle.event_manager.specs.Manager.{state_of};
 ghost use Rattle.evloop.specs.Calls.{Joins, Leaves};
 ghost use Rattle.evloop.specs.Joins.{id_at};
 ghost use Rattle.evloop.specs.ScriptedPoller.{empty, answer_of, with_waits, with_refusals};
@@ -15,12 +14,13 @@ use crate::requests::make_requests;
 use crate::script::{Call, Refusal, Wait as ScriptedWait, parse};
 use crate::subscriber::Subscriber;
 use event_manager::{
-    BoxedPoller, Error, EventManager, EventPoller, MutEventSubscriber, Request, SubscriberId,
-    SubscriberOps,
+    BoxedPoller, Error, EventManager, EventPoller, Job, NoJob, Request, SubscriberId,
+    SubscriberOps, WithLedgers, with_ledgers,
 };
 use std::alloc::Global;
 use std::io::Read;
 use std::sync::Wait;
+use std::sync::ledger::{Blank, Ledger};
 use std::time::Clock;
 use vmm_sys::epoll::Epoll;
 use vmm_sys::errno::Errno;
@@ -49,7 +49,7 @@ where
     let mut input = input;
     let text = read_text(alloc, &mut input)?;
     let script = parse(alloc, text.as_str())?;
-    let mut printer = Printer::new(alloc, out)?;
+    let printer = Printer::new(alloc, out)?;
     let Ok(poller) = poller_of(alloc, script.waits, script.refusals) else {
         return Err(Fault::OutOfMemory);
     };
@@ -57,16 +57,50 @@ where
     let Ok(endpoint) = open_endpoint(rt, alloc) else {
         return Err(Fault::OutOfMemory);
     };
-    let mut manager = EventManager::<Subscriber<O>>::new(alloc, BoxedPoller(poller), endpoint)?;
-    let reactions = script.reactions;
-    make_calls(
+    with_ledgers(ScriptRun {
         rt,
         alloc,
-        &mut manager,
-        script.calls,
-        reactions,
-        &mut printer,
-    )
+        poller: BoxedPoller(poller),
+        endpoint,
+        calls: script.calls,
+        reactions: script.reactions,
+        printer,
+    })
+}
+
+/// A script that is ready to run: all that it needs but the manager, which is made over ledgers.
+struct ScriptRun<'a, R, O> {
+    rt: &'a R,
+    alloc: Global,
+    poller: BoxedPoller,
+    endpoint: EventFd,
+    calls: Vec<Call<'a>>,
+    reactions: Vec<Reactions>,
+    printer: Printer<O>,
+}
+
+impl<R: Wait + Clock, O: Out + Drop> WithLedgers for ScriptRun<'_, R, O> {
+    type Output = Result<(), Fault>;
+
+    fn run<L: Ledger + Send + Sync, T: Ledger + Send + Sync>(
+        self,
+        tickets: Blank,
+        taken: Blank,
+    ) -> Result<(), Fault> {
+        let ScriptRun {
+            rt,
+            alloc,
+            poller,
+            endpoint,
+            calls,
+            reactions,
+            mut printer,
+        } = self;
+        let mut manager = EventManager::<Subscriber<O>, NoJob, L, T>::new(
+            alloc, poller, endpoint, tickets, taken,
+        )?;
+        make_calls(rt, alloc, &mut manager, calls, reactions, &mut printer)
+    }
 }
 
 // A counter of descriptor 9, in a table that nobody polls.
@@ -116,10 +150,10 @@ fn push_wait(poller: &mut ScriptPoller, wait: ScriptedWait) -> Result<(), Errno>
 }
 
 // Makes the calls in order, and prints their answers. The reactions are those of the joins, in order.
-fn make_calls<'a, R, O, P>(
+fn make_calls<'a, R, O, J, L, T, P>(
     rt: &R,
     alloc: Global,
-    manager: &mut EventManager<Subscriber<'a, O>, P>,
+    manager: &mut EventManager<Subscriber<'a, O>, J, L, T, P>,
     calls: Vec<Call<'a>>,
     reactions: Vec<Reactions>,
     printer: &mut Printer<O>,
@@ -127,6 +161,9 @@ fn make_calls<'a, R, O, P>(
 where
     R: Wait + Clock,
     O: Out + Drop,
+    J: Job<Subscriber<'a, O>>,
+    L: Ledger,
+    T: Ledger,
     P: EventPoller,
 {
     let mut reactions = reactions.into_iter();
@@ -156,17 +193,16 @@ where
 }
 
 // Takes a subscriber in, and prints the answer; gives its id, unless it was refused.
-fn join<S, O, P>(
-    manager: &mut EventManager<S, P>,
-    subscriber: S,
+fn join<M, O>(
+    manager: &mut M,
+    subscriber: M::Subscriber,
     name: &str,
     printer: &mut Printer<O>,
 ) -> Result<Option<SubscriberId>, Fault>
 where
-    S: MutEventSubscriber + Drop,
+    M: SubscriberOps,
     O: Out + Drop,
-    P: EventPoller,
-    ensures { Joins S.begins P.controls P.waits subscriber result (state_of manager.old) (state_of manager.new) }
+    ensures { Joins M.Subscriber.begins M.Poller.controls M.Poller.waits subscriber result (M.seen manager.old) (M.seen manager.new) }
 {
     match manager.add_subscriber(subscriber) {
         Ok(id) => {
@@ -193,17 +229,16 @@ fn id_of(ids: &[Option<SubscriberId>], join: usize) -> Result<SubscriberId, Erro
 }
 
 // Makes requests of one subscriber, and prints their answers.
-fn ask<S, O, P>(
-    manager: &mut EventManager<S, P>,
+fn ask<M, O>(
+    manager: &mut M,
     id: Result<SubscriberId, Error>,
     name: &str,
     requests: &[Request],
     printer: &mut Printer<O>,
 ) -> Result<(), Fault>
 where
-    S: MutEventSubscriber + Drop,
+    M: SubscriberOps,
     O: Out + Drop,
-    P: EventPoller,
 {
     let id = match id {
         Ok(id) => id,
@@ -217,17 +252,17 @@ where
 }
 
 // Lets a subscriber leave, and prints the answer.
-fn leave<S, O, P>(
-    manager: &mut EventManager<S, P>,
+fn leave<M, O>(
+    manager: &mut M,
     id: Result<SubscriberId, Error>,
     name: &str,
     printer: &mut Printer<O>,
 ) -> Result<(), Fault>
 where
-    S: MutEventSubscriber + Drop,
+    M: SubscriberOps,
+    M::Subscriber: Drop,
     O: Out + Drop,
-    P: EventPoller,
-    ensures { Leaves S.begins P.controls P.waits id (state_of manager.old) (state_of manager.new) }
+    ensures { Leaves M.Subscriber.begins M.Poller.controls M.Poller.waits id (M.seen manager.old) (M.seen manager.new) }
 {
     let answer = match id {
         Ok(id) => match manager.remove_subscriber(id) {

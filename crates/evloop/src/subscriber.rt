@@ -28,6 +28,7 @@ impl<'a, O: Out> Subscriber<'a, O> {
         reactions: Reactions,
         printer: Printer<O>,
     ) -> Subscriber<'a, O>
+        ensures name { result.name.now ≡ name.now }
         ensures first { result.first ≡ first }
         ensures reactions { result.reactions ≡ reactions }
     {
