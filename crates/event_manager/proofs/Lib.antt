@@ -20,3 +20,5 @@ pub mod LentSteps
 pub mod Accounts
 pub mod QueueLemmas
 pub mod JobLemmas
+pub mod RequestsSoFar
+pub mod TraceSoFar

@@ -25,3 +25,4 @@ pub mod Account
 pub mod JobQueue
 pub mod Endpoint
 pub mod JobRuns
+pub mod Driven

@@ -7,6 +7,7 @@
 
 pub mod boxed_subscriber;
 pub mod calls;
+pub mod drive;
 pub mod endpoint;
 pub mod epoll;
 pub mod error;
@@ -22,6 +23,7 @@ mod watch_lists;
 pub mod wrappers;
 
 pub use boxed_subscriber::{BoxedSubscriber, StepInput, StepSubscriber};
+pub use calls::{Call, Reply};
 pub use endpoint::RemoteEndpoint;
 pub use endpoint::closed::Closed;
 pub use error::{Error, Result};

@@ -1,0 +1,101 @@
+-- A list of calls, made one after another.
+use Rattle.std.proofs.Common.{◌≡◌, ℕ, ℤ, List, [], ◌∷◌, ◌++◌, refl, sym, ap, subst, ◌∙◌, map, append_assoc, Vec, Result, Ok, Err}
+use Rattle.std.proofs.lemmas.List.{append-nil, map-append}
+use Rattle.std.specs.declared.alloc.Global.{Global}
+use Rattle.event_manager.specs.Event.{Event}
+use Rattle.event_manager.specs.PollerCall.{Controls, Waits, Leads}
+use Rattle.event_manager.specs.Exchange.{Exchanges, Answer}
+use Rattle.event_manager.specs.Registry.{Step}
+use Rattle.event_manager.specs.Iteration.{ManagerState}
+use Rattle.event_manager.specs.LoopState.{LoopState, HasStepped, IsJoin, IsLeave, IsLoopIteration, manager_state}
+use Rattle.event_manager.specs.Trace.{Effect, Stepped, Iterated, Entry, Matches, HasEffect, IsTrace, calls_of_effect, calls_of_trace}
+use Rattle.event_manager.specs.Driven.{IsAsk, IsReplacement, HasCalled, IsGuaranteed, IsDriven}
+use Rattle.event_manager.specs.declared.error.Error.{Error}
+use Rattle.event_manager.specs.declared.events.Request.{Request}
+use Rattle.event_manager.specs.declared.calls.Call.{Call}
+use Rattle.event_manager.specs.declared.calls.Call.TheVariants as call
+use Rattle.event_manager.specs.declared.calls.Reply.{Reply}
+use Rattle.event_manager.specs.declared.calls.Reply.TheVariants as reply
+use Rattle.event_manager.proofs.ExchangeLemmas.{leads_join}
+use Rattle.event_manager.proofs.Soundness.{trace_follows}
+use Rattle.event_manager.proofs.ProjectedTrace.{non_interference}
+use Rattle.event_manager.proofs.ProjectionKept.{projection_keeps}
+
+-- call and reply of each step are those of the call that made it
+module _ {V : Type 0} (J R : Type 0) where
+  pub join_matches : (value : V) (result : Result ℕ Error) (step : Step V) → IsJoin value result step → Matches {V = V} {J = J} {R = R} (Stepped step) (call.Add value) (reply.Added result)
+  join_matches value (Ok id) step h = subst (λ (s : Step V). Matches {V = V} {J = J} {R = R} (Stepped s) (call.Add value) (reply.Added (Ok id))) (sym h.3) (refl, refl)
+  join_matches value (Err error) step h = subst (λ (s : Step V). Matches {V = V} {J = J} {R = R} (Stepped s) (call.Add value) (reply.Added (Err error))) (sym h) (refl, refl)
+
+  pub leave_matches : (id : ℕ) (result : Result V Error) (step : Step V) → IsLeave id result step → Matches {V = V} {J = J} {R = R} (Stepped step) (call.Remove id) (reply.Removed result)
+  leave_matches id (Ok value) step h = subst (λ (s : Step V). Matches {V = V} {J = J} {R = R} (Stepped s) (call.Remove id) (reply.Removed (Ok value))) (sym h.1) (refl, refl)
+  leave_matches id (Err error) step h = subst (λ (s : Step V). Matches {V = V} {J = J} {R = R} (Stepped s) (call.Remove id) (reply.Removed (Err error))) (sym h.1) (refl, ap (λ e. reply.Removed (Err e)) h.0)
+
+  pub replacement_matches : (id : ℕ) (value : V) (result : Result V Error) (step : Step V) → IsReplacement id value result step → Matches {V = V} {J = J} {R = R} (Stepped step) (call.Set id value) (reply.Set result)
+  replacement_matches id value (Ok old) step h = subst (λ (s : Step V). Matches {V = V} {J = J} {R = R} (Stepped s) (call.Set id value) (reply.Set (Ok old))) (sym h) (refl, refl)
+  replacement_matches id value (Err error) step h = subst (λ (s : Step V). Matches {V = V} {J = J} {R = R} (Stepped s) (call.Set id value) (reply.Set (Err error))) (sym h.1) (value, refl, ap (λ e. reply.Set (Err e)) h.0)
+
+  pub ask_matches : (id : ℕ) (requests : Vec Request Global) (result : Result (Vec Answer Global) Error) (step : Step V) → IsAsk id requests.items result step → Matches {V = V} {J = J} {R = R} (Stepped step) (call.Ask id requests) (reply.Asked result)
+  ask_matches id requests (Ok answers) step h = subst (λ (s : Step V). Matches {V = V} {J = J} {R = R} (Stepped s) (call.Ask id requests) (reply.Asked (Ok answers))) (sym h.2) (requests, answers, refl, refl, h.3, h.4)
+  ask_matches id requests (Err error) step h = subst (λ (s : Step V). Matches {V = V} {J = J} {R = R} (Stepped s) (call.Ask id requests) (reply.Asked (Err error))) (sym h.1) (requests, refl, ap (λ e. reply.Asked (Err e)) h.0)
+
+module _ {S J R P : Type 0} (begins : S → Exchanges → S → Type 0) (serves : S → Event → Exchanges → S → Type 0) (may : J → List (Step S) → R → Type 0) (controls : Controls P) (waits : Waits P) where
+  -- a step of the registry is a call of the manager
+  pub step_called : {before after : LoopState S P} {step : Step S} → HasStepped begins controls waits before step after → HasCalled begins serves may controls waits before (Stepped step) after
+  step_called did = record { had = (did.stepped, did.same_taken); led = did.led; same_capacity = did.same_capacity }
+
+  -- so is an iteration
+  pub iteration_called : {before after : LoopState S P} {ms : ℤ} {result : Result ℕ Error} → (did : IsLoopIteration begins serves may controls waits before ms result after) → HasCalled begins serves may controls waits before (Iterated did.iteration) after
+  iteration_called did = record { had = did.iterated; led = did.led; same_capacity = did.same_capacity }
+
+  trace_more : (before mid after : ManagerState S) (trace : List (Entry S J R)) (entry : Entry S J R) → IsTrace begins serves may before trace mid → Matches entry.effect entry.call entry.reply → HasEffect begins serves may mid entry.effect after
+      → IsTrace begins serves may before (trace ++ entry ∷ []) after
+  trace_more before mid after [] entry is matches had = (after, matches, subst (λ s. HasEffect begins serves may s entry.effect after) is had, refl)
+  trace_more before mid after (first ∷ trace) entry (next, says, did, rest) matches had = (next, says, did, trace_more next mid after trace entry rest matches had)
+
+  calls_more : (capacity : ℕ) (trace : List (Entry S J R)) (entry : Entry S J R) → calls_of_trace capacity (trace ++ entry ∷ []) ≡ calls_of_trace capacity trace ++ calls_of_effect capacity entry.effect
+  calls_more capacity [] entry = append-nil (calls_of_effect capacity entry.effect)
+  calls_more capacity (first ∷ trace) entry = ap (λ xs. calls_of_effect capacity first.effect ++ xs) (calls_more capacity trace entry) ∙ sym (append_assoc (calls_of_effect capacity first.effect) (calls_of_trace capacity trace) (calls_of_effect capacity entry.effect))
+
+  -- the calls, as far as they were made; `left` are those that are left
+  pub record IsTracedSoFar (before now : LoopState S P) (calls left : List (Call S)) (old replies : List (Reply S)) : Type 0 where
+    pub trace : List (Entry S J R)
+    pub calls_are : map (λ entry. entry.call) trace ++ left ≡ calls
+    pub replies_are : replies ≡ old ++ map (λ entry. entry.reply) trace
+    pub is_trace : IsTrace begins serves may (manager_state before) trace (manager_state now)
+    pub led : Leads controls waits before.poller (calls_of_trace before.capacity trace) now.poller
+    pub same_capacity : now.capacity ≡ before.capacity
+
+  pub none_traced : (before : LoopState S P) (calls : List (Call S)) (old : List (Reply S)) → IsTracedSoFar before before calls calls old old
+  none_traced before calls old = record { trace = []; calls_are = refl; replies_are = sym (append-nil old); is_trace = refl; led = refl; same_capacity = refl }
+
+  pub one_more_traced : (before now next : LoopState S P) (calls left : List (Call S)) (old replies : List (Reply S)) (c : Call S) (r : Reply S) (effect : Effect S J R) → IsTracedSoFar before now calls (c ∷ left) old replies → Matches effect c r → HasCalled begins serves may controls waits now effect next
+      → IsTracedSoFar before next calls left old (replies ++ r ∷ [])
+  one_more_traced before now next calls left old replies c r effect so_far matches did =
+      let entry : Entry S J R = record { call = c; reply = r; effect = effect } in
+      let led : Leads controls waits now.poller (calls_of_effect before.capacity effect) next.poller = subst (λ k. Leads controls waits now.poller (calls_of_effect k effect) next.poller) so_far.same_capacity did.led in
+      record {
+        trace = so_far.trace ++ entry ∷ [];
+        calls_are = ap (λ cs. cs ++ left) (map-append (λ (e : Entry S J R). e.call) so_far.trace (entry ∷ [])) ∙ append_assoc (map (λ e. e.call) so_far.trace) (c ∷ []) left ∙ so_far.calls_are;
+        replies_are = ap (λ rs. rs ++ r ∷ []) so_far.replies_are ∙ append_assoc old (map (λ e. e.reply) so_far.trace) (r ∷ []) ∙ ap (λ rs. old ++ rs) (sym (map-append (λ (e : Entry S J R). e.reply) so_far.trace (entry ∷ [])));
+        is_trace = trace_more (manager_state before) (manager_state now) (manager_state next) so_far.trace entry so_far.is_trace matches did.had;
+        led = subst (λ xs. Leads controls waits before.poller xs next.poller) (sym (calls_more before.capacity so_far.trace entry)) (leads_join controls waits before.poller now.poller next.poller (calls_of_trace before.capacity so_far.trace) (calls_of_effect before.capacity effect) so_far.led led);
+        same_capacity = did.same_capacity ∙ so_far.same_capacity;
+      }
+
+  guaranteed : (before : ManagerState S) (trace : List (Entry S J R)) (after : ManagerState S) → IsTrace begins serves may before trace after → IsGuaranteed begins serves may before trace after
+  guaranteed before trace after is =
+      let follows = trace_follows begins serves may before trace after is in
+      record { given = follows.given; removed = follows.removed; sound = follows.sound; non_interference = non_interference begins serves may before trace after is; projection_keeps = projection_keeps trace after }
+
+  pub all_traced : (before after : LoopState S P) (calls : List (Call S)) (old replies : List (Reply S)) → IsTracedSoFar before after calls [] old replies
+      → (new : List (Reply S)) × (replies ≡ old ++ new) × IsDriven begins serves may controls waits before calls new after
+  all_traced before after calls old replies so_far = (
+    map (λ e. e.reply) so_far.trace,
+    so_far.replies_are,
+    record {
+      trace = so_far.trace;
+      is_trace_of = record { calls_are = sym (append-nil (map (λ e. e.call) so_far.trace)) ∙ so_far.calls_are; replies_are = refl; is_trace = so_far.is_trace; led = so_far.led; same_capacity = so_far.same_capacity };
+      guaranteed = guaranteed (manager_state before) so_far.trace (manager_state after) so_far.is_trace;
+    },
+  )

@@ -1,0 +1,68 @@
+-- What `drive` promises: the calls with their replies are a trace, and the guarantees hold of that trace.
+use Rattle.std.specs.Prelude.{◌≡◌, ℕ, List, map, vec_len, Vec, Result, Ok, Err}
+use Rattle.std.specs.declared.alloc.Global.{Global}
+use Rattle.event_manager.specs.Event.{Event}
+use Rattle.event_manager.specs.PollerCall.{PollerCall, Controls, Waits, Leads}
+use Rattle.event_manager.specs.Exchange.{Exchanges, Answer}
+use Rattle.event_manager.specs.Registry.{Step, Requested, NotRequested, Replaced, NotReplaced}
+use Rattle.event_manager.specs.Iteration.{ManagerState}
+use Rattle.event_manager.specs.LoopState.{LoopState, manager_state}
+use Rattle.event_manager.specs.Trace.{Effect, Entry, HasEffect, IsTrace, calls_of_effect, calls_of_trace}
+use Rattle.event_manager.specs.Projection.{NonInterference, ProjectionKeeps}
+use Rattle.event_manager.specs.Guarantees.{IsSound, AreGiven, RemovedStayGone, steps_of}
+use Rattle.event_manager.specs.declared.error.Error.{Error}
+use Rattle.event_manager.specs.declared.error.Error.TheVariants.{InvalidId}
+use Rattle.event_manager.specs.declared.events.Request.{Request}
+use Rattle.event_manager.specs.declared.calls.Call.{Call}
+use Rattle.event_manager.specs.declared.calls.Call.TheVariants.{Add, Remove, Set, Ask, Run}
+use Rattle.event_manager.specs.declared.calls.Reply.{Reply}
+
+-- how many answers the reply to a call has in it
+abbrev pub answers_to : {V : Type 0} → Call V → ℕ
+answers_to (Add value) = 0
+answers_to (Remove id) = 0
+answers_to (Set id value) = 0
+answers_to (Ask id requests) = vec_len requests
+answers_to (Run ms) = 0
+
+-- the step of requests in order, by what was answered
+abbrev pub IsAsk : {V : Type 0} → ℕ → List Request → Result (Vec Answer Global) Error → Step V → Type 0
+IsAsk id requests (Ok answers) step =
+    (exchanges : Exchanges) × (calls : List PollerCall) × (step ≡ Requested id exchanges calls) × (map (λ exchange. exchange.0) exchanges ≡ requests) × (map (λ exchange. exchange.1) exchanges ≡ answers.items)
+IsAsk id requests (Err error) step = (error ≡ InvalidId) × (step ≡ NotRequested id)
+
+-- the step of another value, by what was answered
+abbrev pub IsReplacement : {V : Type 0} → ℕ → V → Result V Error → Step V → Type 0
+IsReplacement id value (Ok old) step = step ≡ Replaced id old value
+IsReplacement id value (Err error) step = (error ≡ InvalidId) × (step ≡ NotReplaced id)
+
+module _ {S J R : Type 0} (begins : S → Exchanges → S → Type 0) (serves : S → Event → Exchanges → S → Type 0) (may : J → List (Step S) → R → Type 0) where
+  module _ {P : Type 0} (controls : Controls P) (waits : Waits P) where
+    -- a call had this effect
+    pub record HasCalled (before : LoopState S P) (effect : Effect S J R) (after : LoopState S P) : Type 0 where
+      pub had : HasEffect begins serves may (manager_state before) effect (manager_state after)
+      pub led : Leads controls waits before.poller (calls_of_effect before.capacity effect) after.poller
+      pub same_capacity : after.capacity ≡ before.capacity
+
+    -- the calls with their replies are this trace, and its poller calls lead the poller from the value before to the value after
+    pub record IsTraceOf (before : LoopState S P) (calls : List (Call S)) (replies : List (Reply S)) (after : LoopState S P) (trace : List (Entry S J R)) : Type 0 where
+      pub calls_are : map (λ entry. entry.call) trace ≡ calls
+      pub replies_are : map (λ entry. entry.reply) trace ≡ replies
+      pub is_trace : IsTrace begins serves may (manager_state before) trace (manager_state after)
+      pub led : Leads controls waits before.poller (calls_of_trace before.capacity trace) after.poller
+      pub same_capacity : after.capacity ≡ before.capacity
+
+  -- Of a trace: ids are given in order, each once; what was removed is refused from then on; each owner is held, and the endpoint
+  -- is never owned; the projection to an id that is apart is itself a trace, with the same replies, deliveries and values.
+  pub record IsGuaranteed (before : ManagerState S) (trace : List (Entry S J R)) (after : ManagerState S) : Type 0 where
+    pub given : AreGiven before.registry.next (steps_of trace) after.registry.next
+    pub removed : IsSound before.registry → RemovedStayGone (steps_of trace)
+    pub sound : IsSound before.registry → IsSound after.registry
+    pub non_interference : NonInterference begins serves may before trace after
+    pub projection_keeps : ProjectionKeeps trace after
+
+  -- the calls with their replies are a trace, of which the guarantees hold
+  pub record IsDriven {P : Type 0} (controls : Controls P) (waits : Waits P) (before : LoopState S P) (calls : List (Call S)) (replies : List (Reply S)) (after : LoopState S P) : Type 0 where
+    pub trace : List (Entry S J R)
+    pub is_trace_of : IsTraceOf controls waits before calls replies after trace
+    pub guaranteed : IsGuaranteed (manager_state before) trace (manager_state after)

@@ -1,0 +1,72 @@
+//! Calls for one subscriber that stand in lists: requests in order, and another value.
+
+ghost use Rattle.std.specs.Prelude.{◌≡◌, ◌≤◌, List, [], length, map, vec_capacity};
+ghost use Rattle.event_manager.specs.Exchange.{Exchanges};
+ghost use Rattle.event_manager.specs.PollerCall.{PollerCall};
+ghost use Rattle.event_manager.specs.Registry.{Step};
+ghost use Rattle.event_manager.specs.Requests.{AreMadeThrough};
+ghost use Rattle.event_manager.specs.LoopState.{HasStepped};
+ghost use Rattle.event_manager.specs.Driven.{IsAsk, IsReplacement};
+
+use crate::Result;
+use crate::events::{EventOps, Request};
+use crate::manager::SubscriberOps;
+use crate::poller::EventPoller;
+use crate::subscribers::SubscriberId;
+use std::mem;
+
+// Makes requests in order, and puts the answers into a list that has room for them.
+fn make_requests<P: EventPoller>(
+    ops: &mut EventOps<P>,
+    requests: &[Request],
+    answers: &mut Vec<Result<()>>,
+)
+    requires none { answers.old.items ≡ [] }
+    requires room { length requests.now ≤ vec_capacity answers.old }
+    ensures { (exchanges : Exchanges) × (calls : List PollerCall) × (map (λ exchange. exchange.0) exchanges ≡ requests.now) × (map (λ exchange. exchange.1) exchanges ≡ answers.new.items)
+        × AreMadeThrough P.controls P.waits ops.old ops.new exchanges calls }
+{
+    for request in requests {
+        let answer = ops.request(*request);
+        answers.push_reserved(answer);
+    }
+}
+
+/// Makes requests under an id, in order, and answers a list that has room for their answers.
+pub(crate) fn ask<M: SubscriberOps>(
+    manager: &mut M,
+    id: SubscriberId,
+    requests: &[Request],
+    answers: Vec<Result<()>>,
+) -> Result<Vec<Result<()>>>
+    requires none { answers.items ≡ [] }
+    requires room { length requests.now ≤ vec_capacity answers }
+    ensures { (step : Step M.Subscriber) × IsAsk id requests.now result step
+        × HasStepped M.Subscriber.begins M.Poller.controls M.Poller.waits (M.seen manager.old) step (M.seen manager.new) }
+{
+    let mut answers = answers;
+    match manager.event_ops(id) {
+        Ok(ops) => {
+            make_requests(ops, requests, &mut answers);
+            Ok(answers)
+        }
+        Err(e) => Err(e),
+    }
+}
+
+/// Puts another value in the place of a subscriber, and answers the old one.
+pub(crate) fn replace<M: SubscriberOps>(
+    manager: &mut M,
+    id: SubscriberId,
+    subscriber: M::Subscriber,
+) -> Result<M::Subscriber>
+where
+    M::Subscriber: Drop,
+    ensures { (step : Step M.Subscriber) × IsReplacement id subscriber result step
+        × HasStepped M.Subscriber.begins M.Poller.controls M.Poller.waits (M.seen manager.old) step (M.seen manager.new) }
+{
+    match manager.subscriber_mut(id) {
+        Ok(held) => Ok(mem::replace(held, subscriber)),
+        Err(e) => Err(e),
+    }
+}
