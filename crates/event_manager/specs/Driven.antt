@@ -1,15 +1,16 @@
 -- What `drive` promises: the calls with their replies are a trace, and the guarantees hold of that trace.
-use Rattle.std.specs.Prelude.{◌≡◌, ℕ, List, map, vec_len, Vec, Result, Ok, Err}
+use Rattle.std.specs.Prelude.{◌≡◌, ◌≢◌, ℕ, false, List, map, vec_len, Vec, Result, Ok, Err}
 use Rattle.std.specs.declared.alloc.Global.{Global}
 use Rattle.event_manager.specs.Event.{Event}
 use Rattle.event_manager.specs.PollerCall.{PollerCall, Controls, Waits, Leads}
 use Rattle.event_manager.specs.Exchange.{Exchanges, Answer}
-use Rattle.event_manager.specs.Registry.{Step, Requested, NotRequested, Replaced, NotReplaced}
+use Rattle.event_manager.specs.Registry.{Registry, Step, Steps, Left, Requested, NotRequested, Replaced, NotReplaced}
+use Rattle.event_manager.specs.Dispatch.{Position, To, IsOutcome, still_pending}
 use Rattle.event_manager.specs.Iteration.{ManagerState}
 use Rattle.event_manager.specs.LoopState.{LoopState, manager_state}
 use Rattle.event_manager.specs.Trace.{Effect, Entry, HasEffect, IsTrace, calls_of_effect, calls_of_trace}
-use Rattle.event_manager.specs.Projection.{NonInterference, ProjectionKeeps}
-use Rattle.event_manager.specs.Guarantees.{IsSound, AreGiven, RemovedStayGone, steps_of}
+use Rattle.event_manager.specs.Projection.{NonInterference, ProjectionKeeps, names}
+use Rattle.event_manager.specs.Guarantees.{IsSound, AreGiven, RemovedStayGone, IsUntouched, FreesExactly, steps_of}
 use Rattle.event_manager.specs.declared.error.Error.{Error}
 use Rattle.event_manager.specs.declared.error.Error.TheVariants.{InvalidId}
 use Rattle.event_manager.specs.declared.events.Request.{Request}
@@ -53,13 +54,19 @@ module _ {S J R : Type 0} (begins : S → Exchanges → S → Type 0) (serves : 
       pub same_capacity : after.capacity ≡ before.capacity
 
   -- Of a trace: ids are given in order, each once; what was removed is refused from then on; each owner is held, and the endpoint
-  -- is never owned; the projection to an id that is apart is itself a trace, with the same replies, deliveries and values.
+  -- is never owned; the projection to an id that is apart is itself a trace, with the same replies, deliveries and values. Of each
+  -- step and delivery in it: the other ids keep their value, descriptors and pending events; a leave frees exactly its descriptors.
   pub record IsGuaranteed (before : ManagerState S) (trace : List (Entry S J R)) (after : ManagerState S) : Type 0 where
     pub given : AreGiven before.registry.next (steps_of trace) after.registry.next
     pub removed : IsSound before.registry → RemovedStayGone (steps_of trace)
     pub sound : IsSound before.registry → IsSound after.registry
     pub non_interference : NonInterference begins serves may before trace after
     pub projection_keeps : ProjectionKeeps trace after
+    pub isolated_step : (from : Registry S) (step : Step S) (onto : Registry S) → Steps begins from step onto → (j : ℕ) → names j step ≡ false → IsUntouched j from onto
+    pub isolated_delivery : (from : Registry S) (earlier : List (Position S)) (event : Event) (later : List Event) (i : ℕ) (exchanges : Exchanges) (calls : List PollerCall) (held : S) (onto : Registry S)
+        → IsOutcome serves from earlier event later (To i exchanges calls held) onto
+        → (j : ℕ) → j ≢ i → IsUntouched j (record from { registrations = record from.registrations { pending = still_pending earlier later } }) onto
+    pub leave_frees : (from onto : Registry S) (i : ℕ) (value : S) (calls : List PollerCall) → Steps begins from (Left i value calls) onto → FreesExactly i from.registrations onto.registrations
 
   -- the calls with their replies are a trace, of which the guarantees hold
   pub record IsDriven {P : Type 0} (controls : Controls P) (waits : Waits P) (before : LoopState S P) (calls : List (Call S)) (replies : List (Reply S)) (after : LoopState S P) : Type 0 where

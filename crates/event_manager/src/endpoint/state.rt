@@ -1,8 +1,9 @@
 //! What lies under the lock of the job queue.
 
-ghost use Rattle.std.specs.Prelude.{◌≡◌, ◌+◌, ◌<◌, [], IfOk, IfErr, vec_len, false};
+ghost use Rattle.std.specs.Prelude.{◌≡◌, ◌+◌, ◌<◌, ◌≤◌, [], length, Err, IfOk, IfErr, vec_len, false};
 ghost use Rattle.event_manager.specs.JobQueue.{new_queue, after_take, after_close, IsSend, TicketsFollow};
 ghost use Rattle.event_manager.specs.Endpoint.{IsSendRefusal};
+ghost use Rattle.event_manager.specs.declared.error.Error.TheVariants.{TicketsUsedUp};
 
 use crate::jobs::{Bell, Entry, JobQueue};
 use crate::{Error, Result};
@@ -52,7 +53,9 @@ impl<J, Q, L: Ledger, T: Ledger> ChannelState<J, Q, L, T> {
     }
 
     /// How many jobs wait.
-    pub(crate) fn waiting(&self) -> usize {
+    pub(crate) fn waiting(&self) -> usize
+        ensures { result ≡ length self.now.waiting }
+    {
         self.queue.waiting()
     }
 
@@ -89,6 +92,8 @@ impl<J, Q, L: Ledger, T: Ledger> ChannelState<J, Q, L, T> {
         J: Drop,
         Q: Drop,
         ensures above { IfOk result (λ n. shown.now < n) }
+        ensures sent { shown.now ≤ self.old.issued → IsSend (B.rings bell.now) self.old job slot result self.new }
+        ensures not_issued { self.old.issued < shown.now → (result ≡ Err TicketsUsedUp) × (self.new ≡ self.old) }
         ensures refusals { IfErr result IsSendRefusal }
     {
         if shown.number() > self.queue.issued() {
