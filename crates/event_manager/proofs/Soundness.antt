@@ -1,5 +1,5 @@
 -- What holds of every state that a trace reaches, and of the ids that it gives.
-use Rattle.std.proofs.Common.{◌≡◌, ◌≢◌, ℕ, ◌+◌, ◌<◌, ◌==◌, cond, Bool, true, false, not, refl, sym, ◌∙◌, ap, subst, Some, None, Option, ◌⊎◌, inl, inr, nat_cmp, List, [], ◌∷◌, ◌++◌, true≢false, eq-eqb, arith, Ok, Err, Result, append_assoc, lt_irrefl, is_eq, Equal}
+use Rattle.std.proofs.Common.{IfSome, ◌≡◌, ◌≢◌, ℕ, ◌+◌, ◌<◌, ◌==◌, cond, Bool, true, false, not, refl, sym, ◌∙◌, ap, subst, Some, None, Option, ◌⊎◌, inl, inr, nat_cmp, List, [], ◌∷◌, ◌++◌, true≢false, eq-eqb, arith, Ok, Err, Result, append_assoc, lt_irrefl, is_eq, Equal}
 use Rattle.std.specs.FinMap.{FinMap, get, insert, remove, get-insert, get-remove, get-empty}
 use Rattle.std.specs.Cmp.{nat_cmp_total, nat_cmp_is}
 use Rattle.std.proofs.lemmas.Bool.Decides.{eqb_tells}
@@ -7,11 +7,11 @@ use Rattle.event_manager.specs.Event.{Event}
 use Rattle.event_manager.specs.Registrations.{Registrations, Owns, IsFree}
 use Rattle.event_manager.specs.PollerCall.{PollerCall}
 use Rattle.event_manager.specs.Exchange.{Answer, Exchanges, Fits, by_manager, by_poller, by_agreement, ExchangesFit, ReachesPoller, registrations_after}
-use Rattle.event_manager.specs.Registry.{Registry, Step, Joined, NotJoined, Left, NotLeft, Replaced, NotReplaced, Requested, NotRequested, Steps, is_id, without_owner, HasId, LacksId}
+use Rattle.event_manager.specs.Registry.{acts_on, removed_by, Registry, Step, Joined, NotJoined, Left, NotLeft, Replaced, NotReplaced, Requested, NotRequested, Steps, is_id, without_owner, HasId, LacksId}
 use Rattle.event_manager.specs.Dispatch.{Outcome, Nobody, To, Position, IsOutcome, AreDispatched, still_pending, events_of}
 use Rattle.event_manager.specs.Iteration.{ManagerState, JobRun, IsAfterWait, AreRun, AllSteps}
 use Rattle.event_manager.specs.Trace.{Effect, Stepped, Iterated, Entry, HasEffect, IsTrace, new_state}
-use Rattle.event_manager.specs.Guarantees.{IsSound, steps_of_jobs, steps_of_effect, steps_of, AreGiven, IsRefusedTo, AreRefusedTo, StaysGone, RemovedStayGone}
+use Rattle.event_manager.specs.Guarantees.{IsSound, steps_of_jobs, steps_of_effect, steps_of, AreGiven, AreRefusedTo, RemovedStayGone}
 use Rattle.vmm_sys.specs.declared.errno.Errno.{Errno}
 use Rattle.event_manager.specs.declared.events.Request.{Request}
 use Rattle.event_manager.specs.declared.events.Request.TheVariants.{Add, Modify, Remove}
@@ -220,7 +220,7 @@ module _ {V : Type 0} where
   differs : (i id : ℕ) (r : Registry V) (v : V) → IsGone i r → HasId r id v → id ≢ i
   differs i id r v g has = λ e. some_none v (get r.values id) (ap (get r.values) e ∙ g.lacks) has
 
-  gone_step : (begins : V → Exchanges → V → Type 0) (i : ℕ) (before : Registry V) (step : Step V) (after : Registry V) → IsGone i before → Steps begins before step after → IsRefusedTo i step × IsGone i after
+  gone_step : (begins : V → Exchanges → V → Type 0) (i : ℕ) (before : Registry V) (step : Step V) (after : Registry V) → IsGone i before → Steps begins before step after → IfSome (acts_on step) (λ id. id ≢ i) × IsGone i after
   gone_step begins i before (Joined value id exchanges calls held) after g (registrations, capacity, is, fits, beg, e) =
       let differ : id ≢ i = λ t. lt_irrefl before.next (subst (λ k. k < before.next) (sym t ∙ is) g.given) in
       (differ, gone_at i after _ e (record { lacks = lacks_insert i id before.values held (λ t. differ (sym t)) g.lacks; given = (let b = g.given in omega arith) }))
@@ -248,7 +248,7 @@ module _ {V : Type 0} where
   left_is_gone begins before id value calls after s (fds, has, is_owner, deletes, e) = gone_at id after _ e (record { lacks = removed_value id before.values; given = s.given id value has })
 
   -- each step's removal stays, where what follows refuses all that is gone after it
-  stays_gone : (begins : V → Exchanges → V → Type 0) (before : Registry V) (step : Step V) (after : Registry V) (steps : List (Step V)) → IsSound before → Steps begins before step after → ((i : ℕ) → IsGone i after → AreRefusedTo i steps) → StaysGone step steps
+  stays_gone : (begins : V → Exchanges → V → Type 0) (before : Registry V) (step : Step V) (after : Registry V) (steps : List (Step V)) → IsSound before → Steps begins before step after → ((i : ℕ) → IsGone i after → AreRefusedTo i steps) → IfSome (removed_by step) (λ id. AreRefusedTo id steps)
   stays_gone begins before (Joined value id exchanges calls held) after steps s h k = tt
   stays_gone begins before (NotJoined value error) after steps s h k = tt
   stays_gone begins before (Left id value calls) after steps s h k = k id (left_is_gone begins before id value calls after s h)

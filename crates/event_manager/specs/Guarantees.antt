@@ -1,9 +1,9 @@
 -- What users rely on, of every trace.
-use Rattle.std.specs.Prelude.{◌≡◌, ◌≢◌, ℕ, ◌+◌, ◌<◌, List, [], ◌∷◌, ◌++◌, filter, ◌↔◌, None, if◌then◌else◌}
+use Rattle.std.specs.Prelude.{◌≡◌, ◌≢◌, ℕ, ◌+◌, ◌<◌, List, [], ◌∷◌, ◌++◌, filter, ◌↔◌, None, IfSome, MatchOption, if◌then◌else◌}
 use Rattle.std.specs.FinMap as map
 use Rattle.event_manager.specs.Event.{Event}
 use Rattle.event_manager.specs.Registrations.{Registrations, Owns, IsFree}
-use Rattle.event_manager.specs.Registry.{Registry, Step, Joined, NotJoined, Left, NotLeft, Replaced, NotReplaced, Requested, NotRequested, HasId, is_id}
+use Rattle.event_manager.specs.Registry.{Registry, Step, HasId, is_id, acts_on, given_by, removed_by}
 use Rattle.event_manager.specs.Iteration.{JobRun}
 use Rattle.event_manager.specs.Trace.{Effect, Stepped, Iterated, Entry}
 
@@ -38,44 +38,17 @@ steps_of (entry ∷ trace) = steps_of_effect entry.effect ++ steps_of trace
 -- the ids that joins gave are the numbers from the first up to the last, in order, each once
 abbrev pub AreGiven : {V : Type 0} → ℕ → List (Step V) → ℕ → Type 0
 AreGiven first [] last = last ≡ first
-AreGiven first (Joined value id exchanges calls held ∷ steps) last = (id ≡ first) × AreGiven (first + 1) steps last
-AreGiven first (NotJoined value error ∷ steps) last = AreGiven first steps last
-AreGiven first (Left id value calls ∷ steps) last = AreGiven first steps last
-AreGiven first (NotLeft id ∷ steps) last = AreGiven first steps last
-AreGiven first (Replaced id old new ∷ steps) last = AreGiven first steps last
-AreGiven first (NotReplaced id ∷ steps) last = AreGiven first steps last
-AreGiven first (Requested id exchanges calls ∷ steps) last = AreGiven first steps last
-AreGiven first (NotRequested id ∷ steps) last = AreGiven first steps last
+AreGiven first (step ∷ steps) last = MatchOption (given_by step) (AreGiven first steps last) (λ id. (id ≡ first) × AreGiven (first + 1) steps last)
 
--- the step names i only if it is refused
-abbrev pub IsRefusedTo : {V : Type 0} → ℕ → Step V → Type 0
-IsRefusedTo i (Joined value id exchanges calls held) = id ≢ i
-IsRefusedTo i (NotJoined value error) = Unit {0}
-IsRefusedTo i (Left id value calls) = id ≢ i
-IsRefusedTo i (NotLeft id) = Unit {0}
-IsRefusedTo i (Replaced id old new) = id ≢ i
-IsRefusedTo i (NotReplaced id) = Unit {0}
-IsRefusedTo i (Requested id exchanges calls) = id ≢ i
-IsRefusedTo i (NotRequested id) = Unit {0}
-
+-- the steps name i only where they are refused
 abbrev pub AreRefusedTo : {V : Type 0} → ℕ → List (Step V) → Type 0
 AreRefusedTo i [] = Unit {0}
-AreRefusedTo i (step ∷ steps) = IsRefusedTo i step × AreRefusedTo i steps
+AreRefusedTo i (step ∷ steps) = IfSome (acts_on step) (λ id. id ≢ i) × AreRefusedTo i steps
 
--- what this step removed is refused in those that follow
-abbrev pub StaysGone : {V : Type 0} → Step V → List (Step V) → Type 0
-StaysGone (Joined value id exchanges calls held) steps = Unit {0}
-StaysGone (NotJoined value error) steps = Unit {0}
-StaysGone (Left id value calls) steps = AreRefusedTo id steps
-StaysGone (NotLeft id) steps = Unit {0}
-StaysGone (Replaced id old new) steps = Unit {0}
-StaysGone (NotReplaced id) steps = Unit {0}
-StaysGone (Requested id exchanges calls) steps = Unit {0}
-StaysGone (NotRequested id) steps = Unit {0}
-
+-- what a step removed is refused in those that follow
 abbrev pub RemovedStayGone : {V : Type 0} → List (Step V) → Type 0
 RemovedStayGone [] = Unit {0}
-RemovedStayGone (step ∷ steps) = StaysGone step steps × RemovedStayGone steps
+RemovedStayGone (step ∷ steps) = IfSome (removed_by step) (λ id. AreRefusedTo id steps) × RemovedStayGone steps
 
 -- exactly the descriptors of id i became free
 abbrev pub FreesExactly : ℕ → Registrations → Registrations → Type 0

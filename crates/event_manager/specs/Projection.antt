@@ -5,7 +5,7 @@ use Rattle.std.specs.Ordering.{nat_cmp}
 use Rattle.event_manager.specs.Event.{Event}
 use Rattle.event_manager.specs.Registrations.{Registrations, Owns}
 use Rattle.event_manager.specs.Exchange.{Exchanges, Answer}
-use Rattle.event_manager.specs.Registry.{Registry, Step, Joined, NotJoined, Left, NotLeft, Replaced, NotReplaced, Requested, NotRequested, is_id}
+use Rattle.event_manager.specs.Registry.{Registry, Step, Joined, Requested, is_id, id_of}
 use Rattle.event_manager.specs.Dispatch.{Outcome, Nobody, To, Position}
 use Rattle.event_manager.specs.Iteration.{ManagerState}
 use Rattle.event_manager.specs.Trace.{Effect, Stepped, Iterated, Entry, IsTrace}
@@ -45,14 +45,7 @@ only_position i position = record { event = position.event; outcome = only_outco
 
 -- whether the effect stays: a step that names i, or the join that gave it; each iteration
 abbrev pub names : {V : Type 0} → ℕ → Step V → Bool
-names i (Joined value id exchanges calls held) = id == i
-names i (NotJoined value error) = false
-names i (Left id value calls) = id == i
-names i (NotLeft id) = id == i
-names i (Replaced id old new) = id == i
-names i (NotReplaced id) = id == i
-names i (Requested id exchanges calls) = id == i
-names i (NotRequested id) = id == i
+names i step = is_id i (id_of step)
 
 abbrev pub stays : {V J R : Type 0} → ℕ → Effect V J R → Bool
 stays i (Stepped step) = names i step
@@ -70,13 +63,8 @@ projection i (entry ∷ trace) = if stays i entry.effect then record entry { eff
 -- the exchanges of id i in a trace, in order
 abbrev pub step_exchanges : {V : Type 0} → ℕ → Step V → Exchanges
 step_exchanges i (Joined value id exchanges calls held) = if id == i then exchanges else []
-step_exchanges i (NotJoined value error) = []
-step_exchanges i (Left id value calls) = []
-step_exchanges i (NotLeft id) = []
-step_exchanges i (Replaced id old new) = []
-step_exchanges i (NotReplaced id) = []
 step_exchanges i (Requested id exchanges calls) = if id == i then exchanges else []
-step_exchanges i (NotRequested id) = []
+step_exchanges i step = []
 
 abbrev pub outcome_exchanges : {V : Type 0} → ℕ → Outcome V → Exchanges
 outcome_exchanges i Nobody = []

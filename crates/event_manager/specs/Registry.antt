@@ -88,3 +88,30 @@ calls_of (Replaced id old new) = []
 calls_of (NotReplaced id) = []
 calls_of (Requested id exchanges calls) = calls
 calls_of (NotRequested id) = []
+
+-- the id that a step is of: the one it was asked for, or gave
+abbrev pub id_of : {V : Type 0} → Step V → Option ℕ
+id_of (Joined value id exchanges calls held) = Some id
+id_of (Left id value calls) = Some id
+id_of (NotLeft id) = Some id
+id_of (Replaced id old new) = Some id
+id_of (NotReplaced id) = Some id
+id_of (Requested id exchanges calls) = Some id
+id_of (NotRequested id) = Some id
+id_of (NotJoined value error) = None
+
+-- the id that it acts on; none where it is refused
+abbrev pub acts_on : {V : Type 0} → Step V → Option ℕ
+acts_on (NotLeft id) = None
+acts_on (NotReplaced id) = None
+acts_on (NotRequested id) = None
+acts_on step = id_of step
+
+-- the id that it gives; the id that it removes
+abbrev pub given_by : {V : Type 0} → Step V → Option ℕ
+given_by (Joined value id exchanges calls held) = Some id
+given_by step = None
+
+abbrev pub removed_by : {V : Type 0} → Step V → Option ℕ
+removed_by (Left id value calls) = Some id
+removed_by step = None
