@@ -129,14 +129,15 @@ fn lock_is_waited_for_and_left_free(rt: HostRuntime) -> Result<(), Fail> {
             turn: &their_turn,
         };
         let done = with_manager(parts, body);
-        their_turn.store(6, Ordering::SeqCst);
+        // Also where a call was refused: then no turn is waited for.
+        their_turn.store(u64::MAX, Ordering::SeqCst);
         done
     })?;
     for odd in [1, 3, 5] {
         let Some(held) = locked.mutex.try_lock() else {
             panic!(rt; "the lock is kept");
         };
-        turn.store(odd, Ordering::SeqCst);
+        turn.fetch_max(odd, Ordering::SeqCst);
         thread::sleep(&rt, Duration::from_millis(20));
         assert_eq!(rt; turn.load(Ordering::SeqCst), odd);
         drop(held);
