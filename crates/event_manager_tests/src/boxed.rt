@@ -1,11 +1,8 @@
 //! Several kinds of subscribers in one manager.
 
 use crate::log::{SharedLog, got};
-use crate::parts::silent_endpoint;
-use event_manager::{
-    BoxedPoller, BoxedSubscriber, EventManager, Events, Request, StepInput, StepSubscriber,
-    SubscriberOps,
-};
+use crate::runs::{run_over, silent_parts};
+use event_manager::{BoxedPoller, BoxedSubscriber, Events, Request, StepInput, StepSubscriber};
 use std::sync::Wait;
 use std::test::Fail;
 use vmm_sys::epoll::{EpollEvent, EventSet};
@@ -98,16 +95,11 @@ fn watching_one<R: Wait + Copy>(log: &SharedLog<R>) -> Result<Single<R>, Fail> {
 #[test]
 fn boxes_of_two_kinds_get_the_first_run(rt: HostRuntime) -> Result<(), Fail> {
     let log = SharedLog::new(rt.alloc(), rt)?;
-    let mut manager = EventManager::<BoxedSubscriber>::new(
-        rt.alloc(),
-        first_run(rt)?,
-        silent_endpoint(rt, rt.alloc())?,
-    )?;
     let two: Box<dyn StepSubscriber + Send> = Box::new(rt.alloc(), watching_two(&log)?)?;
     let one: Box<dyn StepSubscriber + Send> = Box::new(rt.alloc(), watching_one(&log)?)?;
-    assert_eq!(rt; manager.add_subscriber(BoxedSubscriber(two))?.number(), 1);
-    assert_eq!(rt; manager.add_subscriber(BoxedSubscriber(one))?.number(), 2);
-    assert_eq!(rt; manager.run(&rt), Ok(4));
+    let both = vec![in rt.alloc(); BoxedSubscriber(two), BoxedSubscriber(one)]?;
+    let parts = silent_parts(rt, rt.alloc(), first_run(rt)?)?;
+    run_over(&rt, parts, both, &[(None, Ok(4))])?;
     assert!(rt;
         log.were(&[
             got(2, 5, EventSet::OUT, 1),

@@ -1,11 +1,13 @@
 //! Subscribers in cells and under locks.
 
-use crate::counting::{Counting, counting_on, manager_over, run_counts, two_reports};
-use event_manager::{EventManager, EventPoller, Locked, SubscriberOps};
+use crate::counting::{Counting, counting_on, served_twice, two_reports};
+use crate::runs::{WithManager, no_memory, run_alone, silent_parts, with_manager};
+use event_manager::{EventManager, EventPoller, Locked, NoJob, PlainPoller, SubscriberOps};
 use std::cell::RefCell;
 use std::process::Abort;
 use std::rc::Rc;
-use std::sync::atomic::{AtomicBool, Ordering};
+use std::sync::atomic::{AtomicU64, Ordering};
+use std::sync::ledger::Ledger;
 use std::sync::{Arc, Wait};
 use std::test::Fail;
 use std::thread;
@@ -19,130 +21,146 @@ fn count_in(cell: &RefCell<Counting>) -> Option<u64> {
 #[test]
 fn free_cell_is_called_and_left_free(rt: HostRuntime) -> Result<(), Fail> {
     let cell = Rc::new(rt.alloc(), RefCell::new(counting_on(3)))?;
-    let mut manager = manager_over(rt, rt.alloc(), two_reports(rt.alloc())?)?;
-    manager.add_subscriber(cell.clone()?)?;
-    for count in [1, 2] {
-        run_counts(&rt, &mut manager, 1)?;
-        assert_eq!(rt; count_in(&cell), Some(count));
-    }
+    served_twice(rt, rt.alloc(), cell.clone()?)?;
+    assert_eq!(rt; count_in(&cell), Some(2));
     Ok(())
 }
 
 #[test]
 fn owned_cell_is_called(rt: HostRuntime) -> Result<(), Fail> {
-    let mut manager = manager_over(rt, rt.alloc(), two_reports(rt.alloc())?)?;
-    let id = manager.add_subscriber(RefCell::new(counting_on(3)))?;
-    for count in [1, 2] {
-        run_counts(&rt, &mut manager, 1)?;
-        assert_eq!(rt; count_in(manager.subscriber_mut(id)?), Some(count));
-    }
+    let cell = served_twice(rt, rt.alloc(), RefCell::new(counting_on(3)))?;
+    assert_eq!(rt; count_in(&cell), Some(2));
     Ok(())
+}
+
+/// Runs while the cell is busy, and again when it is free.
+#[derive(Drop)]
+struct BusyThenFree<'a, R> {
+    rt: &'a R,
+    cell: Rc<RefCell<Counting>>,
+}
+
+impl<R: Wait + Clock + Abort> WithManager for BusyThenFree<'_, R> {
+    type Subscriber = Rc<RefCell<Counting>>;
+
+    type Output = ();
+
+    fn run<L: Ledger, T: Ledger, P: EventPoller>(
+        self,
+        manager: &mut EventManager<Rc<RefCell<Counting>>, NoJob, L, T, P>,
+    ) -> event_manager::Result<()> {
+        let BusyThenFree { rt, cell } = self;
+        manager.add_subscriber(cell.clone().map_err(no_memory)?)?;
+        {
+            let held = cell.try_borrow_mut();
+            assert!(rt; held.is_ok());
+            assert_eq!(rt; manager.run(rt), Ok(1));
+            assert_eq!(rt; held.map(|counting| counting.count).ok(), Some(0));
+        }
+        assert_eq!(rt; manager.run(rt), Ok(1));
+        Ok(())
+    }
 }
 
 #[test]
 fn busy_cell_skips_the_call(rt: HostRuntime) -> Result<(), Fail> {
     let cell = Rc::new(rt.alloc(), RefCell::new(counting_on(3)))?;
-    let mut manager = manager_over(rt, rt.alloc(), two_reports(rt.alloc())?)?;
-    manager.add_subscriber(cell.clone()?)?;
-    {
-        let Ok(held) = cell.try_borrow_mut() else {
-            return Err(Fail::new("the cell is free"));
-        };
-        run_counts(&rt, &mut manager, 1)?;
-        assert_eq!(rt; held.count, 0);
-    }
-    run_counts(&rt, &mut manager, 1)?;
+    let body = BusyThenFree {
+        rt: &rt,
+        cell: cell.clone()?,
+    };
+    let poller = PlainPoller(two_reports(rt.alloc())?);
+    with_manager(silent_parts(rt, rt.alloc(), poller)?, body)?;
     assert_eq!(rt; count_in(&cell), Some(1));
     Ok(())
 }
 
-// Ends the test unless the flag is set within 10,000 looks, a millisecond apart.
-fn expect_set<R: Clock + Abort>(rt: &R, flag: &AtomicBool) {
-    for _ in 0..10000 {
-        if flag.load(Ordering::SeqCst) {
+// Ends the test unless the turn, or a later one, comes within 10,000 looks, a millisecond apart.
+fn expect_turn<R: Clock + Abort>(rt: &R, turn: &AtomicU64, wanted: u64) {
+    for _turn in 0..10000 {
+        if turn.load(Ordering::SeqCst) >= wanted {
             return;
         }
         thread::sleep(rt, Duration::from_millis(1));
     }
-    panic!(rt; "the lock is still waited for");
+    panic!(rt; "the turn {wanted} does not come");
 }
 
-/// What is done on another thread while the lock is held.
+/// At each odd turn calls the subscriber, first its `init` and then its `process`, and ends the turn when that is done.
 #[derive(Drop)]
-enum Action<R> {
-    Add(Arc<Locked<Counting, R>>),
-    Run,
+struct Turns<'a, R> {
+    rt: &'a R,
+    locked: Arc<Locked<Counting, R>>,
+    turn: &'a AtomicU64,
 }
 
-impl<R: Wait + Clock> Action<R> {
-    /// Does it, and says whether the answer is the right one.
-    fn is_done<P: EventPoller>(
+impl<R: Wait + Clock + Abort + Drop> WithManager for Turns<'_, R> {
+    type Subscriber = Arc<Locked<Counting, R>>;
+
+    type Output = ();
+
+    fn run<L: Ledger, T: Ledger, P: EventPoller>(
         self,
-        manager: &mut EventManager<Arc<Locked<Counting, R>>, P>,
-        rt: &R,
-    ) -> bool
-    where
-        R: Drop,
-    {
-        match self {
-            Action::Add(subscriber) => manager.add_subscriber(subscriber).is_ok(),
-            Action::Run => manager.run(rt) == Ok(1),
+        manager: &mut EventManager<Arc<Locked<Counting, R>>, NoJob, L, T, P>,
+    ) -> event_manager::Result<()> {
+        let Turns { rt, locked, turn } = self;
+        expect_turn(rt, turn, 1);
+        manager.add_subscriber(locked)?;
+        turn.store(2, Ordering::SeqCst);
+        for odd in [3, 5] {
+            expect_turn(rt, turn, odd);
+            assert_eq!(rt; manager.run(rt), Ok(1));
+            turn.store(odd + 1, Ordering::SeqCst);
         }
+        Ok(())
     }
 }
 
 #[test]
 fn lock_is_waited_for_and_left_free(rt: HostRuntime) -> Result<(), Fail> {
     let locked = Arc::new(rt.alloc(), Locked::new(counting_on(3), rt))?;
-    let mut manager = manager_over(rt, rt.alloc(), two_reports(rt.alloc())?)?;
-    for action in [Action::Add(locked.clone()?), Action::Run, Action::Run] {
-        let Some(held) = locked.mutex.try_lock() else {
-            return Err(Fail::new("the lock is kept"));
+    let turn = Arc::new(rt.alloc(), AtomicU64::new(0))?;
+    let parts = silent_parts(rt, rt.alloc(), PlainPoller(two_reports(rt.alloc())?))?;
+    let (their_locked, their_turn) = (locked.clone()?, turn.clone()?);
+    let runner = thread::spawn(&rt, move || {
+        let body = Turns {
+            rt: &rt,
+            locked: their_locked,
+            turn: &their_turn,
         };
-        let over = Arc::new(rt.alloc(), AtomicBool::new(false))?;
-        let theirs = over.clone()?;
-        let runner = thread::spawn(&rt, move || {
-            let mut manager = manager;
-            let done = action.is_done(&mut manager, &rt);
-            theirs.store(true, Ordering::SeqCst);
-            (manager, done)
-        })?;
+        let done = with_manager(parts, body);
+        // Also where a call was refused: then no turn is waited for.
+        their_turn.store(u64::MAX, Ordering::SeqCst);
+        done
+    })?;
+    for odd in [1, 3, 5] {
+        let Some(held) = locked.mutex.try_lock() else {
+            panic!(rt; "the lock is kept");
+        };
+        turn.fetch_max(odd, Ordering::SeqCst);
         thread::sleep(&rt, Duration::from_millis(20));
-        assert!(rt; !over.load(Ordering::SeqCst));
+        assert_eq!(rt; turn.load(Ordering::SeqCst), odd);
         drop(held);
-        expect_set(&rt, &over);
-        let (back, done) = runner.join(&rt);
-        assert!(rt; done);
-        manager = back;
+        expect_turn(&rt, &turn, odd + 1);
     }
+    assert_eq!(rt; runner.join(&rt), Ok(()));
     assert_eq!(rt; locked.mutex.try_lock().map(|held| held.count), Some(2));
     Ok(())
 }
 
-/// Adds a subscriber under a lock of its own, runs twice, and answers how many events it counted.
-fn count_under_an_owned_lock<P: EventPoller, R: Wait + Clock + Copy + Drop>(
-    manager: &mut EventManager<Locked<Counting, R>, P>,
-    rt: R,
-) -> event_manager::Result<u64> {
-    let id = manager.add_subscriber(Locked::new(counting_on(3), rt))?;
-    manager.run(&rt)?;
-    manager.run(&rt)?;
-    let count = manager.subscriber_mut(id)?.mutex.lock(&rt).count;
-    Ok(count)
-}
-
 #[test]
 fn owned_lock_is_called(rt: HostRuntime) -> Result<(), Fail> {
-    let manager = manager_over(rt, rt.alloc(), two_reports(rt.alloc())?)?;
-    let over = Arc::new(rt.alloc(), AtomicBool::new(false))?;
-    let theirs = over.clone()?;
+    let turn = Arc::new(rt.alloc(), AtomicU64::new(0))?;
+    let their_turn = turn.clone()?;
+    let parts = silent_parts(rt, rt.alloc(), PlainPoller(two_reports(rt.alloc())?))?;
     let runner = thread::spawn(&rt, move || {
-        let mut manager = manager;
-        let count = count_under_an_owned_lock(&mut manager, rt);
-        theirs.store(true, Ordering::SeqCst);
+        let runs = [(None, Ok(1)), (None, Ok(1))];
+        let left = run_alone(&rt, parts, Locked::new(counting_on(3), rt), &runs);
+        let count = left.map(|locked| locked.mutex.lock(&rt).count);
+        their_turn.store(1, Ordering::SeqCst);
         count
     })?;
-    expect_set(&rt, &over);
+    expect_turn(&rt, &turn, 1);
     assert_eq!(rt; runner.join(&rt), Ok(2));
     Ok(())
 }

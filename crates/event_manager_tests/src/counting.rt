@@ -1,8 +1,9 @@
 //! Subscribers that count their events, and managers of them over a script.
 
-use crate::parts::{script_of, silent_endpoint};
+use crate::parts::script_of;
+use crate::runs::{run_alone, silent_parts};
 use event_manager::{
-    EventManager, EventOps, EventPoller, EventSubscriber, Events, MutEventSubscriber, PlainPoller,
+    EventOps, EventPoller, EventSubscriber, Events, MutEventSubscriber, PlainPoller,
 };
 use std::alloc::Global;
 use std::process::Abort;
@@ -88,33 +89,16 @@ pub fn two_reports(alloc: Global) -> Result<ScriptPoller, Fail> {
     Ok(script)
 }
 
-/// A manager over a script.
-pub fn manager_over<S, R>(
-    rt: R,
-    alloc: Global,
-    script: ScriptPoller,
-) -> Result<EventManager<S, PlainPoller<ScriptPoller>>, Fail>
+/// The subscriber, after a manager has served it each of the two reports by a run of its own.
+pub fn served_twice<S, R>(rt: R, alloc: Global, subscriber: S) -> Result<S, Fail>
 where
     S: MutEventSubscriber + Drop,
-    R: Wait + Clock + Clone + Send + Drop,
+    R: Wait + Clock + Abort + Clone + Send + Drop,
 {
-    let endpoint = silent_endpoint(rt, alloc)?;
-    Ok(EventManager::new(alloc, PlainPoller(script), endpoint)?)
-}
-
-/// A run answers this count.
-pub fn run_counts<S, P, R>(
-    rt: &R,
-    manager: &mut EventManager<S, P>,
-    count: usize,
-) -> Result<(), Fail>
-where
-    S: MutEventSubscriber,
-    P: EventPoller,
-    R: Abort + Wait + Clock,
-{
-    assert_eq!(rt; manager.run(rt), Ok(count));
-    Ok(())
+    let handle = rt.clone()?;
+    let parts = silent_parts(handle, alloc, PlainPoller(two_reports(alloc)?))?;
+    let runs = [(None, Ok(1)), (None, Ok(1))];
+    Ok(run_alone(&rt, parts, subscriber, &runs)?)
 }
 
 pub fn counting_on(fd: u16) -> Counting {

@@ -2,9 +2,9 @@
 
 use crate::log::Watcher;
 use crate::parts::{counter_at, script_of, script_of_words};
+use crate::runs::{Parts, Run, run_alone, run_over};
 use event_manager::{
-    Error, EventManager, EventOps, EventPoller, Events, MutEventSubscriber, PlainPoller,
-    SubscriberOps,
+    Error, EventOps, EventPoller, Events, MutEventSubscriber, PlainPoller, Result,
 };
 use std::alloc::Global;
 use std::process::Abort;
@@ -36,29 +36,37 @@ impl<T: Poller> Probe<T> {
     }
 }
 
-/// A manager over a script, and what shows whether its endpoint was read.
-#[derive(Drop)]
-struct Probed<S, T> {
-    manager: EventManager<S, PlainPoller<ScriptPoller>>,
-    probe: Probe<T>,
-}
-
-/// Such a manager, whose endpoint has this descriptor and value 3.
-fn make_probed<S, R>(
+/// The parts of a manager over this script, whose endpoint has this descriptor and value 3, and what shows whether that
+/// is read.
+fn make_probed<R: Wait + Clock + Copy + Send + Drop>(
     rt: &R,
     alloc: Global,
     script: ScriptPoller,
     endpoint: u8,
-) -> std::result::Result<Probed<S, Epoll<R>>, Fail>
-where
-    S: MutEventSubscriber + Drop,
-    R: Wait + Clock + Copy + Send + Drop,
-{
+) -> std::result::Result<(Parts<PlainPoller<ScriptPoller>>, Probe<Epoll<R>>), Errno> {
     let epoll = Epoll::new(*rt, alloc)?;
-    let counter = counter_at(&epoll, endpoint, 3, rt)?;
-    let probe = Probe::new(epoll, &counter)?;
-    let manager = EventManager::new(alloc, PlainPoller(script), counter)?;
-    Ok(Probed { manager, probe })
+    let event_fd = counter_at(&epoll, endpoint, 3, rt)?;
+    let probe = Probe::new(epoll, &event_fd)?;
+    let parts = Parts {
+        alloc,
+        poller: PlainPoller(script),
+        event_fd,
+        capacity: None,
+    };
+    Ok((parts, probe))
+}
+
+/// Whether the endpoint of this descriptor is read by this run over the script, of a manager without subscribers.
+fn is_read_by<R: Wait + Clock + Abort + Copy + Send + Drop>(
+    rt: &R,
+    alloc: Global,
+    script: ScriptPoller,
+    endpoint: u8,
+    run: Run,
+) -> std::result::Result<bool, Fail> {
+    let (parts, mut probe) = make_probed(rt, alloc, script, endpoint)?;
+    run_over::<Watcher, _, R>(rt, parts, Vec::new(alloc), &[run])?;
+    Ok(probe.is_read())
 }
 
 /// Notes at its event whether the endpoint was read by then.
@@ -88,7 +96,7 @@ impl<T: Poller> MutEventSubscriber for Looking<T> {
 }
 
 /// Whether the endpoint of this descriptor is read by a run that reports these words, each with this set.
-fn is_read_after<R: Wait + Clock + Copy + Send + Drop>(
+fn is_read_after<R: Wait + Clock + Abort + Copy + Send + Drop>(
     rt: &R,
     alloc: Global,
     endpoint: u8,
@@ -96,9 +104,7 @@ fn is_read_after<R: Wait + Clock + Copy + Send + Drop>(
     words: &[u64],
 ) -> std::result::Result<bool, Fail> {
     let script = script_of_words(alloc, set, words)?;
-    let mut probed = make_probed::<Watcher, R>(rt, alloc, script, endpoint)?;
-    probed.manager.run(rt)?;
-    Ok(probed.probe.is_read())
+    is_read_by(rt, alloc, script, endpoint, (None, Ok(words.len())))
 }
 
 #[test]
@@ -138,28 +144,23 @@ fn endpoint_is_left_where_the_wait_is_refused(rt: HostRuntime) -> std::result::R
     for (errno, answer) in answers {
         let mut script = ScriptPoller::new(rt.alloc());
         script.push_fault(errno)?;
-        let mut probed = make_probed::<Watcher, _>(&rt, rt.alloc(), script, 2)?;
-        assert_eq!(rt; probed.manager.run(&rt), answer);
-        assert!(rt; !probed.probe.is_read(), "{errno}");
+        let is_read = is_read_by(&rt, rt.alloc(), script, 2, (None, answer))?;
+        assert!(rt; !is_read, "{errno}");
     }
     Ok(())
 }
 
 #[test]
 fn endpoint_is_read_after_the_deliveries(rt: HostRuntime) -> std::result::Result<(), Fail> {
-    let epoll = Epoll::new(rt, rt.alloc())?;
-    let counter = counter_at(&epoll, 2, 3, &rt)?;
     let script = script_of(rt.alloc(), &[2, 3, 2])?;
-    let probe = Probe::new(epoll, &counter)?;
-    let mut manager = EventManager::new(rt.alloc(), PlainPoller(script), counter)?;
+    let (parts, probe) = make_probed(&rt, rt.alloc(), script, 2)?;
     let own = Events::new_raw(3, EventSet::IN);
-    let id = manager.add_subscriber(Looking {
+    let looking = Looking {
         probe,
         own,
         was_read: None,
-    })?;
-    assert_eq!(rt; manager.run(&rt), Ok(3));
-    let looking = manager.subscriber_mut(id)?;
+    };
+    let mut looking = run_alone(&rt, parts, looking, &[(None, Ok(3))])?;
     assert_eq!(rt; looking.was_read, Some(false));
     assert!(rt; looking.probe.is_read());
     Ok(())

@@ -24,6 +24,8 @@ mod real_parts;
 #[cfg(test)]
 mod requests;
 #[cfg(test)]
+mod runs;
+#[cfg(test)]
 mod sizes;
 #[cfg(test)]
 mod wrappers;

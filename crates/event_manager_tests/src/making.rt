@@ -3,22 +3,22 @@
 ghost use Rattle.std.specs.Prelude.{◌≤ℤ◌, pos};
 
 use crate::log::{Log, Watcher, got, make_watcher};
-use crate::parts::{Recorder, script_of, silent_endpoint};
+use crate::parts::{Recorder, script_of};
+use crate::runs::{Parts, WithManager, run_alone, run_over, silent_parts, with_manager};
 use event_manager::{
     BoxedPoller, Error, EventManager, EventOps, EventPoller, Events, MAX_READY_EVENTS_CAPACITY,
-    SubscriberOps,
+    MutEventSubscriber, NoJob, SubscriberOps,
 };
+use std::alloc::Global;
 use std::process::Abort;
+use std::sync::Wait;
+use std::sync::ledger::Ledger;
 use std::test::Fail;
+use std::time::Clock;
 use vmm_sys::epoll::{ControlOperation, EventSet, RawFd};
 use vmm_sys::errno::Errno;
 use vmm_sys::poller::Poller;
 use vmm_sys::script_poller::ScriptPoller;
-
-fn boxed(rt: HostRuntime, script: ScriptPoller) -> Result<BoxedPoller, Fail> {
-    let poller: Box<dyn Poller + Send> = Box::new(rt.alloc(), script)?;
-    Ok(BoxedPoller(poller))
-}
 
 fn watcher_of(rt: HostRuntime, log: &Log, number: u64, fd: RawFd) -> Result<Watcher, Fail>
     requires { pos 0 ≤ℤ fd }
@@ -27,18 +27,31 @@ fn watcher_of(rt: HostRuntime, log: &Log, number: u64, fd: RawFd) -> Result<Watc
     Ok(make_watcher(rt.alloc(), log, number, own)?)
 }
 
+/// The parts of a manager over a boxed script, with a silent endpoint and no capacity.
+fn boxed_parts<R: Wait + Clock + Clone + Send + Drop>(
+    rt: R,
+    alloc: Global,
+    script: ScriptPoller,
+) -> Result<Parts<BoxedPoller>, Fail> {
+    let poller: Box<dyn Poller + Send> = Box::new(alloc, script)?;
+    Ok(silent_parts(rt, alloc, BoxedPoller(poller))?)
+}
+
+/// What refuses a manager of these parts, if anything does.
+fn refusal<P: EventPoller + Drop, R: Wait + Clock + Abort>(
+    rt: &R,
+    parts: Parts<P>,
+) -> Option<Error> {
+    let none = Vec::new(parts.alloc);
+    run_over::<Watcher, P, R>(rt, parts, none, &[]).err()
+}
+
 #[test]
 fn capacity_has_a_limit(rt: HostRuntime) -> Result<(), Fail> {
     for capacity in [MAX_READY_EVENTS_CAPACITY + 1, usize::MAX] {
-        let poller = boxed(rt, ScriptPoller::new(rt.alloc()))?;
-        let endpoint = silent_endpoint(rt, rt.alloc())?;
-        let made = EventManager::<Watcher>::new_with_capacity(
-            rt.alloc(),
-            poller,
-            endpoint,
-            capacity,
-        );
-        assert_eq!(rt; made.err(), Some(Error::InvalidCapacity));
+        let mut parts = boxed_parts(rt, rt.alloc(), ScriptPoller::new(rt.alloc()))?;
+        parts.capacity = Some(capacity);
+        assert_eq!(rt; refusal(&rt, parts), Some(Error::InvalidCapacity));
     }
     Ok(())
 }
@@ -46,13 +59,9 @@ fn capacity_has_a_limit(rt: HostRuntime) -> Result<(), Fail> {
 #[test]
 fn capacity_above_the_limit_asks_the_poller_for_nothing(rt: HostRuntime) -> Result<(), Fail> {
     let recorder = Recorder::new(rt.alloc())?;
-    let made = EventManager::<Watcher, _>::new_with_capacity(
-        rt.alloc(),
-        recorder.try_clone()?,
-        silent_endpoint(rt, rt.alloc())?,
-        MAX_READY_EVENTS_CAPACITY + 1,
-    );
-    assert!(rt; made.is_err());
+    let mut parts = silent_parts(rt, rt.alloc(), recorder.try_clone()?)?;
+    parts.capacity = Some(MAX_READY_EVENTS_CAPACITY + 1);
+    assert!(rt; refusal(&rt, parts).is_some());
     assert!(rt; recorder.was_asked(&[]));
     Ok(())
 }
@@ -60,15 +69,10 @@ fn capacity_above_the_limit_asks_the_poller_for_nothing(rt: HostRuntime) -> Resu
 #[test]
 fn capacity_0_is_left_to_the_wait(rt: HostRuntime) -> Result<(), Fail> {
     let log = Log::new(rt.alloc())?;
-    let poller = boxed(rt, script_of(rt.alloc(), &[3])?)?;
-    let mut manager = EventManager::<Watcher>::new_with_capacity(
-        rt.alloc(),
-        poller,
-        silent_endpoint(rt, rt.alloc())?,
-        0,
-    )?;
-    manager.add_subscriber(watcher_of(rt, &log, 1, 3)?)?;
-    assert_eq!(rt; manager.run(&rt), Err(Error::Epoll(Errno::EINVAL)));
+    let mut parts = boxed_parts(rt, rt.alloc(), script_of(rt.alloc(), &[3])?)?;
+    parts.capacity = Some(0);
+    let refused = Err(Error::Epoll(Errno::EINVAL));
+    run_alone(&rt, parts, watcher_of(rt, &log, 1, 3)?, &[(None, refused)])?;
     assert!(rt; log.were(&[]));
     Ok(())
 }
@@ -77,46 +81,64 @@ fn capacity_0_is_left_to_the_wait(rt: HostRuntime) -> Result<(), Fail> {
 fn endpoint_that_the_poller_refuses(rt: HostRuntime) -> Result<(), Fail> {
     let mut script = ScriptPoller::new(rt.alloc());
     script.push_refusal(ControlOperation::Add, 0, Errno::EBADF)?;
-    let made = EventManager::<Watcher>::new(
-        rt.alloc(),
-        boxed(rt, script)?,
-        silent_endpoint(rt, rt.alloc())?,
-    );
-    assert_eq!(rt; made.err(), Some(Error::Epoll(Errno::EBADF)));
+    let parts = boxed_parts(rt, rt.alloc(), script)?;
+    assert_eq!(rt; refusal(&rt, parts), Some(Error::Epoll(Errno::EBADF)));
     Ok(())
 }
 
 #[test]
 fn subscribers_with_boxes_over_a_boxed_poller(rt: HostRuntime) -> Result<(), Fail> {
     let log = Log::new(rt.alloc())?;
-    let poller = boxed(rt, script_of(rt.alloc(), &[4, 3, 6, 0])?)?;
-    let mut manager = EventManager::<Watcher>::new(
-        rt.alloc(),
-        poller,
-        silent_endpoint(rt, rt.alloc())?,
-    )?;
-    let first = manager.add_subscriber(watcher_of(rt, &log, 1, 3)?)?;
-    let second = manager.add_subscriber(watcher_of(rt, &log, 2, 4)?)?;
-    assert_eq!(rt; (first.number(), second.number()), (1, 2));
-    assert_eq!(rt; manager.run(&rt), Ok(4));
+    let parts = boxed_parts(rt, rt.alloc(), script_of(rt.alloc(), &[4, 3, 6, 0])?)?;
+    let watchers = vec![in rt.alloc(); watcher_of(rt, &log, 1, 3)?, watcher_of(rt, &log, 2, 4)?]?;
+    run_over(&rt, parts, watchers, &[(None, Ok(4)), (Some(0), Ok(0))])?;
     assert!(rt; log.were(&[got(2, 4, EventSet::IN, 0), got(1, 3, EventSet::IN, 0)]));
-    assert_eq!(rt; manager.run_with_timeout(0, &rt), Ok(0));
     Ok(())
+}
+
+/// Puts another value in the place of the owner of 3, and asks beside it.
+#[derive(Drop)]
+struct Replacing<'a, R, S> {
+    rt: &'a R,
+    owner_of_3: S,
+    owner_of_4: S,
+    other: S,
+}
+
+impl<R: Abort, S: MutEventSubscriber + Drop> WithManager for Replacing<'_, R, S> {
+    type Subscriber = S;
+
+    type Output = ();
+
+    fn run<L: Ledger, T: Ledger, P: EventPoller>(
+        self,
+        manager: &mut EventManager<S, NoJob, L, T, P>,
+    ) -> event_manager::Result<()> {
+        let Replacing {
+            rt,
+            owner_of_3,
+            owner_of_4,
+            other,
+        } = self;
+        let first = manager.add_subscriber(owner_of_3)?;
+        let second = manager.add_subscriber(owner_of_4)?;
+        *manager.subscriber_mut(first)? = other;
+        asks_beside_the_owner_of_3(rt, manager.event_ops(second)?);
+        Ok(())
+    }
 }
 
 #[test]
 fn another_value_has_the_descriptors_of_the_one_before(rt: HostRuntime) -> Result<(), Fail> {
     let log = Log::new(rt.alloc())?;
-    let poller = boxed(rt, ScriptPoller::new(rt.alloc()))?;
-    let mut manager = EventManager::<Watcher>::new(
-        rt.alloc(),
-        poller,
-        silent_endpoint(rt, rt.alloc())?,
-    )?;
-    let first = manager.add_subscriber(watcher_of(rt, &log, 1, 3)?)?;
-    let second = manager.add_subscriber(watcher_of(rt, &log, 2, 4)?)?;
-    *manager.subscriber_mut(first)? = watcher_of(rt, &log, 7, 8)?;
-    asks_beside_the_owner_of_3(&rt, manager.event_ops(second)?);
+    let replacing = Replacing {
+        rt: &rt,
+        owner_of_3: watcher_of(rt, &log, 1, 3)?,
+        owner_of_4: watcher_of(rt, &log, 2, 4)?,
+        other: watcher_of(rt, &log, 7, 8)?,
+    };
+    let parts = boxed_parts(rt, rt.alloc(), ScriptPoller::new(rt.alloc()))?;
+    with_manager(parts, replacing)?;
     Ok(())
 }
 

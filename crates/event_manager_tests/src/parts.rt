@@ -62,7 +62,7 @@ pub struct Control {
     pub event: Events,
 }
 
-/// A poller that agrees to all, reports nothing, and notes what it is asked.
+/// A poller that agrees to all, reports nothing, and notes what it is asked after its last wait.
 #[derive(Drop)]
 pub struct Recorder {
     controls: Rc<RefCell<Vec<Control>>>,
@@ -110,6 +110,10 @@ impl EventPoller for Recorder {
     }
 
     fn wait_into(&mut self, _ms: i32, _buffer: &mut [EpollEvent]) -> Result<usize, Errno> {
+        let Ok(mut controls) = self.controls.try_borrow_mut() else {
+            return Err(Errno::EBADF);
+        };
+        controls.clear();
         Ok(0)
     }
 }

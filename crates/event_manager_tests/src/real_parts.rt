@@ -1,9 +1,9 @@
 //! A manager over the in-process table.
 
-use crate::log::{Log, Watcher, got, make_watcher};
+use crate::log::{Log, got, make_watcher};
+use crate::runs::{Parts, run_alone, run_over};
 use event_manager::{
-    BoxedPoller, Error, EventManager, EventOps, EventPoller, Events, MutEventSubscriber,
-    PlainPoller, SubscriberOps,
+    BoxedPoller, Error, EventOps, EventPoller, Events, MutEventSubscriber, PlainPoller,
 };
 use std::test::Fail;
 use vmm_sys::epoll::{AsRawFd, Epoll, EventSet};
@@ -39,6 +39,16 @@ impl MutEventSubscriber for Growing {
     }
 }
 
+/// The parts of a manager without a capacity.
+fn parts_of<P>(rt: HostRuntime, poller: P, event_fd: EventFd) -> Parts<P> {
+    Parts {
+        alloc: rt.alloc(),
+        poller,
+        event_fd,
+        capacity: None,
+    }
+}
+
 #[test]
 fn descriptor_added_in_process_is_served_by_the_next_run(rt: HostRuntime) -> Result<(), Fail> {
     let log = Log::new(rt.alloc())?;
@@ -47,16 +57,15 @@ fn descriptor_added_in_process_is_served_by_the_next_run(rt: HostRuntime) -> Res
     let first = EventFd::new(&epoll, 0, &rt)?;
     let second = EventFd::new(&epoll, 0, &rt)?;
     let poller: Box<dyn Poller + Send> = Box::new(rt.alloc(), epoll)?;
-    let mut manager = EventManager::<Growing>::new(rt.alloc(), BoxedPoller(poller), endpoint)?;
-    manager.add_subscriber(Growing {
+    let growing = Growing {
         first: Events::new(&first, EventSet::OUT),
         second: Events::new(&second, EventSet::OUT),
         log: log.try_clone()?,
-    })?;
-    assert_eq!(rt; manager.run(&rt), Ok(1));
-    assert!(rt; log.were(&[got(1, 1, EventSet::OUT, 0)]));
-    assert_eq!(rt; manager.run(&rt), Ok(2));
-    assert!(rt; log.were(&[got(1, 1, EventSet::OUT, 0), got(1, 2, EventSet::OUT, 0)]));
+    };
+    let parts = parts_of(rt, BoxedPoller(poller), endpoint);
+    run_alone(&rt, parts, growing, &[(None, Ok(1)), (None, Ok(2))])?;
+    let of_first = got(1, 1, EventSet::OUT, 0);
+    assert!(rt; log.were(&[of_first, of_first, got(1, 2, EventSet::OUT, 0)]));
     Ok(())
 }
 
@@ -64,9 +73,9 @@ fn descriptor_added_in_process_is_served_by_the_next_run(rt: HostRuntime) -> Res
 fn endpoint_is_read_once_after_its_event(rt: HostRuntime) -> Result<(), Fail> {
     let epoll = Epoll::new(rt, rt.alloc())?;
     let endpoint = EventFd::new(&epoll, 3, &rt)?;
-    let mut manager = EventManager::<Growing, _>::new(rt.alloc(), PlainPoller(epoll), endpoint)?;
-    assert_eq!(rt; manager.run(&rt), Ok(1));
-    assert_eq!(rt; manager.run_with_timeout(0, &rt), Ok(0));
+    let parts = parts_of(rt, PlainPoller(epoll), endpoint);
+    let runs = [(None, Ok(1)), (Some(0), Ok(0))];
+    run_over::<Growing, _, _>(&rt, parts, Vec::new(rt.alloc()), &runs)?;
     Ok(())
 }
 
@@ -79,14 +88,15 @@ fn capacity_0_over_a_table(rt: HostRuntime) -> Result<(), Fail> {
     assert_eq!(rt; table.add_counter(0), Ok(endpoint.as_raw_fd()));
     assert_eq!(rt; table.add_counter(1), Ok(1));
     let own = Events::new_raw(1, EventSet::IN);
-    let mut manager = EventManager::<Watcher, _>::new_with_capacity(
-        rt.alloc(),
-        PlainPoller(table),
-        endpoint,
-        0,
+    let watcher = make_watcher(rt.alloc(), &log, 1, own)?;
+    let mut parts = parts_of(rt, PlainPoller(table), endpoint);
+    parts.capacity = Some(0);
+    run_alone(
+        &rt,
+        parts,
+        watcher,
+        &[(None, Err(Error::Epoll(Errno::EINVAL)))],
     )?;
-    manager.add_subscriber(make_watcher(rt.alloc(), &log, 1, own)?)?;
-    assert_eq!(rt; manager.run(&rt), Err(Error::Epoll(Errno::EINVAL)));
     assert!(rt; log.were(&[]));
     Ok(())
 }

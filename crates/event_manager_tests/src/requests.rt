@@ -4,14 +4,17 @@ ghost use Rattle.std.specs.Prelude.{◌≡◌};
 ghost use Rattle.event_manager.specs.Registry.{Step};
 ghost use Rattle.event_manager.specs.LoopState.{HasStepped, IsRequest};
 
-use crate::counting::manager_over;
-use crate::parts::{Control, Recorder, silent_endpoint};
+use crate::parts::{Control, Recorder};
+use crate::runs::{Parts, Runs, WithManager, silent_parts, with_manager};
 use event_manager::{
-    Error, EventManager, EventOps, EventPoller, Events, MutEventSubscriber, Request, Result,
-    SubscriberId, SubscriberOps,
+    Error, EventManager, EventOps, EventPoller, Events, MutEventSubscriber, NoJob, PlainPoller,
+    Request, Result, SubscriberId, SubscriberOps,
 };
 use std::process::Abort;
+use std::sync::Wait;
+use std::sync::ledger::Ledger;
 use std::test::Fail;
+use std::time::Clock;
 use vmm_sys::epoll::{ControlOperation, EventSet};
 use vmm_sys::errno::Errno;
 use vmm_sys::script_poller::ScriptPoller;
@@ -55,7 +58,7 @@ fn ask<O: SubscriberOps>(owner: &mut O, id: SubscriberId, request: Request) -> R
 }
 
 /// Makes the requests under the id, and compares the answers.
-fn expect_answers<O: SubscriberOps, R: Abort>(
+pub fn expect_answers<O: SubscriberOps, R: Abort>(
     rt: &R,
     owner: &mut O,
     id: SubscriberId,
@@ -77,70 +80,97 @@ where
     assert_eq!(rt; ask(owner, id, Request::Add(wanted(3))).err(), unknown);
 }
 
+fn pair_of(first: u8, second: u8) -> Pair {
+    Pair { first, second }
+}
+
+/// The first makes these requests, and a neighbour none; then both leave.
+fn request_and_leave<P: EventPoller + Drop, R: Wait + Clock + Abort>(
+    rt: &R,
+    parts: Parts<P>,
+    requests: &[(Request, Result<()>)],
+) -> std::result::Result<(), Fail> {
+    let alloc = parts.alloc;
+    let body = Runs {
+        rt,
+        alloc,
+        subscribers: vec![in alloc; pair_of(3, 4), pair_of(5, 6)]?,
+        requests,
+        runs: &[(None, Ok(0))],
+    };
+    with_manager(parts, body)?;
+    Ok(())
+}
+
 #[test]
 fn one_delete_each_in_the_order_of_addition(rt: HostRuntime) -> std::result::Result<(), Fail> {
     let recorder = Recorder::new(rt.alloc())?;
-    let endpoint = silent_endpoint(rt, rt.alloc())?;
-    let mut manager = EventManager::new(rt.alloc(), recorder.try_clone()?, endpoint)?;
-    let id = manager.add_subscriber(Pair {
-        first: 3,
-        second: 4,
-    })?;
-    manager.add_subscriber(Pair {
-        first: 5,
-        second: 6,
-    })?;
+    let parts = silent_parts(rt, rt.alloc(), recorder.try_clone()?)?;
     let requests = [
         (Request::Remove(wanted(3)), Ok(())),
         (Request::Add(wanted(7)), Ok(())),
         (Request::Add(wanted(3)), Ok(())),
     ];
-    expect_answers(&rt, &mut manager, id, &requests);
-    assert!(rt; !recorder.was_asked(&[]));
-    manager.remove_subscriber(id)?;
+    request_and_leave(&rt, parts, &requests)?;
     let event = Events::empty_raw(0);
     let delete = |fd: u32| Control {
         op: ControlOperation::Delete,
         fd,
         event,
     };
-    assert!(rt; recorder.was_asked(&[delete(4), delete(7), delete(3)]));
+    let deletes = [delete(4), delete(7), delete(3), delete(5), delete(6)];
+    assert!(rt; recorder.was_asked(&deletes));
     Ok(())
+}
+
+/// The owner of 3 and 4 leaves beside a neighbour, which then asks for what has become free.
+#[derive(Drop)]
+struct Leaving<'a, R> {
+    rt: &'a R,
+}
+
+impl<R: Abort> WithManager for Leaving<'_, R> {
+    type Subscriber = Pair;
+
+    type Output = ();
+
+    fn run<L: Ledger, T: Ledger, P: EventPoller>(
+        self,
+        manager: &mut EventManager<Pair, NoJob, L, T, P>,
+    ) -> Result<()> {
+        let rt = self.rt;
+        let id = manager.add_subscriber(pair_of(3, 4))?;
+        let neighbour = manager.add_subscriber(pair_of(5, 6))?;
+        let taken = Err(Error::FdAlreadyRegistered);
+        let before = [
+            (Request::Add(wanted(3)), taken),
+            (Request::Add(wanted(4)), taken),
+        ];
+        expect_answers(rt, manager, neighbour, &before);
+
+        let left = manager.remove_subscriber(id)?;
+        assert_eq!(rt; (left.first, left.second), (3, 4));
+        // The leave used the refusal up.
+        let after = [
+            (Request::Add(wanted(5)), taken),
+            (Request::Add(wanted(6)), taken),
+            (Request::Add(wanted(3)), Ok(())),
+            (Request::Add(wanted(4)), Ok(())),
+            (Request::Remove(wanted(4)), Ok(())),
+        ];
+        expect_answers(rt, manager, neighbour, &after);
+        assert_eq!(rt; manager.add_subscriber(left)?.number(), 3);
+        expect_unknown(rt, manager, id);
+        Ok(())
+    }
 }
 
 #[test]
 fn leaving_frees_whatever_the_poller_answers(rt: HostRuntime) -> std::result::Result<(), Fail> {
     let mut script = ScriptPoller::new(rt.alloc());
     script.push_refusal(ControlOperation::Delete, 4, Errno(22))?;
-    let mut manager = manager_over(rt, rt.alloc(), script)?;
-    let id = manager.add_subscriber(Pair {
-        first: 3,
-        second: 4,
-    })?;
-    let neighbour = manager.add_subscriber(Pair {
-        first: 5,
-        second: 6,
-    })?;
-    let taken = Err(Error::FdAlreadyRegistered);
-    let before = [
-        (Request::Add(wanted(3)), taken),
-        (Request::Add(wanted(4)), taken),
-    ];
-    expect_answers(&rt, &mut manager, neighbour, &before);
-
-    let left = manager.remove_subscriber(id)?;
-    assert_eq!(rt; (left.first, left.second), (3, 4));
-    // The leave used the refusal up.
-    let after = [
-        (Request::Add(wanted(5)), taken),
-        (Request::Add(wanted(6)), taken),
-        (Request::Add(wanted(3)), Ok(())),
-        (Request::Add(wanted(4)), Ok(())),
-        (Request::Remove(wanted(4)), Ok(())),
-    ];
-    expect_answers(&rt, &mut manager, neighbour, &after);
-    assert_eq!(rt; manager.add_subscriber(left)?.number(), 3);
-    expect_unknown(&rt, &mut manager, id);
+    let parts = silent_parts(rt, rt.alloc(), PlainPoller(script))?;
+    with_manager(parts, Leaving { rt: &rt })?;
     Ok(())
 }
 
@@ -172,15 +202,6 @@ fn a_request_is_answered_by_the_table(rt: HostRuntime) -> std::result::Result<()
     script.push_refusal(ControlOperation::Add, 7, Errno(1))?;
     script.push_refusal(ControlOperation::Modify, 3, Errno(5))?;
     script.push_refusal(ControlOperation::Delete, 4, Errno(22))?;
-    let mut manager = manager_over(rt, rt.alloc(), script)?;
-    let id = manager.add_subscriber(Pair {
-        first: 3,
-        second: 4,
-    })?;
-    manager.add_subscriber(Pair {
-        first: 5,
-        second: 6,
-    })?;
-    expect_answers(&rt, &mut manager, id, &requests_and_answers());
-    Ok(())
+    let parts = silent_parts(rt, rt.alloc(), PlainPoller(script))?;
+    request_and_leave(&rt, parts, &requests_and_answers())
 }

@@ -1,11 +1,9 @@
 //! Many descriptors, subscribers, requests and events: no call is refused for want of memory.
 
-use crate::counting::{counting_on, manager_over, run_counts};
-use crate::parts::{Control, Recorder, script_of, silent_endpoint};
-use event_manager::{
-    BoxedSubscriber, EventManager, Events, PlainPoller, Request, StepInput, StepSubscriber,
-    SubscriberOps,
-};
+use crate::counting::counting_on;
+use crate::parts::{Control, Recorder, script_of};
+use crate::runs::{Runs, run_alone, run_over, silent_parts, with_manager};
+use event_manager::{BoxedSubscriber, Events, PlainPoller, Request, StepInput, StepSubscriber};
 use std::alloc::Global;
 use std::sync::Arc;
 use std::sync::atomic::{AtomicU64, Ordering};
@@ -80,12 +78,10 @@ fn deletes(alloc: Global) -> Result<Vec<Control>, Fail> {
 fn three_hundred_descriptors_of_one_subscriber(rt: HostRuntime) -> Result<(), Fail> {
     let agreed = Arc::new(rt.alloc(), AtomicU64::new(0))?;
     let recorder = Recorder::new(rt.alloc())?;
-    let endpoint = silent_endpoint(rt, rt.alloc())?;
-    let mut manager = EventManager::new(rt.alloc(), recorder.try_clone()?, endpoint)?;
-    let id = manager.add_subscriber(make_grabbing(rt.alloc(), true, &agreed)?)?;
+    let parts = silent_parts(rt, rt.alloc(), recorder.try_clone()?)?;
+    let grabbing = make_grabbing(rt.alloc(), true, &agreed)?;
+    run_alone(&rt, parts, grabbing, &[(None, Ok(0))])?;
     assert_eq!(rt; agreed.load(Ordering::SeqCst), 300);
-    assert!(rt; !recorder.was_asked(&[]));
-    manager.remove_subscriber(id)?;
     assert!(rt; recorder.was_asked(&deletes(rt.alloc())?));
     Ok(())
 }
@@ -94,13 +90,16 @@ fn three_hundred_descriptors_of_one_subscriber(rt: HostRuntime) -> Result<(), Fa
 fn three_hundred_requests_at_one_event(rt: HostRuntime) -> Result<(), Fail> {
     let agreed = Arc::new(rt.alloc(), AtomicU64::new(0))?;
     let script = script_of(rt.alloc(), &[400])?;
-    let endpoint = silent_endpoint(rt, rt.alloc())?;
-    let mut manager = EventManager::new(rt.alloc(), PlainPoller(script), endpoint)?;
-    let id = manager.add_subscriber(make_grabbing(rt.alloc(), false, &agreed)?)?;
-    manager
-        .event_ops(id)?
-        .add(Events::new_raw(400, EventSet::IN))?;
-    assert_eq!(rt; manager.run(&rt), Ok(1));
+    let parts = silent_parts(rt, rt.alloc(), PlainPoller(script))?;
+    let own = Events::new_raw(400, EventSet::IN);
+    let body = Runs {
+        rt: &rt,
+        alloc: rt.alloc(),
+        subscribers: vec![in rt.alloc(); make_grabbing(rt.alloc(), false, &agreed)?]?,
+        requests: &[(Request::Add(own), Ok(()))],
+        runs: &[(None, Ok(1))],
+    };
+    with_manager(parts, body)?;
     assert_eq!(rt; agreed.load(Ordering::SeqCst), 300);
     Ok(())
 }
@@ -111,16 +110,17 @@ fn three_hundred_subscribers(rt: HostRuntime) -> Result<(), Fail> {
     for fd in 1..301 {
         fds.push(fd)?;
     }
-    let mut manager = manager_over(rt, rt.alloc(), script_of(rt.alloc(), &fds)?)?;
-    let mut ids = Vec::new(rt.alloc());
+    let mut subscribers = Vec::new(rt.alloc());
     for fd in 1..301 {
-        ids.push(manager.add_subscriber(counting_on(fd))?)?;
+        subscribers.push(counting_on(fd))?;
     }
+    let script = script_of(rt.alloc(), &fds)?;
+    let parts = silent_parts(rt, rt.alloc(), PlainPoller(script))?;
     // The rest of the report is more than the capacity has room for.
-    run_counts(&rt, &mut manager, 256)?;
-    run_counts(&rt, &mut manager, 44)?;
-    for id in ids {
-        assert_eq!(rt; manager.subscriber_mut(id)?.count, 1);
+    let left = run_over(&rt, parts, subscribers, &[(None, Ok(256)), (None, Ok(44))])?;
+    assert_eq!(rt; left.len(), 300);
+    for counting in left {
+        assert_eq!(rt; counting.count, 1);
     }
     Ok(())
 }
@@ -128,14 +128,10 @@ fn three_hundred_subscribers(rt: HostRuntime) -> Result<(), Fail> {
 #[test]
 fn five_thousand_events_of_one_batch(rt: HostRuntime) -> Result<(), Fail> {
     let fds = vec![in rt.alloc(); 3; 5000]?;
-    let mut manager = EventManager::new_with_capacity(
-        rt.alloc(),
-        PlainPoller(script_of(rt.alloc(), &fds)?),
-        silent_endpoint(rt, rt.alloc())?,
-        100000,
-    )?;
-    let id = manager.add_subscriber(counting_on(3))?;
-    run_counts(&rt, &mut manager, 5000)?;
-    assert_eq!(rt; manager.subscriber_mut(id)?.count, 5000);
+    let script = script_of(rt.alloc(), &fds)?;
+    let mut parts = silent_parts(rt, rt.alloc(), PlainPoller(script))?;
+    parts.capacity = Some(100000);
+    let left = run_alone(&rt, parts, counting_on(3), &[(None, Ok(5000))])?;
+    assert_eq!(rt; left.count, 5000);
     Ok(())
 }

@@ -1,0 +1,190 @@
+//! Managers for one test each, and the runs that most tests make.
+
+use crate::parts::silent_endpoint;
+use crate::requests::expect_answers;
+use event_manager::{
+    Error, EventManager, EventPoller, MutEventSubscriber, NoJob, Request, Result, SubscriberId,
+    SubscriberOps, WithLedgers, with_ledgers,
+};
+use std::alloc::Global;
+use std::process::Abort;
+use std::sync::Wait;
+use std::sync::ledger::{Blank, Ledger};
+use std::time::Clock;
+use vmm_sys::errno::Errno;
+use vmm_sys::eventfd::EventFd;
+
+/// What a test does with a manager, whatever its ledgers and its poller.
+pub trait WithManager: Drop {
+    /// The type of the manager's subscribers.
+    type Subscriber: MutEventSubscriber + Drop;
+
+    /// What the test then looks at.
+    type Output;
+
+    /// Does it.
+    fn run<L: Ledger, T: Ledger, P: EventPoller>(
+        self,
+        manager: &mut EventManager<Self::Subscriber, NoJob, L, T, P>,
+    ) -> Result<Self::Output>;
+}
+
+/// What a manager is made of. Without a capacity it is the one that `new` takes.
+#[derive(Drop)]
+pub struct Parts<P> {
+    pub alloc: Global,
+    pub poller: P,
+    pub event_fd: EventFd,
+    pub capacity: Option<usize>,
+}
+
+/// Parts with a silent endpoint, and no capacity.
+pub fn silent_parts<P: Drop, R: Wait + Clock + Clone + Send + Drop>(
+    rt: R,
+    alloc: Global,
+    poller: P,
+) -> std::result::Result<Parts<P>, Errno> {
+    Ok(Parts {
+        alloc,
+        poller,
+        event_fd: silent_endpoint(rt, alloc)?,
+        capacity: None,
+    })
+}
+
+/// A body, and the parts of its manager.
+struct Made<B, P> {
+    parts: Parts<P>,
+    body: B,
+}
+
+impl<B: WithManager, P: EventPoller + Drop> WithLedgers for Made<B, P> {
+    type Output = Result<B::Output>;
+
+    fn run<L: Ledger + Send + Sync, T: Ledger + Send + Sync>(
+        self,
+        tickets: Blank,
+        taken: Blank,
+    ) -> Result<B::Output> {
+        let Made { parts, body } = self;
+        let Parts {
+            alloc,
+            poller,
+            event_fd,
+            capacity,
+        } = parts;
+        let mut manager = match capacity {
+            Some(capacity) => EventManager::<B::Subscriber, NoJob, L, T, P>::new_with_capacity(
+                alloc, poller, event_fd, capacity, tickets, taken,
+            )?,
+            None => EventManager::new(alloc, poller, event_fd, tickets, taken)?,
+        };
+        body.run(&mut manager)
+    }
+}
+
+/// Runs the body over a manager of these parts, which is then dropped.
+pub fn with_manager<B: WithManager, P: EventPoller + Drop>(
+    parts: Parts<P>,
+    body: B,
+) -> Result<B::Output> {
+    with_ledgers(Made { parts, body })
+}
+
+/// The limit of a run in milliseconds, or none, and the answer.
+pub type Run = (Option<i32>, Result<usize>);
+
+/// Takes the subscribers in, makes the requests of the first, and runs; each request and each run must have the answer
+/// that stands beside it. Then all leave, and come back in the order in which they joined.
+#[derive(Drop)]
+pub struct Runs<'a, R, S> {
+    pub rt: &'a R,
+    pub alloc: Global,
+    pub subscribers: Vec<S>,
+    pub requests: &'a [(Request, Result<()>)],
+    pub runs: &'a [Run],
+}
+
+impl<R: Wait + Clock + Abort, S: MutEventSubscriber + Drop> WithManager for Runs<'_, R, S> {
+    type Subscriber = S;
+
+    type Output = Vec<S>;
+
+    fn run<L: Ledger, T: Ledger, P: EventPoller>(
+        self,
+        manager: &mut EventManager<S, NoJob, L, T, P>,
+    ) -> Result<Vec<S>> {
+        let Runs {
+            rt,
+            alloc,
+            subscribers,
+            requests,
+            runs,
+        } = self;
+        let mut ids = Vec::new(alloc);
+        for subscriber in subscribers {
+            let id = manager.add_subscriber(subscriber)?;
+            ids.push(id).map_err(no_memory)?;
+            assert_eq!(rt; id.number(), ids.len() as u64);
+        }
+        if let Some(id) = ids.first() {
+            expect_answers(rt, manager, *id, requests);
+        }
+        for (limit, answer) in runs {
+            let ran = match limit {
+                Some(ms) => manager.run_with_timeout(*ms, rt),
+                None => manager.run(rt),
+            };
+            assert_eq!(rt; ran, *answer);
+        }
+        let mut left = Vec::new(alloc);
+        for id in ids {
+            let subscriber = manager.remove_subscriber(id)?;
+            left.push(subscriber).map_err(no_memory)?;
+        }
+        Ok(left)
+    }
+}
+
+/// Makes these runs over a manager of these parts, and answers the subscribers.
+pub fn run_over<S, P, R>(
+    rt: &R,
+    parts: Parts<P>,
+    subscribers: Vec<S>,
+    runs: &[Run],
+) -> Result<Vec<S>>
+where
+    S: MutEventSubscriber + Drop,
+    P: EventPoller + Drop,
+    R: Wait + Clock + Abort,
+{
+    let body = Runs {
+        rt,
+        alloc: parts.alloc,
+        subscribers,
+        requests: &[],
+        runs,
+    };
+    with_manager(parts, body)
+}
+
+/// The same with one subscriber.
+pub fn run_alone<S, P, R>(rt: &R, parts: Parts<P>, subscriber: S, runs: &[Run]) -> Result<S>
+where
+    S: MutEventSubscriber + Drop,
+    P: EventPoller + Drop,
+    R: Wait + Clock + Abort,
+{
+    let mut subscribers = Vec::new(parts.alloc);
+    subscribers.push(subscriber).map_err(no_memory)?;
+    // Never none: as many come back as joined.
+    match run_over(rt, parts, subscribers, runs)?.pop() {
+        Some(subscriber) => Ok(subscriber),
+        None => Err(Error::InvalidId),
+    }
+}
+
+/// The error of a manager for want of memory.
+pub fn no_memory<E: Drop>(_error: E) -> Error {
+    Error::OutOfMemory
+}
