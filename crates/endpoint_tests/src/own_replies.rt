@@ -1,0 +1,138 @@
+//! Callers on threads of their own, and the one who answers or closes them.
+
+ghost use Rattle.std.specs.Prelude.{◌≡◌};
+
+use crate::making::{Idle, make, on_table};
+use crate::threads::{Host, wait_until_pending};
+use crate::work::Work;
+use event_manager::{Error, EventManager, PlainPoller, RemoteEndpoint, Result};
+use std::alloc::Global;
+use std::marker::Brand;
+use std::sync::Wait;
+use std::sync::ledger::{Blank, Ledger};
+use std::test::Fail;
+use std::thread;
+use std::time::{Clock, Duration};
+use vmm_sys::epoll::Epoll;
+
+type Loop<L, T, R> = EventManager<Idle, Work, L, T, PlainPoller<Epoll<R>>>;
+
+type Sender<L, T> = RemoteEndpoint<Idle, Work, L, T>;
+
+/// What the loop's thread saw: whether as many jobs waited as it waited for, the answer of its run, and how many tickets
+/// were issued and jobs taken.
+#[derive(Drop)]
+struct Seen {
+    waited: bool,
+    run: Result<usize>,
+    counts: (u64, u64),
+}
+
+/// Runs once when two jobs wait, and closes.
+fn run_for_two<L: Ledger, T: Ledger, R: Wait + Clock + Clone + Send + Drop>(
+    rt: &R,
+    manager: Loop<L, T, R>,
+    endpoint: &Sender<L, T>,
+) -> Seen {
+    let mut manager = manager;
+    let waited = wait_until_pending(rt, endpoint, 2);
+    let run = manager.run_with_timeout(0, rt);
+    let closed = manager.close(rt);
+    Seen {
+        waited,
+        run,
+        counts: (closed.issued(), closed.taken()),
+    }
+}
+
+/// The reply of a job that replies this number.
+fn call_own<L: Ledger, T: Ledger, R: Wait + Clock>(
+    rt: &R,
+    endpoint: &Sender<L, T>,
+    number: u64,
+) -> Result<u64> {
+    endpoint.call_blocking(Work::Own(number), rt)
+}
+
+/// Two calls at once: their replies.
+fn call_both<L: Ledger + Send + Sync, T: Ledger + Send + Sync, R: Host>(
+    rt: &R,
+    endpoint: &Sender<L, T>,
+) -> (Result<u64>, Result<u64>) {
+    thread::join(
+        rt,
+        || call_own(rt, endpoint, 5),
+        || call_own(rt, endpoint, 6),
+    )
+}
+
+/// Two callers, and the loop.
+fn callers<L: Ledger + Send + Sync, T: Ledger + Send + Sync, R: Host>(
+    rt: &R,
+    alloc: Global,
+    tickets: Blank,
+    taken: Blank,
+) -> std::result::Result<(), Fail>
+    requires tickets_name { tickets.name ≡ L.name }
+    requires tickets_parts { (tickets.parts ≡ L.parts) × (tickets.parts ≡ 9223372036854775808) }
+    requires taken_name { taken.name ≡ T.name }
+    requires taken_parts { (taken.parts ≡ T.parts) × (taken.parts ≡ 1) }
+{
+    let manager = make::<Idle, Work, L, T, _>(on_table(*rt, alloc, 0)?, tickets, taken)?;
+    let endpoint = manager.remote_endpoint()?;
+    let (seen, replies) = thread::join(
+        rt,
+        || run_for_two(rt, manager, &endpoint),
+        || call_both(rt, &endpoint),
+    );
+    assert_eq!(rt; (seen.waited, seen.run, seen.counts), (true, Ok(1), (2, 2)));
+    assert_eq!(rt; replies, (Ok(5), Ok(6)));
+    Ok(())
+}
+
+#[test]
+fn two_callers_get_their_own_replies(rt: HostRuntime) -> std::result::Result<(), Fail> {
+    let tickets = Blank::new(9223372036854775808);
+    callers::<Brand, Brand, HostRuntime>(&rt, rt.alloc(), tickets, Blank::new(1))
+}
+
+/// Closes when a job waits.
+fn close_on_one<L: Ledger, T: Ledger, R: Wait + Clock + Clone + Send + Drop>(
+    rt: &R,
+    manager: Loop<L, T, R>,
+    endpoint: &Sender<L, T>,
+) -> (bool, u64, u64) {
+    let waited = wait_until_pending(rt, endpoint, 1);
+    let closed = manager.close(rt);
+    (waited, closed.issued(), closed.taken())
+}
+
+/// A caller whose manager is closed.
+fn closed_caller<L: Ledger + Send + Sync, T: Ledger + Send + Sync, R: Host>(
+    rt: &R,
+    alloc: Global,
+    tickets: Blank,
+    taken: Blank,
+) -> std::result::Result<(), Fail>
+    requires tickets_name { tickets.name ≡ L.name }
+    requires tickets_parts { (tickets.parts ≡ L.parts) × (tickets.parts ≡ 9223372036854775808) }
+    requires taken_name { taken.name ≡ T.name }
+    requires taken_parts { (taken.parts ≡ T.parts) × (taken.parts ≡ 1) }
+{
+    let manager = make::<Idle, Work, L, T, _>(on_table(*rt, alloc, 0)?, tickets, taken)?;
+    let endpoint = manager.remote_endpoint()?;
+    let (seen, reply) = thread::join(
+        rt,
+        || close_on_one(rt, manager, &endpoint),
+        || call_own(rt, &endpoint, 5),
+    );
+    assert_eq!(rt; seen, (true, 1, 0));
+    assert_eq!(rt; reply, Err(Error::ChannelRecv));
+    Ok(())
+}
+
+#[test]
+fn a_closed_caller_is_answered(rt: HostRuntime) -> std::result::Result<(), Fail> {
+    let tickets = Blank::new(9223372036854775808);
+    closed_caller::<Brand, Brand, HostRuntime>(&rt, rt.alloc(), tickets, Blank::new(1))
+}

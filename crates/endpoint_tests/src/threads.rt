@@ -1,0 +1,35 @@
+//! What the tests that start threads share.
+//!
+//! The body of such a test is a function that is generic over the ledgers, and the test names them: in a method of a
+//! trait, as that of `WithLedgers`, a bound `Send` doesn't count for what a thread is sent.
+
+use event_manager::{Job, MutEventSubscriber, RemoteEndpoint};
+use std::process::Abort;
+use std::sync::Wait;
+use std::sync::ledger::Ledger;
+use std::thread;
+use std::thread::Threads;
+use std::time::{Clock, Duration};
+
+/// What the tests on threads need of the runtime.
+pub trait Host: Threads + Wait + Clock + Abort + Copy + Send + Sync + Drop {}
+
+impl<R: Threads + Wait + Clock + Abort + Copy + Send + Sync + Drop> Host for R {}
+
+/// How many timed waits of a millisecond a job or a test makes at most.
+pub const LIMIT: u32 = 10_000;
+
+/// Waits until so many jobs wait, and says whether they do.
+pub fn wait_until_pending<S: MutEventSubscriber, J: Job<S>, L: Ledger, T: Ledger, R: Clock>(
+    rt: &R,
+    endpoint: &RemoteEndpoint<S, J, L, T>,
+    count: usize,
+) -> bool {
+    for _turn in 0..LIMIT {
+        if endpoint.pending() == Some(count) {
+            return true;
+        }
+        thread::sleep(rt, Duration::from_millis(1));
+    }
+    false
+}

@@ -1,0 +1,101 @@
+//! Jobs on what threads share.
+
+use crate::threads::LIMIT;
+use event_manager::{EventPoller, Job, MutEventSubscriber, Registry};
+use std::alloc::Global;
+use std::mem;
+use std::sync::{Arc, Condvar, Mutex, Wait};
+use std::time::{Clock, Duration};
+
+/// A number that threads share.
+pub type Number = Arc<Mutex<u64>>;
+
+/// What was noted, in order.
+pub type Notes = Arc<Mutex<Vec<u64>>>;
+
+/// A gate that a job opens, and then waits until it may go on.
+pub struct Gate {
+    state: Mutex<u8>,
+    changed: Condvar,
+}
+
+impl Drop for Gate {
+    fn drop(self) {
+        let Gate {
+            state: _,
+            changed: _,
+        } = self;
+    }
+}
+
+impl Gate {
+    pub fn new() -> Self {
+        Gate {
+            state: Mutex::new(0),
+            changed: Condvar::new(),
+        }
+    }
+
+    pub fn set<R: Wait>(&self, to: u8, rt: &R) {
+        *self.state.lock(rt) = to;
+        self.changed.notify_all();
+    }
+
+    /// Waits until the state is this one, and says whether it is.
+    pub fn wait_for<R: Wait + Clock>(&self, wanted: u8, rt: &R) -> bool {
+        let mut state = self.state.lock(rt);
+        for _turn in 0..LIMIT {
+            if *state == wanted {
+                return true;
+            }
+            state = self
+                .changed
+                .wait_timeout(rt, state, Duration::from_millis(1))
+                .0;
+        }
+        false
+    }
+}
+
+/// A job on what it shares with others; its reply is a number.
+#[derive(Drop)]
+pub enum Work {
+    /// Sets the number, and replies the old one.
+    Set(Number, u64),
+    /// Replies the number.
+    Read(Number),
+    /// Replies this.
+    Own(u64),
+    /// Notes this, and replies it.
+    Note(Notes, u64),
+    /// Opens the gate, waits until it may go on, and then notes 1 where it might, else 0.
+    Pass(Arc<Gate>, Notes),
+}
+
+impl<S: MutEventSubscriber> Job<S> for Work {
+    type Reply = u64;
+
+    ghost use Rattle.std.specs.Prelude.{◌≡◌, []};
+
+    ghost may = { λ self steps reply. steps ≡ [] };
+
+    ghost replies = { λ reply. Unit {0} };
+
+    fn call<P: EventPoller, R: Wait + Clock>(self, _registry: &mut Registry<S, P>, rt: &R) -> u64 {
+        match self {
+            Work::Set(number, value) => mem::replace(&mut *number.lock(rt), value),
+            Work::Read(number) => *number.lock(rt),
+            Work::Own(number) => number,
+            Work::Note(notes, number) => {
+                let _ = notes.lock(rt).push(number);
+                number
+            }
+            Work::Pass(gate, notes) => {
+                gate.set(1, rt);
+                let passed = gate.wait_for(2, rt) as u64;
+                let _ = notes.lock(rt).push(passed);
+                passed
+            }
+        }
+    }
+}
