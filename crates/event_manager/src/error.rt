@@ -8,8 +8,9 @@ use vmm_sys::errno::Errno;
 
 /// Why a call was refused. The first seven are the Rust crate's, the last three this port's.
 ///
-/// A refused call leaves registrations, owners and pending events as they were. `ChannelSend`, `ChannelRecv`, `EventFd`
-/// and `TicketsUsedUp` are those of jobs and their endpoint, and no call answers them yet.
+/// A refused call leaves registrations, owners, pending events and the queue of jobs as they were; `ChannelRecv` is
+/// answered where the manager was closed, which dropped the job. `ChannelSend`, `ChannelRecv`, `EventFd` and
+/// `TicketsUsedUp` are those of jobs and their endpoint.
 #[derive(Clone, Copy, PartialEq, Eq, Debug)]
 pub enum Error {
     /// A job can't be sent to the loop: it is closed.
