@@ -6,11 +6,23 @@ mod calls;
 #[cfg(test)]
 mod gated;
 #[cfg(test)]
+mod kicks;
+#[cfg(test)]
 mod making;
+#[cfg(test)]
+mod members;
 #[cfg(test)]
 mod note;
 #[cfg(test)]
+mod noting;
+#[cfg(test)]
 mod own_replies;
+#[cfg(test)]
+mod queue;
+#[cfg(test)]
+mod refusals;
+#[cfg(test)]
+mod reports;
 #[cfg(test)]
 mod senders;
 #[cfg(test)]

@@ -4,16 +4,20 @@ ghost use Rattle.std.specs.Prelude.{◌≡◌};
 
 use crate::making::{Idle, make, on_table};
 use crate::note::{Note, Notes, expect_in_order};
-use crate::threads::Host;
-use event_manager::{Closed, Error, RemoteEndpoint, Ticket};
+use crate::threads::{Host, LIMIT};
+use event_manager::{Closed, Error, EventManager, PlainPoller, RemoteEndpoint, Ticket};
 use std::alloc::Global;
 use std::marker::Brand;
 use std::process::Abort;
+use std::sync::atomic::{AtomicU64, Ordering};
 use std::sync::ledger::{Blank, Ledger};
 use std::sync::{Arc, Mutex, Wait};
 use std::test::Fail;
 use std::thread;
 use std::time::Clock;
+use vmm_sys::epoll::Epoll;
+
+type Loop<L, T, R> = EventManager<Idle, Note, L, T, PlainPoller<Epoll<R>>>;
 
 type Sender<L, T> = RemoteEndpoint<Idle, Note, L, T>;
 
@@ -103,4 +107,106 @@ fn two_threads_send_fifty_each(rt: HostRuntime) -> Result<(), Fail> {
     let notes = Arc::new(alloc, Mutex::new(Vec::new(alloc)))?;
     let tickets = Blank::new(9223372036854775808);
     two_senders::<Brand, Brand, HostRuntime>(&rt, alloc, notes, tickets, Blank::new(1))
+}
+
+/// How many jobs each of the three threads sends.
+const THOUSAND: u64 = 1000;
+
+/// Sends so many jobs, and counts itself as done on every way out.
+fn send_thousand<L: Ledger, T: Ledger, R: Wait + Clock>(
+    rt: &R,
+    alloc: Global,
+    endpoint: &Sender<L, T>,
+    sender: usize,
+    notes: &Notes,
+    done: &AtomicU64,
+) -> Result<Vec<Ticket<L>>, Error> {
+    let sent = send_many(rt, alloc, endpoint, sender, THOUSAND, notes);
+    done.fetch_add(1, Ordering::SeqCst);
+    sent
+}
+
+/// Two threads that send a thousand jobs each.
+fn send_from_two<L: Ledger + Send + Sync, T: Ledger + Send + Sync, R: Host>(
+    rt: &R,
+    alloc: Global,
+    endpoint: &Sender<L, T>,
+    notes: &Notes,
+    done: &AtomicU64,
+) -> (Result<Vec<Ticket<L>>, Error>, Result<Vec<Ticket<L>>, Error>) {
+    thread::join(
+        rt,
+        || send_thousand(rt, alloc, endpoint, 1, notes, done),
+        || send_thousand(rt, alloc, endpoint, 2, notes, done),
+    )
+}
+
+/// Three threads that send a thousand jobs each: all their tickets.
+fn send_from_three<L: Ledger + Send + Sync, T: Ledger + Send + Sync, R: Host>(
+    rt: &R,
+    alloc: Global,
+    endpoint: &Sender<L, T>,
+    notes: &Notes,
+    done: &AtomicU64,
+) -> Result<Vec<Ticket<L>>, Error> {
+    let (zero, (one, two)) = thread::join(
+        rt,
+        || send_thousand(rt, alloc, endpoint, 0, notes, done),
+        || send_from_two(rt, alloc, endpoint, notes, done),
+    );
+    let mut all = zero?;
+    if all.append(&mut one?).is_err() || all.append(&mut two?).is_err() {
+        return Err(Error::OutOfMemory);
+    }
+    Ok(all)
+}
+
+/// Runs until three senders are done and no job waits.
+fn run_until_done<L: Ledger, T: Ledger, R: Wait + Clock + Clone + Send + Drop>(
+    rt: &R,
+    manager: Loop<L, T, R>,
+    endpoint: &Sender<L, T>,
+    done: &AtomicU64,
+) -> Loop<L, T, R> {
+    let mut manager = manager;
+    for _turn in 0..LIMIT {
+        let _ = manager.run_with_timeout(1, rt);
+        if done.load(Ordering::SeqCst) == 3 && endpoint.pending() == Some(0) {
+            break;
+        }
+    }
+    manager
+}
+
+/// Three threads that send a thousand jobs each, while the loop runs.
+fn three_senders<L: Ledger + Send + Sync, T: Ledger + Send + Sync, R: Host>(
+    rt: &R,
+    alloc: Global,
+    notes: Notes,
+    tickets: Blank,
+    taken: Blank,
+) -> Result<(), Fail>
+    requires tickets_name { tickets.name ≡ L.name }
+    requires tickets_parts { (tickets.parts ≡ L.parts) × (tickets.parts ≡ 9223372036854775808) }
+    requires taken_name { taken.name ≡ T.name }
+    requires taken_parts { (taken.parts ≡ T.parts) × (taken.parts ≡ 1) }
+{
+    let done = AtomicU64::new(0);
+    let manager = make::<Idle, Note, L, T, _>(on_table(*rt, alloc, 0)?, tickets, taken)?;
+    let endpoint = manager.remote_endpoint()?;
+    let (sent, manager) = thread::join(
+        rt,
+        || send_from_three(rt, alloc, &endpoint, &notes, &done),
+        || run_until_done(rt, manager, &endpoint, &done),
+    );
+    expect_in_order(rt, &notes, 3, THOUSAND);
+    expect_all(rt, manager.close(rt), sent?, 3 * THOUSAND)
+}
+
+#[test]
+fn three_threads_send_a_thousand_each(rt: HostRuntime) -> Result<(), Fail> {
+    let alloc = rt.alloc();
+    let notes = Arc::new(alloc, Mutex::new(Vec::new(alloc)))?;
+    let tickets = Blank::new(9223372036854775808);
+    three_senders::<Brand, Brand, HostRuntime>(&rt, alloc, notes, tickets, Blank::new(1))
 }

@@ -1,0 +1,148 @@
+//! Sends that are refused.
+
+use crate::making::{Idle, OnTable, make, on_table};
+use crate::work::Work;
+use event_manager::{Error, RemoteEndpoint, Result, WithLedgers, with_ledgers};
+use std::process::Abort;
+use std::sync::Wait;
+use std::sync::ledger::{Blank, Ledger};
+use std::test::Fail;
+use std::time::Clock;
+use vmm_sys::errno::Errno;
+
+/// The largest value of an `EventFd`.
+const FULL: u64 = 18446744073709551614;
+
+type Sender<L, T> = RemoteEndpoint<Idle, Work, L, T>;
+
+/// The number of the ticket that a job gets.
+fn fire_one<L: Ledger, T: Ledger, R: Wait + Clock>(rt: &R, endpoint: &Sender<L, T>) -> Result<u64> {
+    endpoint
+        .fire(Work::Own(1), rt)
+        .map(|ticket| ticket.number())
+}
+
+/// Expects that a job and a call are refused with this, and that so many jobs wait then.
+fn expect_refusals<L: Ledger, T: Ledger, R: Wait + Clock + Abort>(
+    rt: &R,
+    endpoint: &Sender<L, T>,
+    refusal: Error,
+    pending: usize,
+) {
+    assert_eq!(rt; fire_one(rt, endpoint), Err(refusal));
+    assert_eq!(rt; endpoint.call_blocking(Work::Own(1), rt), Err(refusal));
+    assert_eq!(rt; endpoint.pending(), Some(pending));
+}
+
+/// A manager whose endpoint's counter is full.
+#[derive(Drop)]
+struct Full<'a, R> {
+    rt: &'a R,
+    parts: OnTable<R>,
+}
+
+impl<R: Wait + Clock + Abort + Copy + Send + Drop> WithLedgers for Full<'_, R> {
+    type Output = std::result::Result<(), Fail>;
+
+    fn run<L: Ledger + Send + Sync, T: Ledger + Send + Sync>(
+        self,
+        tickets: Blank,
+        taken: Blank,
+    ) -> std::result::Result<(), Fail> {
+        let Full { rt, parts } = self;
+        let mut manager = make::<Idle, Work, L, T, _>(parts, tickets, taken)?;
+        let endpoint = manager.remote_endpoint()?.try_clone()?;
+        let refusal = Error::EventFd(Errno::EAGAIN);
+        expect_refusals(rt, &endpoint, refusal, 0);
+        assert_eq!(rt; endpoint.kick(rt), Err(refusal));
+        assert_eq!(rt; manager.run(rt), Ok(1));
+        assert_eq!(rt; fire_one(rt, &endpoint), Ok(1));
+        let closed = manager.close(rt);
+        expect_refusals(rt, &endpoint, Error::ChannelSend, 0);
+        assert_eq!(rt; (closed.issued(), closed.taken()), (1, 0));
+        Ok(())
+    }
+}
+
+#[test]
+fn a_full_counter_refuses_the_send(rt: HostRuntime) -> std::result::Result<(), Fail> {
+    let parts = on_table(rt, rt.alloc(), FULL)?;
+    with_ledgers(Full { rt: &rt, parts })
+}
+
+/// A manager whose endpoint's counter is full once a job was sent.
+#[derive(Drop)]
+struct NearlyFull<'a, R> {
+    rt: &'a R,
+    parts: OnTable<R>,
+}
+
+impl<R: Wait + Clock + Abort + Copy + Send + Drop> WithLedgers for NearlyFull<'_, R> {
+    type Output = std::result::Result<(), Fail>;
+
+    fn run<L: Ledger + Send + Sync, T: Ledger + Send + Sync>(
+        self,
+        tickets: Blank,
+        taken: Blank,
+    ) -> std::result::Result<(), Fail> {
+        let NearlyFull { rt, parts } = self;
+        let mut manager = make::<Idle, Work, L, T, _>(parts, tickets, taken)?;
+        let endpoint = manager.remote_endpoint()?;
+        let shown = endpoint.fire(Work::Own(1), rt)?;
+        let refused = endpoint
+            .fire_after(&shown, Work::Own(2), rt)
+            .map(|ticket| ticket.number());
+        assert_eq!(rt; refused, Err(Error::EventFd(Errno::EAGAIN)));
+        assert_eq!(rt; endpoint.pending(), Some(1));
+        assert_eq!(rt; manager.run(rt), Ok(1));
+        let sent = endpoint
+            .fire_after(&shown, Work::Own(2), rt)
+            .map(|ticket| ticket.number());
+        assert_eq!(rt; (sent, endpoint.pending()), (Ok(2), Some(1)));
+        Ok(())
+    }
+}
+
+#[test]
+fn a_full_counter_refuses_the_send_after_another(rt: HostRuntime) -> std::result::Result<(), Fail> {
+    let parts = on_table(rt, rt.alloc(), FULL - 1)?;
+    with_ledgers(NearlyFull { rt: &rt, parts })
+}
+
+/// Two endpoints of a manager that is closed.
+#[derive(Drop)]
+struct TwoEndpoints<'a, R> {
+    rt: &'a R,
+    parts: OnTable<R>,
+}
+
+impl<R: Wait + Clock + Abort + Copy + Send + Drop> WithLedgers for TwoEndpoints<'_, R> {
+    type Output = std::result::Result<(), Fail>;
+
+    fn run<L: Ledger + Send + Sync, T: Ledger + Send + Sync>(
+        self,
+        tickets: Blank,
+        taken: Blank,
+    ) -> std::result::Result<(), Fail> {
+        let TwoEndpoints { rt, parts } = self;
+        let manager = make::<Idle, Work, L, T, _>(parts, tickets, taken)?;
+        let endpoint = manager.remote_endpoint()?;
+        let shown = endpoint.fire(Work::Own(1), rt)?;
+        let endpoints = [manager.remote_endpoint()?, endpoint];
+        let _closed = manager.close(rt);
+        for endpoint in &endpoints {
+            expect_refusals(rt, endpoint, Error::ChannelSend, 0);
+            let refused = endpoint
+                .fire_after(&shown, Work::Own(2), rt)
+                .map(|ticket| ticket.number());
+            assert_eq!(rt; refused, Err(Error::ChannelSend));
+        }
+        Ok(())
+    }
+}
+
+#[test]
+fn two_endpoints_one_close(rt: HostRuntime) -> std::result::Result<(), Fail> {
+    let parts = on_table(rt, rt.alloc(), 0)?;
+    with_ledgers(TwoEndpoints { rt: &rt, parts })
+}
