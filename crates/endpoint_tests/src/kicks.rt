@@ -37,9 +37,12 @@ impl<R: Wait + Clock + Abort + Copy + Send + Drop> WithLedgers for Kicked<'_, R>
         } = self;
         let mut manager = make::<Noting<R>, Work, L, T, _>(parts, tickets, taken)?;
         manager.add_subscriber(subscriber)?;
-        manager.remote_endpoint()?.kick(rt)?;
-        assert_eq!(rt; manager.run(rt), Ok(1));
+        let endpoint = manager.remote_endpoint()?;
+        endpoint.kick(rt)?;
+        assert_eq!(rt; manager.run_with_timeout(5000, rt), Ok(1));
         assert_eq!(rt; manager.run_with_timeout(0, rt), Ok(0));
+        endpoint.kick(rt)?;
+        assert_eq!(rt; manager.run(rt), Ok(1));
         assert_eq!(rt; notes.lock(rt).len(), 0);
         Ok(())
     }

@@ -17,6 +17,7 @@ mod note;
 mod noting;
 #[cfg(test)]
 mod own_replies;
+pub mod percent;
 #[cfg(test)]
 mod queue;
 #[cfg(test)]
