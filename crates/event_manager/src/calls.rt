@@ -1,4 +1,4 @@
-//! Calls of a manager and their replies, as values: the laws' histories are made of these.
+//! Calls of a manager and their replies, as values: what [`drive`](crate::drive::drive) makes, and what traces are made of.
 
 use crate::Result;
 use crate::events::Request;
