@@ -1,10 +1,10 @@
 -- One step of a registry, as a list of steps.
-use Rattle.std.proofs.Common.{[], ◌∷◌, sym, subst, refl}
+use Rattle.std.proofs.Common.{◌≡◌, ℕ, [], ◌∷◌, sym, subst, refl}
 use Rattle.std.proofs.lemmas.List.{append-nil}
 use Rattle.event_manager.specs.Exchange.{Exchanges}
 use Rattle.event_manager.specs.PollerCall.{Controls, Waits, Leads}
-use Rattle.event_manager.specs.Registry.{Step, calls_of}
-use Rattle.event_manager.specs.LoopState.{LoopState, HasStepped, HaveStepped}
+use Rattle.event_manager.specs.Registry.{Step, Replaced, NotReplaced, HasId, LacksId, calls_of}
+use Rattle.event_manager.specs.LoopState.{LoopState, HasStepped, HaveStepped, with_value}
 
 module _ {S P : Type 0} {begins : S → Exchanges → S → Type 0} {controls : Controls P} {waits : Waits P} where
   pub one_step : (before after : LoopState S P) (step : Step S) → HasStepped begins controls waits before step after → HaveStepped begins controls waits before (step ∷ []) after
@@ -14,3 +14,11 @@ module _ {S P : Type 0} {begins : S → Exchanges → S → Type 0} {controls : 
     same_taken = did.same_taken;
     same_capacity = did.same_capacity;
   }
+
+  pub replaced_step : (before after : LoopState S P) (id : ℕ) (old new : S) → HasId before.registry id old → after ≡ with_value before id new → HaveStepped begins controls waits before (Replaced id old new ∷ []) after
+  replaced_step before after id old new has is = subst (λ s. HaveStepped begins controls waits before (Replaced id old new ∷ []) s) (sym is)
+      (one_step before (with_value before id new) (Replaced id old new) (record { stepped = (has, refl); led = refl; same_taken = refl; same_capacity = refl }))
+
+  pub not_replaced_step : (before after : LoopState S P) (id : ℕ) → LacksId before.registry id → after ≡ before → HaveStepped begins controls waits before (NotReplaced id ∷ []) after
+  not_replaced_step before after id lacks is = subst (λ s. HaveStepped begins controls waits before (NotReplaced id ∷ []) s) (sym is)
+      (one_step before before (NotReplaced id) (record { stepped = (lacks, refl); led = refl; same_taken = refl; same_capacity = refl }))

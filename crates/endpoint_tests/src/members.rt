@@ -66,6 +66,39 @@ impl<R: Wait + Drop> Job<Noting<R>> for Leave {
     }
 }
 
+/// Gives a subscriber another number.
+#[derive(Drop)]
+struct Renumber {
+    id: SubscriberId,
+    number: u64,
+}
+
+impl<R: Wait + Drop> Job<Noting<R>> for Renumber {
+    type Reply = Result<()>;
+
+    ghost use Rattle.std.specs.Prelude.{◌≡◌, [], ◌∷◌, ◌⊎◌};
+    ghost use Rattle.event_manager.specs.Registry.{Step, Replaced, NotReplaced};
+    ghost use Rattle.endpoint_tests.specs.declared.noting.Noting.{Noting};
+
+    ghost may = { λ self steps reply. ((old : Noting R) × (steps ≡ Replaced self.id old (record old { number = self.number }) ∷ [])) ⊎ (steps ≡ NotReplaced self.id ∷ []) };
+
+    ghost replies = { λ reply. Unit {0} };
+
+    fn call<P: EventPoller, W: Wait + Clock>(
+        self,
+        registry: &mut Registry<Noting<R>, P>,
+        _rt: &W,
+    ) -> Result<()> {
+        match registry.subscriber_mut(self.id) {
+            Ok(subscriber) => {
+                subscriber.number = self.number;
+                Ok(())
+            }
+            Err(e) => Err(e),
+        }
+    }
+}
+
 /// A manager, and a subscriber that has an event at each run.
 #[derive(Drop)]
 struct Member<R> {
@@ -177,4 +210,42 @@ impl<R: Wait + Clock + Abort + Copy + Send + Drop> WithLedgers for Leaving<'_, R
 fn a_job_lets_a_subscriber_leave(rt: HostRuntime) -> std::result::Result<(), Fail> {
     let member = make_member(rt, rt.alloc())?;
     with_ledgers(Leaving { rt: &rt, member })
+}
+
+/// A job gives the subscriber another number.
+#[derive(Drop)]
+struct Renumbering<'a, R> {
+    rt: &'a R,
+    member: Member<R>,
+}
+
+impl<R: Wait + Clock + Abort + Copy + Send + Drop> WithLedgers for Renumbering<'_, R> {
+    type Output = std::result::Result<(), Fail>;
+
+    fn run<L: Ledger + Send + Sync, T: Ledger + Send + Sync>(
+        self,
+        tickets: Blank,
+        taken: Blank,
+    ) -> std::result::Result<(), Fail> {
+        let Renumbering { rt, member } = self;
+        let Member {
+            parts,
+            subscriber,
+            notes,
+        } = member;
+        let mut manager = make::<Noting<R>, Renumber, L, T, _>(parts, tickets, taken)?;
+        let id = manager.add_subscriber(subscriber)?;
+        let job = Renumber { id, number: 2 };
+        manager.remote_endpoint()?.fire(job, rt)?;
+        assert_eq!(rt; manager.run(rt), Ok(2));
+        assert_eq!(rt; manager.run_with_timeout(0, rt), Ok(1));
+        assert_eq!(rt; notes.lock(rt).as_slice(), [DELIVERED, 2].as_slice());
+        Ok(())
+    }
+}
+
+#[test]
+fn a_job_changes_a_subscriber(rt: HostRuntime) -> std::result::Result<(), Fail> {
+    let member = make_member(rt, rt.alloc())?;
+    with_ledgers(Renumbering { rt: &rt, member })
 }
