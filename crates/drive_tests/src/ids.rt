@@ -1,0 +1,113 @@
+//! Ids, and calls with an id that nobody has.
+
+use crate::driving::{replies_to, told_by_quiet, two_ids};
+use crate::subscribers::{Quiet, wanted};
+use crate::told::Told;
+use event_manager::{
+    Call, Error, EventOps, EventPoller, Events, MutEventSubscriber, Reply, Request,
+};
+use std::alloc::AllocError;
+use std::rc::Rc;
+use std::sync::Wait;
+use std::test::Fail;
+use vmm_sys::script_poller::ScriptPoller;
+
+#[test]
+fn ids_go_up_and_an_id_that_left_is_unknown(rt: HostRuntime) -> Result<(), Fail> {
+    let [first, second] = two_ids(rt, rt.alloc())?;
+    let requests = vec![in rt.alloc(); Request::Remove(wanted(3))]?;
+    let calls = vec![in rt.alloc();
+        Call::Add(Quiet(11)),
+        Call::Remove(first),
+        Call::Add(Quiet(12)),
+        Call::Remove(first),
+        Call::Set(second, Quiet(13)),
+        Call::Ask(first, requests),
+    ]?;
+    let unknown = Error::InvalidId;
+    let expected = vec![in rt.alloc();
+        Told::Added(Ok(1)),
+        Told::Removed(Ok(11)),
+        Told::Added(Ok(2)),
+        Told::Removed(Err(unknown)),
+        Told::Set(Ok(12)),
+        Told::Asked(Err(unknown)),
+    ]?;
+    let lists = vec![in rt.alloc(); calls]?;
+    assert_eq!(rt; told_by_quiet(rt, rt.alloc(), lists)?, expected);
+    Ok(())
+}
+
+#[test]
+fn an_id_that_left_changes_nobody(rt: HostRuntime) -> Result<(), Fail> {
+    let [first, second] = two_ids(rt, rt.alloc())?;
+    let requests = vec![in rt.alloc(); Request::Add(wanted(3))]?;
+    let calls = vec![in rt.alloc();
+        Call::Add(Quiet(11)),
+        Call::Add(Quiet(12)),
+        Call::Remove(first),
+        Call::Set(first, Quiet(13)),
+        Call::Ask(first, requests),
+        Call::Remove(first),
+        Call::Remove(second),
+    ]?;
+    let unknown = Error::InvalidId;
+    let expected = vec![in rt.alloc();
+        Told::Added(Ok(1)),
+        Told::Added(Ok(2)),
+        Told::Removed(Ok(11)),
+        Told::Set(Err(unknown)),
+        Told::Asked(Err(unknown)),
+        Told::Removed(Err(unknown)),
+        Told::Removed(Ok(12)),
+    ]?;
+    let lists = vec![in rt.alloc(); calls]?;
+    assert_eq!(rt; told_by_quiet(rt, rt.alloc(), lists)?, expected);
+    Ok(())
+}
+
+/// Counts in `init` how many hold what it holds.
+#[derive(Drop)]
+struct Counting {
+    held: Rc<u64>,
+    holders: usize,
+}
+
+impl MutEventSubscriber for Counting {
+    ghost use Rattle.std.specs.Prelude.{◌≡◌, []};
+
+    ghost begins = { λ v exchanges w. exchanges ≡ [] };
+
+    ghost serves = { λ v event exchanges w. exchanges ≡ [] };
+
+    fn process<P: EventPoller>(&mut self, _events: Events, _ops: &mut EventOps<P>) {}
+
+    fn init<P: EventPoller>(&mut self, _ops: &mut EventOps<P>) {
+        self.holders = Rc::strong_count(&self.held);
+    }
+}
+
+fn count_holders(held: &Rc<u64>) -> Result<Counting, AllocError> {
+    Ok(Counting {
+        held: held.clone()?,
+        holders: 0,
+    })
+}
+
+#[test]
+fn a_refused_set_drops_the_new_value_before_the_next_call(rt: HostRuntime) -> Result<(), Fail> {
+    let [first, _] = two_ids(rt, rt.alloc())?;
+    let held = Rc::new(rt.alloc(), 7)?;
+    let calls = vec![in rt.alloc();
+        Call::Set(first, count_holders(&held)?),
+        Call::Add(count_holders(&held)?),
+        Call::Remove(first),
+    ]?;
+    let mut replies = replies_to(rt, rt.alloc(), ScriptPoller::new(rt.alloc()), calls)?;
+    let Some(Reply::Removed(Ok(left))) = replies.pop() else {
+        panic!(rt; "nobody leaves");
+    };
+    // The test's and its own.
+    assert_eq!(rt; left.holders, 2);
+    Ok(())
+}

@@ -1,0 +1,21 @@
+//! Tests of lists of calls, over a script.
+#![tactic(auto)]
+
+#[cfg(test)]
+mod driving;
+#[cfg(test)]
+mod ids;
+#[cfg(test)]
+mod lists;
+#[cfg(test)]
+mod neighbours;
+#[cfg(test)]
+mod requests;
+#[cfg(test)]
+mod runs;
+#[cfg(test)]
+mod solo;
+#[cfg(test)]
+mod subscribers;
+#[cfg(test)]
+mod told;
