@@ -291,6 +291,34 @@ fn the_owner_at_its_turn_gets_an_event(rt: HostRuntime) -> Result<(), Fail> {
 }
 
 #[test]
+fn a_subscriber_beside_a_neighbour_gets_what_it_gets_alone(rt: HostRuntime) -> Result<(), Fail> {
+    writes(
+        &rt,
+        "sub a add 3 IN 0\nsub b add 5 IN 0\non b 5 remove 3 remove 5 add 5 IN 2\nbatch 5:IN:0 3:IN:1 5:IN:0\nrun\n",
+        "reply a add 3: ok\nsub a: 1\nreply b add 5: ok\nsub b: 2\ndeliver b 5 IN 0\nreply b remove 3: event_manager: failed to manage epoll file descriptor: os error 2\nreply b remove 5: ok\nreply b add 5: ok\ndeliver a 3 IN 1\nrun: 3\n",
+    )?;
+    writes(
+        &rt,
+        "sub a add 3 IN 0\nbatch 5:IN:0 3:IN:1 5:IN:0\nrun\n",
+        "reply a add 3: ok\nsub a: 1\ndeliver a 3 IN 1\nrun: 3\n",
+    )
+}
+
+#[test]
+fn a_descriptor_that_a_neighbour_owns_is_refused(rt: HostRuntime) -> Result<(), Fail> {
+    writes(
+        &rt,
+        "sub a add 3 IN 0\nsub b add 6 IN 0\nask a add 6 IN 0\n",
+        "reply a add 3: ok\nsub a: 1\nreply b add 6: ok\nsub b: 2\nreply a add 6: event_manager: file descriptor has already been registered\n",
+    )?;
+    writes(
+        &rt,
+        "sub a add 3 IN 0\nask a add 6 IN 0\n",
+        "reply a add 3: ok\nsub a: 1\nreply a add 6: ok\n",
+    )
+}
+
+#[test]
 fn a_removal_between_runs_cancels_nothing(rt: HostRuntime) -> Result<(), Fail> {
     writes(
         &rt,
