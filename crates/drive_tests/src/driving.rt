@@ -64,13 +64,13 @@ fn silent_endpoint<R: Wait + Clock + Copy + Send + Drop>(
     EventFd::new(&epoll, 0, &rt)
 }
 
-/// Drives a new manager over the script by the lists in turn, and appends the replies.
+/// Drives a new manager over the script by the lists in turn, and appends the replies to these.
 pub fn drive_behind<R, S>(
     rt: R,
-    replies: Vec<Reply<S>>,
+    alloc: Global,
     script: ScriptPoller,
     lists: Vec<Vec<Call<S>>>,
-    alloc: Global,
+    replies: Vec<Reply<S>>,
 ) -> std::result::Result<Vec<Reply<S>>, Fail>
 where
     R: Wait + Clock + Copy + Send + Drop,
@@ -100,7 +100,7 @@ where
     S: MutEventSubscriber + Drop,
 {
     let lists = vec![in alloc; calls]?;
-    drive_behind(rt, Vec::new(alloc), script, lists, alloc)
+    drive_behind(rt, alloc, script, lists, Vec::new(alloc))
 }
 
 /// What a new manager of quiet subscribers tells to the lists, over a poller that reports nothing.
@@ -110,7 +110,7 @@ pub fn told_by_quiet<R: Wait + Clock + Copy + Send + Drop>(
     lists: Vec<Vec<Call<Quiet>>>,
 ) -> std::result::Result<Vec<Told>, Fail> {
     let script = ScriptPoller::new(alloc);
-    let replies = drive_behind(rt, Vec::new(alloc), script, lists, alloc)?;
+    let replies = drive_behind(rt, alloc, script, lists, Vec::new(alloc))?;
     Ok(tell(alloc, replies)?)
 }
 

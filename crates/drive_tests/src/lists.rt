@@ -119,7 +119,7 @@ fn replies_stand_behind_those_before(rt: HostRuntime) -> Result<(), Fail> {
     let before = vec![in rt.alloc(); Reply::Ran(Ok(7)), Reply::Removed(Ok(Quiet(21)))]?;
     let lists = vec![in rt.alloc(); vec![in rt.alloc(); Call::Add(Quiet(11)), Call::Run(0)]?]?;
     let script = ScriptPoller::new(rt.alloc());
-    let replies = drive_behind(rt, before, script, lists, rt.alloc())?;
+    let replies = drive_behind(rt, rt.alloc(), script, lists, before)?;
     let expected = vec![in rt.alloc();
         Told::Ran(Ok(7)),
         Told::Removed(Ok(21)),
