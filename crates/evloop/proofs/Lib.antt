@@ -1,2 +1,3 @@
 pub mod AskedSoFar
 pub mod Pairs
+pub mod Replies

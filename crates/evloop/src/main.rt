@@ -2,6 +2,7 @@
 //! runs it over an event manager, and writes what happens to standard output. Arguments are ignored.
 #![tactic(auto)]
 
+pub mod calls;
 pub mod fault;
 pub mod input;
 pub mod names;

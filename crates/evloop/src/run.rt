@@ -1,21 +1,20 @@
 //! A script, run over an event manager.
 
 ghost use Rattle.std.specs.Prelude.{◌≡◌, IfOk, OnOk, IsOkUnless};
-ghost use Rattle.evloop.specs.Calls.{Joins, Leaves};
 ghost use Rattle.evloop.specs.Joins.{id_at};
 ghost use Rattle.evloop.specs.ScriptedPoller.{empty, answer_of, with_waits, with_refusals};
 ghost use Rattle.vmm_sys.specs.ScriptPoller.{with_answer};
 
+use crate::calls::{ask, join, leave, run_once};
 use crate::fault::Fault;
 use crate::input::read_text;
-use crate::output::{Out, OutputLine, Printer};
+use crate::output::{Out, Printer};
 use crate::reactions::Reactions;
-use crate::requests::make_requests;
 use crate::script::{Call, Refusal, Wait as ScriptedWait, parse};
 use crate::subscriber::Subscriber;
 use event_manager::{
-    BoxedPoller, Error, EventManager, EventPoller, Job, NoJob, Request, SubscriberId,
-    SubscriberOps, WithLedgers, with_ledgers,
+    BoxedPoller, Error, EventManager, EventPoller, Job, NoJob, SubscriberId, WithLedgers,
+    with_ledgers,
 };
 use std::alloc::Global;
 use std::io::Read;
@@ -176,46 +175,24 @@ where
                     None => Reactions::new(alloc),
                 };
                 let subscriber = Subscriber::new(name, requests, own, printer.try_clone(alloc)?);
-                ids.push(join(manager, subscriber, name, printer)?)?;
+                ids.push(join(rt, alloc, manager, subscriber, name, printer)?)?;
             }
             Call::Ask {
                 name,
                 join,
                 requests,
-            } => ask(manager, id_of(&ids, join), name, &requests, printer)?,
-            Call::Leave { name, join } => leave(manager, id_of(&ids, join), name, printer)?,
-            Call::Run => printer.print(&OutputLine::Ran {
-                answer: manager.run(rt),
-            })?,
+            } => {
+                let id = id_of(&ids, join);
+                ask(rt, alloc, manager, id, name, requests, printer)?;
+            }
+            Call::Leave { name, join } => {
+                let id = id_of(&ids, join);
+                leave(rt, alloc, manager, id, name, printer)?;
+            }
+            Call::Run => run_once(rt, alloc, manager, printer)?,
         }
     }
     Ok(())
-}
-
-// Takes a subscriber in, and prints the answer; gives its id, unless it was refused.
-fn join<M, O>(
-    manager: &mut M,
-    subscriber: M::Subscriber,
-    name: &str,
-    printer: &mut Printer<O>,
-) -> Result<Option<SubscriberId>, Fault>
-where
-    M: SubscriberOps,
-    O: Out + Drop,
-    ensures { Joins M.Subscriber.begins M.Poller.controls M.Poller.waits subscriber result (M.seen manager.old) (M.seen manager.new) }
-{
-    match manager.add_subscriber(subscriber) {
-        Ok(id) => {
-            let answer = Ok(id);
-            printer.print(&OutputLine::Joined { name, answer })?;
-            Ok(Some(id))
-        }
-        Err(error) => {
-            let answer = Err(error);
-            printer.print(&OutputLine::Joined { name, answer })?;
-            Ok(None)
-        }
-    }
 }
 
 // The id of the join at this place; `InvalidId` where the join was refused.
@@ -226,52 +203,6 @@ fn id_of(ids: &[Option<SubscriberId>], join: usize) -> Result<SubscriberId, Erro
         Some(Some(id)) => Ok(*id),
         _ => Err(Error::InvalidId),
     }
-}
-
-// Makes requests of one subscriber, and prints their answers.
-fn ask<M, O>(
-    manager: &mut M,
-    id: Result<SubscriberId, Error>,
-    name: &str,
-    requests: &[Request],
-    printer: &mut Printer<O>,
-) -> Result<(), Fault>
-where
-    M: SubscriberOps,
-    O: Out + Drop,
-{
-    let id = match id {
-        Ok(id) => id,
-        Err(error) => return printer.print(&OutputLine::AskRefused { name, error }),
-    };
-    match manager.event_ops(id) {
-        Ok(ops) => make_requests(name, requests, ops, printer),
-        Err(error) => return printer.print(&OutputLine::AskRefused { name, error }),
-    }
-    Ok(())
-}
-
-// Lets a subscriber leave, and prints the answer.
-fn leave<M, O>(
-    manager: &mut M,
-    id: Result<SubscriberId, Error>,
-    name: &str,
-    printer: &mut Printer<O>,
-) -> Result<(), Fault>
-where
-    M: SubscriberOps,
-    M::Subscriber: Drop,
-    O: Out + Drop,
-    ensures { Leaves M.Subscriber.begins M.Poller.controls M.Poller.waits id (M.seen manager.old) (M.seen manager.new) }
-{
-    let answer = match id {
-        Ok(id) => match manager.remove_subscriber(id) {
-            Ok(_subscriber) => Ok(()),
-            Err(error) => Err(error),
-        },
-        Err(error) => Err(error),
-    };
-    printer.print(&OutputLine::Left { name, answer })
 }
 
 #[cfg(test)]
