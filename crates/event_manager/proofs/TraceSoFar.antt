@@ -87,10 +87,16 @@ module _ {S J R P : Type 0} (begins : S → Exchanges → S → Type 0) (serves 
   guaranteed : (before : ManagerState S) (trace : List (Entry S J R)) (after : ManagerState S) → IsTrace begins serves may before trace after → IsGuaranteed begins serves may before trace after
   guaranteed before trace after is =
       let follows = trace_follows begins serves may before trace after is in
-      record { given = follows.given; removed = follows.removed; sound = follows.sound; non_interference = non_interference begins serves may before trace after is; projection_keeps = projection_keeps trace after;
+      record {
+        given = follows.given;
+        removed = follows.removed;
+        sound = follows.sound;
+        non_interference = non_interference begins serves may before trace after is;
+        projection_keeps = projection_keeps trace after;
         isolated_step = λ from step onto h. isolated_step begins from step onto h;
         isolated_delivery = λ from earlier event later i exchanges calls held onto h j differ. isolated_delivery serves from earlier event later i exchanges calls held onto h j differ;
-        leave_frees = λ from onto i value calls h. left_frees begins from onto i value calls h }
+        leave_frees = λ from onto i value calls h. left_frees begins from onto i value calls h;
+      }
 
   pub all_traced : (before after : LoopState S P) (calls : List (Call S)) (old replies : List (Reply S)) → IsTracedSoFar before after calls [] old replies
       → (new : List (Reply S)) × (replies ≡ old ++ new) × IsDriven begins serves may controls waits before calls new after

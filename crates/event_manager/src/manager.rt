@@ -118,20 +118,18 @@ impl<S: MutEventSubscriber + Drop, P: EventPoller> SubscriberOps for Registry<S,
 /// `L` and `T` are the ledgers of the tickets and of the taken jobs; [`with_ledgers`](crate::with_ledgers) names them.
 /// Where no jobs are needed, `J` is [`NoJob`](crate::jobs::NoJob).
 #[derive(Drop)]
-pub struct EventManager<
-    S: MutEventSubscriber,
-    J: Job<S>,
-    L: Ledger,
-    T: Ledger,
-    P = BoxedPoller,
-> {
+pub struct EventManager<S: MutEventSubscriber, J: Job<S>, L: Ledger, T: Ledger, P = BoxedPoller> {
     registry: Registry<S, P>,
     channel: EventManagerChannel<S, J, L, T>,
 }
 
-impl<S: MutEventSubscriber, J: Job<S>, L: Ledger, T: Ledger, P: EventPoller>
-    EventManager<S, J, L, T, P>
-{
+impl<S: MutEventSubscriber, J: Job<S>, L: Ledger, T: Ledger, P: EventPoller> EventManager<
+    S,
+    J,
+    L,
+    T,
+    P,
+> {
     /// A manager with capacity 256, as [`new_with_capacity`](EventManager::new_with_capacity) makes it.
     pub fn new(
         alloc: Global,
@@ -248,8 +246,7 @@ impl<S: MutEventSubscriber, J: Job<S>, L: Ledger, T: Ledger, P: EventPoller>
 }
 
 impl<S: MutEventSubscriber + Drop, J: Job<S>, L: Ledger, T: Ledger, P: EventPoller> SubscriberOps
-    for EventManager<S, J, L, T, P>
-{
+    for EventManager<S, J, L, T, P> {
     type Subscriber = S;
 
     type Poller = P;

@@ -90,7 +90,8 @@ pub(crate) struct EventManagerChannel<S: MutEventSubscriber, J: Job<S>, L: Ledge
     next: Vec<WaitingJob<S, J>>,
 }
 
-impl<S: MutEventSubscriber, J: Job<S>, L: Ledger, T: Ledger> Model for EventManagerChannel<S, J, L, T> {
+impl<S: MutEventSubscriber, J: Job<S>, L: Ledger, T: Ledger> Model
+    for EventManagerChannel<S, J, L, T> {
     ghost use Rattle.std.specs.Prelude.{◌≡◌, ℕ, []};
 
     ghost Value = { ℕ };

@@ -1,8 +1,8 @@
 //! What a run does with an endpoint that is written to again, which nobody outside the crate can do.
 
 use super::*;
-use crate::{NoJob, WithLedgers, with_ledgers};
 use crate::poller::PlainPoller;
+use crate::{NoJob, WithLedgers, with_ledgers};
 use std::test::Fail;
 use vmm_sys::epoll::{Epoll, EpollEvent};
 use vmm_sys::errno::Errno;
@@ -47,8 +47,9 @@ impl<R: Wait + Clock> WithLedgers for TwoRuns<'_, R> {
             event_fd,
         } = self;
         let poller = PlainPoller(script);
-        let mut manager =
-            EventManager::<Idle, NoJob, L, T, _>::new(alloc, poller, event_fd, tickets, taken)?;
+        let mut manager = EventManager::<Idle, NoJob, L, T, _>::new(
+            alloc, poller, event_fd, tickets, taken,
+        )?;
         let endpoint = manager.remote_endpoint()?;
         manager.run(rt)?;
         endpoint.kick(rt)?;

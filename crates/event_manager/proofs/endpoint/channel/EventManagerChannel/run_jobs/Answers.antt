@@ -9,4 +9,4 @@ returns g c =
     let entries = c.take.new.into.items in
     let follow = subst (λ n. TicketsFollow n entries) c.self.view_is c.take.ensures.numbers in
     jobs_are_run g.S.MutEventSubscriber.begins g.S.MutEventSubscriber.serves g.J.Job.may g.P.EventPoller.controls g.P.EventPoller.waits
-        c.args.self.now c.take.new.count (loop_state c.args.registry.now) (loop_state c.run_all.new.registry) entries c.run_all.ensures.ran follow (omega (arith, c.take.ensures.count, c.self.view_is))
+    c.args.self.now c.take.new.count (loop_state c.args.registry.now) (loop_state c.run_all.new.registry) entries c.run_all.ensures.ran follow (omega (arith, c.take.ensures.count, c.self.view_is))
