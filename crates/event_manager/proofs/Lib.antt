@@ -22,3 +22,4 @@ pub mod QueueLemmas
 pub mod JobLemmas
 pub mod RequestsSoFar
 pub mod TraceSoFar
+pub mod OneStep

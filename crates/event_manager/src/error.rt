@@ -1,8 +1,10 @@
 //! The errors of the crate.
 
-ghost use Rattle.std.specs.Prelude.{Some};
+ghost use Rattle.std.specs.Prelude.{◌≡◌, Some};
 ghost use Rattle.event_manager.specs.ErrorText.{error_text};
+ghost use Rattle.event_manager.specs.declared.error.Error.TheVariants as error;
 
+use std::alloc::{AllocError, AllocFailed};
 use std::fmt;
 use vmm_sys::errno::Errno;
 
@@ -74,3 +76,21 @@ impl fmt::Display for Error {
 }
 
 impl std::error::Error for Error {}
+
+/// As [`OutOfMemory`](Error::OutOfMemory), so that `?` serves where only memory can be refused.
+impl From<AllocError> for Error {
+    ghost from_gives = { λ _ result. result ≡ error.OutOfMemory };
+
+    fn from(_error: AllocError) -> Error {
+        Error::OutOfMemory
+    }
+}
+
+/// As [`OutOfMemory`](Error::OutOfMemory); what found no room is dropped.
+impl<T: Drop> From<AllocFailed<T>> for Error {
+    ghost from_gives = { λ _ result. result ≡ error.OutOfMemory };
+
+    fn from(_error: AllocFailed<T>) -> Error {
+        Error::OutOfMemory
+    }
+}

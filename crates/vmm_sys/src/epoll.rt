@@ -1,6 +1,7 @@
 //! What a poller is given and what it reports, and the poller over a shared table.
 
 ghost use Rattle.std.specs.Prelude.{◌≡◌, ◌≤ℤ◌, pos, ℤ, IsOkUnless};
+ghost use Rattle.std.specs.Arc.{arc_value};
 ghost use base.Stored.{gnil};
 ghost use Rattle.vmm_sys.specs.SharedTable.{MayCtl, MayWait};
 
@@ -9,7 +10,8 @@ pub use crate::event_set::EventSet;
 use crate::poller::Poller;
 use crate::shared_table::{TableOwner, another_owner, new_table};
 use std::alloc::Global;
-use std::sync::Wait;
+use std::rc::Rc;
+use std::sync::{Arc, Wait};
 use std::time::{Clock, Duration};
 
 /// A file descriptor. Numbers from 0 up stand for descriptors, others for none.
@@ -24,6 +26,42 @@ pub trait AsRawFd {
     fn as_raw_fd(&self) -> RawFd
         ensures descriptor { result ≡ descriptor self.now }
         ensures from_0_up { pos 0 ≤ℤ result };
+}
+
+/// That of what is referred to.
+impl<T: AsRawFd> AsRawFd for &T {
+    ghost descriptor = { λ v. T.descriptor v.now };
+
+    fn as_raw_fd(&self) -> RawFd {
+        (**self).as_raw_fd()
+    }
+}
+
+/// That of what is shared.
+impl<T: AsRawFd> AsRawFd for Arc<T> {
+    ghost descriptor = { λ v. T.descriptor (arc_value v) };
+
+    fn as_raw_fd(&self) -> RawFd {
+        (**self).as_raw_fd()
+    }
+}
+
+/// That of what is shared.
+impl<T: AsRawFd> AsRawFd for Rc<T> {
+    ghost descriptor = { λ v. T.descriptor v.value };
+
+    fn as_raw_fd(&self) -> RawFd {
+        (**self).as_raw_fd()
+    }
+}
+
+/// That of what is in the box.
+impl<T: AsRawFd> AsRawFd for Box<T> {
+    ghost descriptor = { λ v. T.descriptor v.value };
+
+    fn as_raw_fd(&self) -> RawFd {
+        (**self).as_raw_fd()
+    }
 }
 
 /// What is done to an interest list.

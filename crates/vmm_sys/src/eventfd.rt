@@ -1,6 +1,6 @@
 //! A counter of a shared table.
 
-ghost use Rattle.std.specs.Prelude.{◌≡◌, ◌≤ℤ◌, pos, IsErr, IfErr};
+ghost use Rattle.std.specs.Prelude.{◌≡◌, ◌≤ℤ◌, pos, IsErr, IfErr, IfOk};
 
 use crate::epoll::{AsRawFd, Epoll, RawFd};
 use crate::errno::Errno;
@@ -34,6 +34,16 @@ impl EventFd {
         let table = another_owner(&epoll.table)?;
         let fd = table.add_counter(value, rt)?;
         Ok(EventFd { table, fd })
+    }
+
+    /// Another handle on the same counter. `ENOMEM`: one more owner of the table was refused; then
+    /// nothing changed.
+    pub fn try_clone(&self) -> Result<EventFd, Errno>
+        ensures same_descriptor { IfOk result (λ other. descriptor_of other ≡ descriptor_of self.now) }
+        ensures errors { IfErr result (λ e. e ≡ Errno.ENOMEM) }
+    {
+        let table = another_owner(&self.table)?;
+        Ok(EventFd { table, fd: self.fd })
     }
 
     /// Takes the value, which is then 0. `EAGAIN`: it is 0.

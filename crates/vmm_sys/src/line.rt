@@ -1,6 +1,6 @@
 //! A line of a shared table.
 
-ghost use Rattle.std.specs.Prelude.{◌≤ℤ◌, pos, IfErr};
+ghost use Rattle.std.specs.Prelude.{◌≡◌, ◌≤ℤ◌, pos, IfErr, IfOk};
 
 use crate::epoll::{AsRawFd, Epoll, EventSet, RawFd};
 use crate::errno::Errno;
@@ -33,6 +33,16 @@ impl Line {
         let table = another_owner(&epoll.table)?;
         let fd = table.add_line(rt)?;
         Ok(Line { table, fd })
+    }
+
+    /// Another handle on the same line. `ENOMEM`: one more owner of the table was refused; then
+    /// nothing changed.
+    pub fn try_clone(&self) -> Result<Line, Errno>
+        ensures same_descriptor { IfOk result (λ other. descriptor_of other ≡ descriptor_of self.now) }
+        ensures errors { IfErr result (λ e. e ≡ Errno.ENOMEM) }
+    {
+        let table = another_owner(&self.table)?;
+        Ok(Line { table, fd: self.fd })
     }
 
     /// Sets the state; it is never refused.

@@ -1,5 +1,5 @@
 use Rattle.std.proofs.Common.{refl, [], ◌∷◌}
-use Rattle.endpoint_tests.proofs.OneStep.{one_step}
+use Rattle.event_manager.proofs.OneStep.{one_step}
 use Rattle.endpoint_tests.proofs.members.JoinJobNoting.call.Goals as goal
 
 pub returns-clause-stepped : goal.returns-clause-stepped
