@@ -1,7 +1,8 @@
--- A loop that makes requests one after another, and keeps their answers.
-use Rattle.std.proofs.Common.{◌≡◌, ℕ, ◌+◌, ◌<◌, ◌≤◌, List, [], ◌∷◌, ◌++◌, length, map, take, get_or, refl, sym, ap, ◌∙◌}
+-- A loop that makes requests one after another, and keeps their answers, or the first that is a refusal.
+use Rattle.std.proofs.Common.{◌≡◌, ℕ, ◌+◌, ◌<◌, ◌≤◌, List, [], ◌∷◌, ◌++◌, length, take, get_or, refl, sym, ap, ◌∙◌, Ok, Err}
+use Rattle.std.specs.Result.{result_and}
 use Rattle.std.proofs.lemmas.List.{map-append, take_more, take_all}
-use Rattle.event_manager.specs.Exchange.{Exchanges, Answer}
+use Rattle.event_manager.specs.Exchange.{Exchanges, Answer, requests_of, answers_of, first_refusal}
 use Rattle.event_manager.specs.PollerCall.{PollerCall, Controls, Waits}
 use Rattle.event_manager.specs.Requests.{AreMadeThrough}
 use Rattle.event_manager.specs.declared.events.EventOps.{EventOps}
@@ -12,8 +13,8 @@ use Rattle.event_manager.proofs.ExchangeLemmas.{none_made, exchanges_join}
 pub record AreRequestedSoFar {P : Type 0} (controls : Controls P) (waits : Waits P) (requests : List Request) (n : ℕ) (answers : List Answer) (before after : EventOps P) : Type 0 where
   pub exchanges : Exchanges
   pub calls : List PollerCall
-  pub requests_are : map (λ exchange. exchange.0) exchanges ≡ take n requests
-  pub answers_are : map (λ exchange. exchange.1) exchanges ≡ answers
+  pub requests_are : requests_of exchanges ≡ take n requests
+  pub answers_are : answers_of exchanges ≡ answers
   pub made : AreMadeThrough controls waits before after exchanges calls
 
 module _ {P : Type 0} {controls : Controls P} {waits : Waits P} where
@@ -34,5 +35,18 @@ module _ {P : Type 0} {controls : Controls P} {waits : Waits P} where
 
   -- all were made
   pub all_requested : {b a : EventOps P} {requests : List Request} {n : ℕ} {answers : List Answer} → AreRequestedSoFar controls waits requests n answers b a → length requests ≤ n
-      → (exchanges : Exchanges) × (calls : List PollerCall) × (map (λ exchange. exchange.0) exchanges ≡ requests) × (map (λ exchange. exchange.1) exchanges ≡ answers) × AreMadeThrough controls waits b a exchanges calls
+      → (exchanges : Exchanges) × (calls : List PollerCall) × (requests_of exchanges ≡ requests) × (answers_of exchanges ≡ answers) × AreMadeThrough controls waits b a exchanges calls
   all_requested {requests = requests} {n = n} so_far past = (so_far.exchanges, so_far.calls, so_far.requests_are ∙ take_all n requests past, so_far.answers_are, so_far.made)
+
+refusal_joined : (answers : List Answer) (next : Answer) → first_refusal (answers ++ next ∷ []) ≡ result_and (first_refusal answers) (first_refusal (next ∷ []))
+refusal_joined [] next = refl
+refusal_joined (Ok entry ∷ answers) next = refusal_joined answers next
+refusal_joined (Err error ∷ answers) next = refl
+
+refusal_alone : (next : Answer) → first_refusal (next ∷ []) ≡ next
+refusal_alone (Ok entry) = refl
+refusal_alone (Err error) = refl
+
+-- the first refusal of one answer more
+pub next_refusal : (answers : List Answer) (next : Answer) → first_refusal (answers ++ next ∷ []) ≡ result_and (first_refusal answers) next
+next_refusal answers next = refusal_joined answers next ∙ ap (result_and (first_refusal answers)) (refusal_alone next)

@@ -3,7 +3,7 @@ use Rattle.std.specs.Prelude.{◌≡◌, ◌≢◌, ℕ, false, List, map, vec_l
 use Rattle.std.specs.declared.alloc.Global.{Global}
 use Rattle.event_manager.specs.Event.{Event}
 use Rattle.event_manager.specs.PollerCall.{PollerCall, Controls, Waits, Leads}
-use Rattle.event_manager.specs.Exchange.{Exchanges, Answer}
+use Rattle.event_manager.specs.Exchange.{Exchanges, Answer, requests_of, answers_of}
 use Rattle.event_manager.specs.Registry.{Registry, Step, Steps, Left, Requested, NotRequested, Replaced, NotReplaced}
 use Rattle.event_manager.specs.Dispatch.{Position, To, IsOutcome, still_pending}
 use Rattle.event_manager.specs.Iteration.{ManagerState}
@@ -29,7 +29,7 @@ answers_to (Run ms) = 0
 -- the step of requests in order, by what was answered
 abbrev pub IsAsk : {V : Type 0} → ℕ → List Request → Result (Vec Answer Global) Error → Step V → Type 0
 IsAsk id requests (Ok answers) step =
-    (exchanges : Exchanges) × (calls : List PollerCall) × (step ≡ Requested id exchanges calls) × (map (λ exchange. exchange.0) exchanges ≡ requests) × (map (λ exchange. exchange.1) exchanges ≡ answers.items)
+    (exchanges : Exchanges) × (calls : List PollerCall) × (step ≡ Requested id exchanges calls) × (requests_of exchanges ≡ requests) × (answers_of exchanges ≡ answers.items)
 IsAsk id requests (Err error) step = (error ≡ InvalidId) × (step ≡ NotRequested id)
 
 -- the step of another value, by what was answered

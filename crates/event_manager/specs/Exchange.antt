@@ -1,6 +1,6 @@
 -- Requests of a subscriber, their answers, and what they do to the registrations.
-use Rattle.std.specs.Prelude.{◌≡◌, ℕ, ◌==◌, ℤ, Bool, false, ◌||◌, List, [], ◌∷◌, ◌++◌, ◌⊎◌, Result, Ok, Err, pos}
-use Rattle.std.specs.FinMap as map
+use Rattle.std.specs.Prelude.{◌≡◌, ℕ, ◌==◌, ℤ, Bool, false, ◌||◌, List, [], ◌∷◌, ◌++◌, map, ◌⊎◌, Result, Ok, Err, pos}
+use Rattle.std.specs.FinMap as finite
 use Rattle.event_manager.specs.Event.{Event}
 use Rattle.event_manager.specs.PollerCall.{PollerCall, Control}
 use Rattle.event_manager.specs.Registrations.{Registrations, Owns, IsFree, not_on}
@@ -60,9 +60,9 @@ ReachesPoller i registrations (Remove e) = Owns i registrations e.fd
 
 -- the registrations once the poller agreed
 abbrev pub registrations_after : ℕ → Request → Registrations → Registrations
-registrations_after i (Add e) registrations = record registrations { owner = map.insert registrations.owner e.fd i }
+registrations_after i (Add e) registrations = record registrations { owner = finite.insert registrations.owner e.fd i }
 registrations_after i (Modify e) registrations = registrations
-registrations_after i (Remove e) registrations = record registrations { owner = map.remove registrations.owner e.fd; pending = not_on e.fd registrations.pending }
+registrations_after i (Remove e) registrations = record registrations { owner = finite.remove registrations.owner e.fd; pending = not_on e.fd registrations.pending }
 
 -- From these registrations, id i may get this answer to the request after these poller calls, and leave the registrations after.
 pub data Fits (i : ℕ) (registrations : Registrations) (request : Request) (answer : Answer) (calls : List PollerCall) (after : Registrations) : Type 0 where
@@ -73,6 +73,18 @@ pub data Fits (i : ℕ) (registrations : Registrations) (request : Request) (ans
 -- a list of requests with their answers
 abbrev pub Exchanges : Type 0
 Exchanges = List (Request × Answer)
+
+abbrev pub requests_of : Exchanges → List Request
+requests_of exchanges = map (λ exchange. exchange.0) exchanges
+
+abbrev pub answers_of : Exchanges → List Answer
+answers_of exchanges = map (λ exchange. exchange.1) exchanges
+
+-- the first answer that is a refusal; agreed where there is none
+abbrev pub first_refusal : List Answer → Answer
+first_refusal [] = agreed
+first_refusal (Ok entry ∷ answers) = first_refusal answers
+first_refusal (Err error ∷ answers) = Err error
 
 -- the exchanges of id i fit, each request from the registrations that the one before it left
 abbrev pub ExchangesFit : ℕ → Registrations → Exchanges → List PollerCall → Registrations → Type 0

@@ -26,3 +26,7 @@ pub mod JobQueue
 pub mod Endpoint
 pub mod JobRuns
 pub mod Driven
+pub mod CounterEvents
+pub mod CounterSubscribers
+pub mod DataCounterSubscribers
+pub mod SharedCounterSubscribers

@@ -1,10 +1,10 @@
 -- A list of calls with their replies, from a manager's state to a manager's state.
-use Rattle.std.specs.Prelude.{◌≡◌, ℕ, List, [], ◌∷◌, ◌++◌, map, Ok, Err, Vec}
+use Rattle.std.specs.Prelude.{◌≡◌, ℕ, List, [], ◌∷◌, ◌++◌, Ok, Err, Vec}
 use Rattle.std.specs.FinMap as finite
 use Rattle.std.specs.declared.alloc.Global.{Global}
 use Rattle.event_manager.specs.Event.{Event}
 use Rattle.event_manager.specs.PollerCall.{PollerCall}
-use Rattle.event_manager.specs.Exchange.{Exchanges, Answer}
+use Rattle.event_manager.specs.Exchange.{Exchanges, Answer, requests_of, answers_of}
 use Rattle.event_manager.specs.Registry.{Step, Steps, Joined, NotJoined, Left, NotLeft, Replaced, NotReplaced, Requested, NotRequested, calls_of}
 use Rattle.event_manager.specs.Iteration.{ManagerState, Iteration, IsIteration, answer_of, calls_of_iteration}
 use Rattle.event_manager.specs.declared.error.Error.TheVariants.{InvalidId}
@@ -35,7 +35,7 @@ Matches (Stepped (Replaced id old new)) c r = (c ≡ call.Set id new) × (r ≡ 
 Matches {V} (Stepped (NotReplaced id)) c r = (new : V) × (c ≡ call.Set id new) × (r ≡ reply.Set (Err InvalidId))
 Matches (Stepped (Requested id exchanges calls)) c r =
     (requests : Vec Request Global) × (answers : Vec Answer Global) × (c ≡ call.Ask id requests) × (r ≡ reply.Asked (Ok answers))
-    × (map (λ exchange. exchange.0) exchanges ≡ requests.items) × (map (λ exchange. exchange.1) exchanges ≡ answers.items)
+    × (requests_of exchanges ≡ requests.items) × (answers_of exchanges ≡ answers.items)
 Matches (Stepped (NotRequested id)) c r = (requests : Vec Request Global) × (c ≡ call.Ask id requests) × (r ≡ reply.Asked (Err InvalidId))
 Matches (Iterated iteration) c r = (c ≡ call.Run iteration.ms) × (r ≡ reply.Ran (answer_of iteration.waited))
 

@@ -4,6 +4,7 @@ ghost use Rattle.std.specs.Prelude.{◌≡◌, ℕ, ◌≤ℤ◌, ◌<◌, ◌^�
 ghost use Rattle.event_manager.specs.PollerCall.{PollerCall};
 ghost use Rattle.event_manager.specs.ReadyList.{event_of_entry};
 ghost use Rattle.event_manager.specs.PollerRelations.{packed};
+ghost use Rattle.event_manager.specs.Exchange.{Exchanges, requests_of, answers_of, first_refusal};
 ghost use Rattle.event_manager.specs.Requests.{AreMadeThrough};
 ghost use Rattle.event_manager.specs.declared.events.Request.{Request};
 ghost use Rattle.vmm_sys.specs.EventSet.{bits_of};
@@ -240,6 +241,20 @@ impl<P: EventPoller> EventOps<P> {
         let one = self.request(first);
         let two = self.request(second);
         (one, two)
+    }
+
+    /// Makes requests in order, also after one that is refused. Answers the first refusal, or `Ok` where all were agreed
+    /// to. Takes no memory of its own.
+    pub fn request_all(&mut self, requests: &[Request]) -> Result<()>
+        ensures { (exchanges : Exchanges) × (calls : List PollerCall) × (requests_of exchanges ≡ requests.now)
+            × (result ≡ first_refusal (answers_of exchanges)) × AreMadeThrough P.controls P.waits self.old self.new exchanges calls }
+    {
+        let mut answer = Ok(());
+        for request in requests {
+            let next = self.request(*request);
+            answer = answer.and(next);
+        }
+        answer
     }
 
     /// Makes a request that is given as a value.

@@ -19,6 +19,7 @@ pub mod poller;
 #[cfg(test)]
 mod subscriber_tests;
 pub mod subscribers;
+pub mod utilities;
 mod watch_lists;
 pub mod wrappers;
 

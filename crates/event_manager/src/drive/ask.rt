@@ -1,7 +1,7 @@
 //! Calls for one subscriber that stand in lists: requests in order, and another value.
 
-ghost use Rattle.std.specs.Prelude.{◌≡◌, ◌≤◌, List, [], length, map, vec_capacity};
-ghost use Rattle.event_manager.specs.Exchange.{Exchanges};
+ghost use Rattle.std.specs.Prelude.{◌≡◌, ◌≤◌, List, [], length, vec_capacity};
+ghost use Rattle.event_manager.specs.Exchange.{Exchanges, requests_of, answers_of};
 ghost use Rattle.event_manager.specs.PollerCall.{PollerCall};
 ghost use Rattle.event_manager.specs.Registry.{Step};
 ghost use Rattle.event_manager.specs.Requests.{AreMadeThrough};
@@ -23,7 +23,7 @@ fn make_requests<P: EventPoller>(
 )
     requires none { answers.old.items ≡ [] }
     requires room { length requests.now ≤ vec_capacity answers.old }
-    ensures { (exchanges : Exchanges) × (calls : List PollerCall) × (map (λ exchange. exchange.0) exchanges ≡ requests.now) × (map (λ exchange. exchange.1) exchanges ≡ answers.new.items)
+    ensures { (exchanges : Exchanges) × (calls : List PollerCall) × (requests_of exchanges ≡ requests.now) × (answers_of exchanges ≡ answers.new.items)
         × AreMadeThrough P.controls P.waits ops.old ops.new exchanges calls }
 {
     for request in requests {
