@@ -12,6 +12,9 @@ mod endpoint;
 #[cfg(test)]
 mod events;
 #[cfg(test)]
+mod form_tests;
+pub mod forms;
+#[cfg(test)]
 mod jobs;
 #[cfg(test)]
 mod log;

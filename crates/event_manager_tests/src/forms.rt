@@ -1,0 +1,180 @@
+//! Subscribers of each form that docs/DESIGN.md shows: none has a line of proof by hand.
+
+use event_manager::{
+    EventOps, EventPoller, EventSet, Events, MutEventSubscriber, Request, StepInput, StepSubscriber,
+};
+use std::sync::Arc;
+use std::sync::atomic::{AtomicU64, Ordering};
+
+/// Asks for its descriptor when it joins, and for nothing at an event.
+#[derive(Drop)]
+pub struct Counting {
+    pub own: Events,
+    pub seen: u64,
+}
+
+impl MutEventSubscriber for Counting {
+    ghost use Rattle.std.specs.Prelude.{◌≡◌, [], ◌∷◌};
+    ghost use Rattle.event_manager.specs.Exchange.{Answer};
+    ghost use Rattle.event_manager.specs.declared.events.Request.TheVariants.{Add};
+
+    ghost begins = { λ v exchanges w. (answer : Answer) × (exchanges ≡ (Add v.own, answer) ∷ []) };
+
+    ghost serves = { λ v event exchanges w. exchanges ≡ [] };
+
+    fn process<P: EventPoller>(&mut self, _events: Events, _ops: &mut EventOps<P>) {
+        self.seen = self.seen.saturating_add(1);
+    }
+
+    fn init<P: EventPoller>(&mut self, ops: &mut EventOps<P>) {
+        let _ = ops.add(self.own);
+    }
+}
+
+/// Removes the descriptor of an event whose set is `HANG_UP` and nothing else.
+#[derive(Drop)]
+pub struct Leaving {
+    pub own: Events,
+    pub seen: u64,
+}
+
+impl MutEventSubscriber for Leaving {
+    ghost use Rattle.std.specs.Prelude.{◌≡◌, [], ◌∷◌, ◌==◌, MatchBool};
+    ghost use Rattle.event_manager.specs.Exchange.{Answer};
+    ghost use Rattle.event_manager.specs.declared.events.Request.TheVariants.{Add, Remove};
+
+    ghost begins = { λ v exchanges w. (answer : Answer) × (exchanges ≡ (Add v.own, answer) ∷ []) };
+
+    ghost serves = { λ v event exchanges w. MatchBool (event.set == 16) ((answer : Answer) × (exchanges ≡ (Remove event, answer) ∷ [])) (exchanges ≡ []) };
+
+    fn process<P: EventPoller>(&mut self, events: Events, ops: &mut EventOps<P>) {
+        self.seen = self.seen.saturating_add(1);
+        if events.event_set() == EventSet::HANG_UP {
+            let _ = ops.remove(events);
+        }
+    }
+
+    fn init<P: EventPoller>(&mut self, ops: &mut EventOps<P>) {
+        let _ = ops.add(self.own);
+    }
+}
+
+/// Removes the descriptor of an event whose data is 0.
+#[derive(Drop)]
+pub struct Numbered {
+    pub own: Events,
+    pub seen: u64,
+}
+
+impl MutEventSubscriber for Numbered {
+    ghost use Rattle.std.specs.Prelude.{◌≡◌, [], ◌∷◌, ◌==◌, MatchBool};
+    ghost use Rattle.event_manager.specs.Exchange.{Answer};
+    ghost use Rattle.event_manager.specs.declared.events.Request.TheVariants.{Add, Remove};
+
+    ghost begins = { λ v exchanges w. (answer : Answer) × (exchanges ≡ (Add v.own, answer) ∷ []) };
+
+    ghost serves = { λ v event exchanges w. MatchBool (event.payload == 0) ((answer : Answer) × (exchanges ≡ (Remove event, answer) ∷ [])) (exchanges ≡ []) };
+
+    fn process<P: EventPoller>(&mut self, events: Events, ops: &mut EventOps<P>) {
+        self.seen = self.seen.saturating_add(1);
+        if events.data() == 0 {
+            let _ = ops.remove(events);
+        }
+    }
+
+    fn init<P: EventPoller>(&mut self, ops: &mut EventOps<P>) {
+        let _ = ops.add(self.own);
+    }
+}
+
+/// At each event removes its descriptor and adds it again.
+#[derive(Drop)]
+pub struct Renewing {
+    pub own: Events,
+    pub seen: u64,
+}
+
+impl MutEventSubscriber for Renewing {
+    ghost use Rattle.std.specs.Prelude.{◌≡◌, [], ◌∷◌};
+    ghost use Rattle.event_manager.specs.Exchange.{Answer};
+    ghost use Rattle.event_manager.specs.declared.events.Request.TheVariants.{Add, Remove};
+
+    ghost begins = { λ v exchanges w. (answer : Answer) × (exchanges ≡ (Add v.own, answer) ∷ []) };
+
+    ghost serves = { λ v event exchanges w. (first second : Answer) × (exchanges ≡ (Remove v.own, first) ∷ (Add v.own, second) ∷ []) };
+
+    fn process<P: EventPoller>(&mut self, _events: Events, ops: &mut EventOps<P>) {
+        self.seen = self.seen.saturating_add(1);
+        let _ = ops.request_both(Request::Remove(self.own), Request::Add(self.own));
+    }
+
+    fn init<P: EventPoller>(&mut self, ops: &mut EventOps<P>) {
+        let _ = ops.add(self.own);
+    }
+}
+
+/// Asks for three descriptors when it joins, and lets them all go at its first event.
+#[derive(Drop)]
+pub struct Group {
+    pub own: [Events; 3],
+    pub seen: u64,
+}
+
+impl MutEventSubscriber for Group {
+    ghost use Rattle.std.specs.Prelude.{◌≡◌, map};
+    ghost use Rattle.event_manager.specs.Exchange.{requests_of};
+    ghost use Rattle.event_manager.specs.declared.events.Request.TheVariants.{Add, Remove};
+
+    ghost begins = { λ v exchanges w. requests_of exchanges ≡ map Add v.own };
+
+    ghost serves = { λ v event exchanges w. requests_of exchanges ≡ map Remove v.own };
+
+    fn process<P: EventPoller>(&mut self, _events: Events, ops: &mut EventOps<P>) {
+        self.seen = self.seen.saturating_add(1);
+        let [first, second, third] = self.own;
+        let _ = ops.request_all(&[
+            Request::Remove(first),
+            Request::Remove(second),
+            Request::Remove(third),
+        ]);
+    }
+
+    fn init<P: EventPoller>(&mut self, ops: &mut EventOps<P>) {
+        let [first, second, third] = self.own;
+        let _ = ops.request_all(&[
+            Request::Add(first),
+            Request::Add(second),
+            Request::Add(third),
+        ]);
+    }
+}
+
+/// To be boxed: asks for its descriptor when it joins, and removes it at an event whose set is `HANG_UP` and nothing else.
+#[derive(Drop)]
+pub struct Boxable {
+    pub own: Events,
+    pub seen: Arc<AtomicU64>,
+}
+
+impl StepSubscriber for Boxable {
+    ghost use Rattle.event_manager_tests.specs.Boxable.{boxable_wants};
+
+    ghost requests = { boxable_wants };
+
+    ghost requests_left = { λ v. 0 };
+
+    fn next(&mut self, input: StepInput) -> Option<Request> {
+        match input {
+            StepInput::Init => Some(Request::Add(self.own)),
+            StepInput::Event(events) => {
+                self.seen.fetch_add(1, Ordering::SeqCst);
+                if events.event_set() == EventSet::HANG_UP {
+                    Some(Request::Remove(events))
+                } else {
+                    None
+                }
+            }
+            StepInput::Answer(_) => None,
+        }
+    }
+}
