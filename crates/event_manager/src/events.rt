@@ -168,7 +168,8 @@ pub struct EventOps<P> {
 }
 
 impl<P: EventPoller> EventOps<P> {
-    /// Registers the descriptor for the subscriber.
+    /// Registers the descriptor for the subscriber: a number, which the poller takes for a descriptor of its own, also
+    /// where it is that of a counter of another table.
     ///
     /// Refused, in this order: `FdAlreadyRegistered` where a subscriber owns the descriptor, this one included;
     /// `Epoll(EEXIST)` where it is the endpoint's; `OutOfMemory`, since room is made before the poller is asked;

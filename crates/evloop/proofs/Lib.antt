@@ -1,3 +1,2 @@
-pub mod AskedSoFar
 pub mod Pairs
 pub mod Replies

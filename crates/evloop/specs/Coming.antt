@@ -6,9 +6,8 @@ use Rattle.std.specs.declared.hash.FoldHasher.{FoldHasher}
 use Rattle.std.specs.declared.hash.BuildHasherDefault.{BuildHasherDefault}
 use Rattle.std.specs.declared.collections.VecDeque.{VecDeque}
 use Rattle.std.specs.HashMap.{get, HashMap}
-use Rattle.event_manager.specs.Exchange.{Exchanges}
+use Rattle.event_manager.specs.Exchange.{Exchanges, requests_of}
 use Rattle.event_manager.specs.declared.events.Request.{Request}
-use Rattle.evloop.specs.Asked.{requests_of}
 
 -- a queue for each descriptor
 abbrev pub Queues : Type 0

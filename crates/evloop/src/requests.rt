@@ -1,10 +1,9 @@
 //! Requests, made one after another.
 
 ghost use Rattle.std.specs.Prelude.{◌≡◌, List};
-ghost use Rattle.event_manager.specs.Exchange.{Exchanges};
+ghost use Rattle.event_manager.specs.Exchange.{Exchanges, requests_of};
 ghost use Rattle.event_manager.specs.PollerCall.{PollerCall};
 ghost use Rattle.event_manager.specs.Requests.{AreMadeThrough};
-ghost use Rattle.evloop.specs.Asked.{requests_of};
 
 use crate::output::{Out, OutputLine, Printer};
 use event_manager::{EventOps, EventPoller, Request};

@@ -1,7 +1,7 @@
 //! The subscribers of a script.
 
 ghost use Rattle.std.specs.Prelude.{◌≡◌};
-ghost use Rattle.evloop.specs.Asked.{requests_of};
+ghost use Rattle.event_manager.specs.Exchange.{requests_of};
 ghost use Rattle.evloop.specs.Coming.{Reacts};
 
 use crate::output::{Out, OutputLine, Printer};

@@ -11,6 +11,10 @@ use std::sync::Wait;
 ///
 /// It stands in for Linux's `eventfd`, and never waits for its value. Each call is one step of the
 /// table, under its lock.
+///
+/// Its descriptor is a number of this table: a poller over another table takes it for its own
+/// descriptor of that number. A counter that is dropped stays open: where it is registered it is
+/// still reported, and its number and its memory never come back.
 #[derive(Drop)]
 pub struct EventFd {
     table: TableOwner,
@@ -23,7 +27,7 @@ impl EventFd {
     ghost use Rattle.vmm_sys.specs.Table.{write_of, read_of};
     ghost use Rattle.vmm_sys.specs.EventFd.{descriptor_of, IsOpeningError};
 
-    /// Opens a counter of this value.
+    /// Opens a counter of this value: a number, and not flags as in `vmm-sys-util`.
     ///
     /// `EINVAL`: the value is 18446744073709551615. `EMFILE`: the table gave number 2147483647.
     /// `ENOMEM`: memory, or one more owner of the table, was refused. A refused call opens nothing.

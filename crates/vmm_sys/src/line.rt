@@ -10,7 +10,8 @@ use std::sync::Wait;
 /// A descriptor in the table of an [`Epoll`] whose state is set; it stands in for a socket or a
 /// pipe.
 ///
-/// Each call is one step of the table, under its lock.
+/// Each call is one step of the table, under its lock. Of its descriptor, and of a line that is
+/// dropped, holds what is said of an [`EventFd`](crate::eventfd::EventFd).
 #[derive(Drop)]
 pub struct Line {
     table: TableOwner,

@@ -1,5 +1,7 @@
-use Rattle.evloop.proofs.AskedSoFar.{AreAskedSoFar}
+use Rattle.std.proofs.Common.{List}
+use Rattle.event_manager.specs.Exchange.{Answer}
+use Rattle.event_manager.proofs.RequestsSoFar.{AreRequestedSoFar}
 use Rattle.evloop.proofs.requests.make_requests.Given as goal
 
 abbrev pub invariant-loop-request : goal.invariant-loop-request
-invariant-loop-request g l = AreAskedSoFar g.P.EventPoller.controls g.P.EventPoller.waits l.requests l.request-index l.initial.ops l.ops
+invariant-loop-request g l = (answers : List Answer) × AreRequestedSoFar g.P.EventPoller.controls g.P.EventPoller.waits l.requests l.request-index answers l.initial.ops l.ops
