@@ -44,10 +44,7 @@ pub fn on_table<R: Host>(rt: R, alloc: Global) -> std::result::Result<OnTable<R>
 }
 
 /// A counter of value 0 in the table of these parts.
-pub fn counter_of<R: Host>(
-    rt: &R,
-    parts: &OnTable<R>,
-) -> std::result::Result<EventFd, Errno> {
+pub fn counter_of<R: Host>(rt: &R, parts: &OnTable<R>) -> std::result::Result<EventFd, Errno> {
     EventFd::new(&parts.poller.0, 0, rt)
 }
 

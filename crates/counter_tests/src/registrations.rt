@@ -271,8 +271,7 @@ impl<R: Wait + Clock + Copy + Send + Drop> WithLedgers for OfCapacity<R> {
         } = parts;
         EventManager::<CounterSubscriber, NoJob, L, T, _>::new_with_capacity(
             alloc, poller, endpoint, capacity, tickets, taken,
-        )
-        .err()
+        ).err()
     }
 }
 
