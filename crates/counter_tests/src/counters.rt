@@ -44,7 +44,7 @@ fn a_counter_whose_removal_is_refused_stays(rt: HostRuntime) -> Result<(), Fail>
 }
 
 #[test]
-fn a_counter_that_hangs_up_has_no_events_more(rt: HostRuntime) -> Result<(), Fail> {
+fn a_counter_that_hung_up_has_no_more_events(rt: HostRuntime) -> Result<(), Fail> {
     let script = Script {
         reports: &[&[event_of(EventSet::HANG_UP)], &[event_of(EventSet::IN)]],
         refused_deletes: &[],

@@ -3,7 +3,6 @@
 use crate::scripted::{Script, event_of, input, served, three_counters};
 use event_manager::Error;
 use event_manager::utilities::subscribers::CounterSubscriberWithData;
-use std::process::Abort;
 use std::test::Fail;
 use vmm_sys::epoll::EventSet;
 use vmm_sys::errno::Errno;
