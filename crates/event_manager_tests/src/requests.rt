@@ -205,3 +205,55 @@ fn a_request_is_answered_by_the_table(rt: HostRuntime) -> std::result::Result<()
     let parts = silent_parts(rt, rt.alloc(), PlainPoller(script))?;
     request_and_leave(&rt, parts, &requests_and_answers())
 }
+
+/// The owner of 3 and 4 makes a list of requests, of which two are refused, and one that is agreed to.
+#[derive(Drop)]
+struct AskingInLists<'a, R> {
+    rt: &'a R,
+}
+
+impl<R: Abort> WithManager for AskingInLists<'_, R> {
+    type Subscriber = Pair;
+
+    type Output = ();
+
+    fn run<L: Ledger, T: Ledger, P: EventPoller>(
+        self,
+        manager: &mut EventManager<Pair, NoJob, L, T, P>,
+    ) -> Result<()> {
+        let rt = self.rt;
+        let (three, four, seven) = (wanted(3), wanted(4), wanted(7));
+        let id = manager.add_subscriber(pair_of(3, 4))?;
+        let refused = [
+            Request::Remove(three),
+            Request::Remove(four),
+            Request::Add(seven),
+        ];
+        let answer = manager.event_ops(id)?.request_all(&refused);
+        assert_eq!(rt; answer, Err(Error::Epoll(Errno(22))));
+        // The list used both refusals up, and added 7.
+        let after = [
+            (Request::Add(seven), Err(Error::FdAlreadyRegistered)),
+            (Request::Remove(three), Ok(())),
+            (Request::Remove(four), Ok(())),
+        ];
+        expect_answers(rt, manager, id, &after);
+        let agreed = [Request::Remove(seven), Request::Add(three)];
+        let answer = manager.event_ops(id)?.request_all(&agreed);
+        assert_eq!(rt; answer, Ok(()));
+        let taken = Err(Error::FdAlreadyRegistered);
+        expect_answers(rt, manager, id, &[(Request::Add(three), taken)]);
+        assert_eq!(rt; manager.event_ops(id)?.request_all(&[]), Ok(()));
+        Ok(())
+    }
+}
+
+#[test]
+fn a_list_of_requests_answers_its_first_refusal(rt: HostRuntime) -> std::result::Result<(), Fail> {
+    let mut script = ScriptPoller::new(rt.alloc());
+    script.push_refusal(ControlOperation::Delete, 3, Errno(22))?;
+    script.push_refusal(ControlOperation::Delete, 4, Errno(5))?;
+    let parts = silent_parts(rt, rt.alloc(), PlainPoller(script))?;
+    with_manager(parts, AskingInLists { rt: &rt })?;
+    Ok(())
+}

@@ -1,0 +1,27 @@
+//! Tests of the counting subscribers, and of managers over counters and lines of the in-process table.
+#![tactic(auto)]
+
+#[cfg(test)]
+mod counters;
+#[cfg(test)]
+mod events;
+#[cfg(test)]
+mod lines;
+#[cfg(test)]
+mod making;
+#[cfg(test)]
+mod memory;
+#[cfg(test)]
+mod reacting;
+#[cfg(test)]
+mod registrations;
+#[cfg(test)]
+mod scripted;
+#[cfg(test)]
+mod shared_counters;
+#[cfg(test)]
+mod table;
+#[cfg(test)]
+mod threads;
+#[cfg(test)]
+mod three_counters;

@@ -1,0 +1,51 @@
+//! A subscriber that notes its events, and reacts to the first.
+
+ghost use Rattle.std.specs.Prelude.{◌≡◌, [], ◌∷◌, MatchOption};
+
+use event_manager::{EventOps, EventPoller, Events, MutEventSubscriber, Request};
+use std::alloc::Global;
+
+/// Adds one descriptor in `init`, notes its events, and makes its request, if any, at the first of them.
+#[derive(Drop)]
+pub struct Reacting {
+    own: Events,
+    reaction: Option<Request>,
+    seen: Vec<Events>,
+}
+
+impl Reacting {
+    pub fn new(alloc: Global, own: Events, reaction: Option<Request>) -> Reacting {
+        Reacting {
+            own,
+            reaction,
+            seen: Vec::new(alloc),
+        }
+    }
+
+    /// Whether these were its events, in order. They are then forgotten.
+    pub fn saw(&mut self, expected: &[Events]) -> bool {
+        let same = self.seen.as_slice() == expected;
+        self.seen.clear();
+        same
+    }
+}
+
+impl MutEventSubscriber for Reacting {
+    ghost use Rattle.event_manager.specs.Exchange.{Answer};
+    ghost use Rattle.event_manager.specs.declared.events.Request.TheVariants.{Add};
+
+    ghost begins = { λ v exchanges w. (answer : Answer) × (exchanges ≡ (Add v.own, answer) ∷ []) };
+
+    ghost serves = { λ v event exchanges w. MatchOption v.reaction (exchanges ≡ []) (λ request. (answer : Answer) × (exchanges ≡ (request, answer) ∷ [])) };
+
+    fn process<P: EventPoller>(&mut self, events: Events, ops: &mut EventOps<P>) {
+        let _ = self.seen.push(events);
+        if let Some(request) = self.reaction.take() {
+            let _ = ops.request(request);
+        }
+    }
+
+    fn init<P: EventPoller>(&mut self, ops: &mut EventOps<P>) {
+        let _ = ops.add(self.own);
+    }
+}

@@ -1,0 +1,286 @@
+//! Descriptors that are added, changed and removed, and subscribers that leave.
+
+use crate::making::{OnTable, Parts, WithManager, counter_of, on_table, with_manager};
+use crate::reacting::Reacting;
+use event_manager::utilities::subscribers::CounterSubscriber;
+use event_manager::{
+    Error, EventManager, EventPoller, Events, NoJob, Request, Result, SubscriberOps, WithLedgers,
+    with_ledgers,
+};
+use std::process::Abort;
+use std::sync::Wait;
+use std::sync::ledger::{Blank, Ledger};
+use std::test::Fail;
+use std::time::Clock;
+use vmm_sys::epoll::EventSet;
+use vmm_sys::eventfd::EventFd;
+
+/// Adds a second descriptor at the first event, and runs twice.
+#[derive(Drop)]
+struct Registering<'a, R> {
+    rt: &'a R,
+    subscriber: Reacting,
+    first: Events,
+    second: Events,
+}
+
+impl<R: Wait + Clock + Abort> WithManager for Registering<'_, R> {
+    type Subscriber = Reacting;
+
+    type Output = ();
+
+    fn run<L: Ledger, T: Ledger, P: EventPoller>(
+        self,
+        manager: &mut EventManager<Reacting, NoJob, L, T, P>,
+    ) -> Result<()> {
+        let Registering {
+            rt,
+            subscriber,
+            first,
+            second,
+        } = self;
+        let id = manager.add_subscriber(subscriber)?;
+        assert_eq!(rt; manager.run(rt), Ok(1));
+        assert!(rt; manager.subscriber_mut(id)?.saw(&[first]));
+        assert_eq!(rt; manager.run(rt), Ok(2));
+        assert!(rt; manager.subscriber_mut(id)?.saw(&[first, second]));
+        Ok(())
+    }
+}
+
+#[test]
+fn test_register(rt: HostRuntime) -> std::result::Result<(), Fail> {
+    let parts = on_table(rt, rt.alloc())?;
+    let (one, two) = (counter_of(&rt, &parts)?, counter_of(&rt, &parts)?);
+    let first = Events::new(&one, EventSet::OUT);
+    let second = Events::new(&two, EventSet::OUT);
+    let body = Registering {
+        rt: &rt,
+        subscriber: Reacting::new(rt.alloc(), first, Some(Request::Add(second))),
+        first,
+        second,
+    };
+    with_manager(parts, body)?;
+    Ok(())
+}
+
+/// Two subscribers join, whose descriptors are the same.
+#[derive(Drop)]
+struct JoiningTwice<'a, R> {
+    rt: &'a R,
+    first: CounterSubscriber,
+    second: CounterSubscriber,
+}
+
+impl<R: Abort> WithManager for JoiningTwice<'_, R> {
+    type Subscriber = CounterSubscriber;
+
+    type Output = ();
+
+    fn run<L: Ledger, T: Ledger, P: EventPoller>(
+        self,
+        manager: &mut EventManager<CounterSubscriber, NoJob, L, T, P>,
+    ) -> Result<()> {
+        let JoiningTwice { rt, first, second } = self;
+        let one = manager.add_subscriber(first)?;
+        let two = manager.add_subscriber(second)?;
+        assert!(rt; one != two);
+        assert_eq!(rt; manager.subscriber_mut(one)?.fault(), None);
+        let taken = Some(Error::FdAlreadyRegistered);
+        assert_eq!(rt; manager.subscriber_mut(two)?.fault(), taken);
+        Ok(())
+    }
+}
+
+#[test]
+fn test_add_invalid_subscriber(rt: HostRuntime) -> std::result::Result<(), Fail> {
+    let parts = on_table(rt, rt.alloc())?;
+    let event_fd = counter_of(&rt, &parts)?;
+    let body = JoiningTwice {
+        rt: &rt,
+        first: CounterSubscriber::new(event_fd.try_clone()?),
+        second: CounterSubscriber::new(event_fd),
+    };
+    with_manager(parts, body)?;
+    Ok(())
+}
+
+/// Removes the descriptor at its first event, and runs twice.
+#[derive(Drop)]
+struct Unregistering<'a, R> {
+    rt: &'a R,
+    subscriber: Reacting,
+    own: Events,
+}
+
+impl<R: Wait + Clock + Abort> WithManager for Unregistering<'_, R> {
+    type Subscriber = Reacting;
+
+    type Output = ();
+
+    fn run<L: Ledger, T: Ledger, P: EventPoller>(
+        self,
+        manager: &mut EventManager<Reacting, NoJob, L, T, P>,
+    ) -> Result<()> {
+        let Unregistering {
+            rt,
+            subscriber,
+            own,
+        } = self;
+        let id = manager.add_subscriber(subscriber)?;
+        assert_eq!(rt; manager.run(rt), Ok(1));
+        assert_eq!(rt; manager.run_with_timeout(100, rt), Ok(0));
+        assert!(rt; manager.subscriber_mut(id)?.saw(&[own]));
+        Ok(())
+    }
+}
+
+#[test]
+fn test_unregister(rt: HostRuntime) -> std::result::Result<(), Fail> {
+    let parts = on_table(rt, rt.alloc())?;
+    let event_fd = counter_of(&rt, &parts)?;
+    let own = Events::new(&event_fd, EventSet::OUT);
+    let body = Unregistering {
+        rt: &rt,
+        subscriber: Reacting::new(rt.alloc(), own, Some(Request::Remove(own))),
+        own,
+    };
+    with_manager(parts, body)?;
+    Ok(())
+}
+
+/// Changes the descriptor's set at its first event, runs, writes, and runs again.
+#[derive(Drop)]
+struct Modifying<'a, R> {
+    rt: &'a R,
+    event_fd: EventFd,
+    subscriber: Reacting,
+    before: Events,
+    after: Events,
+}
+
+impl<R: Wait + Clock + Abort> WithManager for Modifying<'_, R> {
+    type Subscriber = Reacting;
+
+    type Output = ();
+
+    fn run<L: Ledger, T: Ledger, P: EventPoller>(
+        self,
+        manager: &mut EventManager<Reacting, NoJob, L, T, P>,
+    ) -> Result<()> {
+        let Modifying {
+            rt,
+            event_fd,
+            subscriber,
+            before,
+            after,
+        } = self;
+        let id = manager.add_subscriber(subscriber)?;
+        assert_eq!(rt; manager.run(rt), Ok(1));
+        assert!(rt; manager.subscriber_mut(id)?.saw(&[before]));
+        assert_eq!(rt; event_fd.write(1, rt), Ok(()));
+        assert_eq!(rt; manager.run(rt), Ok(1));
+        assert!(rt; manager.subscriber_mut(id)?.saw(&[after]));
+        Ok(())
+    }
+}
+
+#[test]
+fn test_modify(rt: HostRuntime) -> std::result::Result<(), Fail> {
+    let parts = on_table(rt, rt.alloc())?;
+    let event_fd = counter_of(&rt, &parts)?;
+    let before = Events::new(&event_fd, EventSet::OUT);
+    let after = Events::new(&event_fd, EventSet::IN);
+    let body = Modifying {
+        rt: &rt,
+        event_fd,
+        subscriber: Reacting::new(rt.alloc(), before, Some(Request::Modify(after))),
+        before,
+        after,
+    };
+    with_manager(parts, body)?;
+    Ok(())
+}
+
+/// Runs, lets the subscriber leave, runs, and lets it leave once more.
+#[derive(Drop)]
+struct Removing<'a, R> {
+    rt: &'a R,
+    subscriber: Reacting,
+    own: Events,
+}
+
+impl<R: Wait + Clock + Abort> WithManager for Removing<'_, R> {
+    type Subscriber = Reacting;
+
+    type Output = ();
+
+    fn run<L: Ledger, T: Ledger, P: EventPoller>(
+        self,
+        manager: &mut EventManager<Reacting, NoJob, L, T, P>,
+    ) -> Result<()> {
+        let Removing {
+            rt,
+            subscriber,
+            own,
+        } = self;
+        let id = manager.add_subscriber(subscriber)?;
+        assert_eq!(rt; manager.run(rt), Ok(1));
+        let mut left = manager.remove_subscriber(id)?;
+        assert!(rt; left.saw(&[own]));
+        assert_eq!(rt; manager.run_with_timeout(100, rt), Ok(0));
+        let again = manager.remove_subscriber(id).err();
+        assert_eq!(rt; again, Some(Error::InvalidId));
+        Ok(())
+    }
+}
+
+#[test]
+fn test_remove_subscriber(rt: HostRuntime) -> std::result::Result<(), Fail> {
+    let parts = on_table(rt, rt.alloc())?;
+    let event_fd = counter_of(&rt, &parts)?;
+    let own = Events::new(&event_fd, EventSet::OUT);
+    let body = Removing {
+        rt: &rt,
+        subscriber: Reacting::new(rt.alloc(), own, None),
+        own,
+    };
+    with_manager(parts, body)?;
+    Ok(())
+}
+
+/// Makes a manager of this capacity, and answers what refuses it.
+struct OfCapacity<R> {
+    parts: OnTable<R>,
+    capacity: usize,
+}
+
+impl<R: Wait + Clock + Copy + Send + Drop> WithLedgers for OfCapacity<R> {
+    type Output = Option<Error>;
+
+    fn run<L: Ledger + Send + Sync, T: Ledger + Send + Sync>(
+        self,
+        tickets: Blank,
+        taken: Blank,
+    ) -> Option<Error> {
+        let OfCapacity { parts, capacity } = self;
+        let Parts {
+            alloc,
+            poller,
+            endpoint,
+        } = parts;
+        EventManager::<CounterSubscriber, NoJob, L, T, _>::new_with_capacity(
+            alloc, poller, endpoint, capacity, tickets, taken,
+        ).err()
+    }
+}
+
+#[test]
+fn test_max_ready_list_size(rt: HostRuntime) -> std::result::Result<(), Fail> {
+    for capacity in [178956971, usize::MAX] {
+        let parts = on_table(rt, rt.alloc())?;
+        let refusal = with_ledgers(OfCapacity { parts, capacity });
+        assert_eq!(rt; refusal, Some(Error::InvalidCapacity));
+    }
+    Ok(())
+}

@@ -1,0 +1,139 @@
+//! Managers that are moved to a second thread, and run there.
+
+ghost use Rattle.std.specs.Prelude.{◌≡◌};
+
+use crate::making::{Host, OnTable, counter_of, make, no_memory, on_table, three_counters_of};
+use crate::three_counters::has_values;
+use event_manager::utilities::subscribers::{
+    CounterInnerMutSubscriber, CounterSubscriber, CounterSubscriberWithData,
+};
+use event_manager::{Either, EventManager, MutEventSubscriber, NoJob, PlainPoller, SubscriberOps};
+use std::alloc::Global;
+use std::marker::Brand;
+use std::sync::Arc;
+use std::sync::ledger::{Blank, Ledger};
+use std::test::Fail;
+use std::thread;
+use vmm_sys::epoll::Epoll;
+use vmm_sys::errno::Errno;
+
+type Loop<S, L, T, R> = EventManager<S, NoJob, L, T, PlainPoller<Epoll<R>>>;
+
+/// Makes a hundred runs, each of which must report so many events.
+fn run_hundred<S: MutEventSubscriber, L: Ledger, T: Ledger, R: Host>(
+    rt: R,
+    manager: Loop<S, L, T, R>,
+    count: usize,
+) -> Loop<S, L, T, R> {
+    let mut manager = manager;
+    for _ in 0..100 {
+        assert_eq!(rt; manager.run_with_timeout(1000, &rt), Ok(count));
+    }
+    manager
+}
+
+/// As [`run_on_second_thread`], for any two ledgers.
+fn run_moved<S, L, T, R>(
+    rt: R,
+    parts: OnTable<R>,
+    subscribers: Vec<S>,
+    count: usize,
+    tickets: Blank,
+    taken: Blank,
+) -> Result<Vec<S>, Fail>
+where
+    S: MutEventSubscriber + Send + Drop + 'static,
+    L: Ledger + Send + Sync + 'static,
+    T: Ledger + Send + Sync + 'static,
+    R: Host,
+    requires tickets_name { tickets.name ≡ L.name }
+    requires tickets_parts { (tickets.parts ≡ L.parts) × (tickets.parts ≡ 9223372036854775808) }
+    requires taken_name { taken.name ≡ T.name }
+    requires taken_parts { (taken.parts ≡ T.parts) × (taken.parts ≡ 1) }
+{
+    let alloc = parts.alloc;
+    let mut manager = make::<S, L, T, _>(parts, tickets, taken)?;
+    let mut ids = Vec::new(alloc);
+    for subscriber in subscribers {
+        ids.push(manager.add_subscriber(subscriber)?)
+            .map_err(no_memory)?;
+    }
+    let runner = thread::spawn(&rt, move || run_hundred(rt, manager, count)).map_err(no_memory)?;
+    let mut manager = runner.join(&rt);
+    let mut left = Vec::new(alloc);
+    for id in ids {
+        left.push(manager.remove_subscriber(id)?)
+            .map_err(no_memory)?;
+    }
+    Ok(left)
+}
+
+/// The subscribers, in order, after a manager of them was moved to a second thread and has made a hundred runs there,
+/// each of which must report so many events.
+fn run_on_second_thread<S: MutEventSubscriber + Send + Drop + 'static, R: Host>(
+    rt: R,
+    parts: OnTable<R>,
+    subscribers: Vec<S>,
+    count: usize,
+) -> Result<Vec<S>, Fail> {
+    let tickets = Blank::new(9223372036854775808);
+    run_moved::<S, Brand, Brand, R>(rt, parts, subscribers, count, tickets, Blank::new(1))
+}
+
+/// A subscriber with three counters in the table of these parts, all of which are triggered.
+fn triggered<R: Host>(
+    rt: &R,
+    alloc: Global,
+    parts: &OnTable<R>,
+    first_data: u16,
+) -> Result<CounterSubscriberWithData, Errno> {
+    let event_fds = three_counters_of(rt, parts)?;
+    let mut subscriber = CounterSubscriberWithData::new(alloc, event_fds, u32::from(first_data));
+    subscriber.trigger_all_counters(rt);
+    Ok(subscriber)
+}
+
+#[test]
+fn test_one_type_subscriber(rt: HostRuntime) -> Result<(), Fail> {
+    let parts = on_table(rt, rt.alloc())?;
+    let first = triggered(&rt, rt.alloc(), &parts, 1)?;
+    let second = triggered(&rt, rt.alloc(), &parts, 1999)?;
+    let both = vec![in rt.alloc(); first, second]?;
+    let left = run_on_second_thread(rt, parts, both, 6)?;
+    assert_eq!(rt; left.len(), 2);
+    for subscriber in &left {
+        assert!(rt; has_values(subscriber, [100, 100, 100]));
+    }
+    Ok(())
+}
+
+#[test]
+fn test_diff_type_subscribers(rt: HostRuntime) -> Result<(), Fail> {
+    let parts = on_table(rt, rt.alloc())?;
+    let three = triggered(&rt, rt.alloc(), &parts, 1)?;
+    let mut one = CounterSubscriber::new(counter_of(&rt, &parts)?);
+    one.trigger_event(&rt);
+    let both = vec![in rt.alloc(); Either::First(three), Either::Second(one)]?;
+    let left = run_on_second_thread(rt, parts, both, 4)?;
+    assert_eq!(rt; left.len(), 2);
+    for subscriber in &left {
+        match subscriber {
+            Either::First(three) => assert!(rt; has_values(three, [100, 100, 100])),
+            Either::Second(one) => assert_eq!(rt; one.counter(), 100),
+        }
+    }
+    Ok(())
+}
+
+#[test]
+fn test_subscriber_inner_mut(rt: HostRuntime) -> Result<(), Fail> {
+    let parts = on_table(rt, rt.alloc())?;
+    let subscriber = CounterInnerMutSubscriber::new(counter_of(&rt, &parts)?);
+    let shared = Arc::new(rt.alloc(), subscriber)?;
+    shared.trigger_event(&rt);
+    let one = vec![in rt.alloc(); shared.clone()?]?;
+    let left = run_on_second_thread(rt, parts, one, 1)?;
+    assert_eq!(rt; left.len(), 1);
+    assert_eq!(rt; shared.counter(), 100);
+    Ok(())
+}
