@@ -8,6 +8,10 @@ use Rattle.event_manager.specs.declared.utilities.subscribers.event_kind.EventKi
 use Rattle.event_manager.specs.declared.utilities.subscribers.event_kind.EventKind.TheVariants.{Input, Error, HangUp, Other}
 use Rattle.event_manager.specs.declared.utilities.subscribers.inner_mut.CounterInnerMutSubscriber.{CounterInnerMutSubscriber}
 use Rattle.vmm_sys.specs.EventFd.{descriptor_of}
+use Rattle.vmm_sys.specs.declared.eventfd.EventFd.{EventFd}
+
+abbrev pub event_fd_of : CounterInnerMutSubscriber → EventFd
+event_fd_of subscriber = subscriber.event_fd
 
 abbrev pub shared_begins : CounterInnerMutSubscriber → Exchanges → Type 0
 shared_begins v exchanges = (answer : Answer) × (exchanges ≡ (Add (record { fd = unsigned_abs (descriptor_of v.event_fd); payload = 0; set = 1 }), answer) ∷ [])

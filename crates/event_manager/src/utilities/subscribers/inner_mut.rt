@@ -28,8 +28,12 @@ pub struct CounterInnerMutSubscriber {
 }
 
 impl CounterInnerMutSubscriber {
+    ghost use Rattle.event_manager.specs.SharedCounterSubscribers.{event_fd_of};
+
     /// A subscriber that has counted nothing.
-    pub fn new(event_fd: EventFd) -> Self {
+    pub fn new(event_fd: EventFd) -> Self
+        ensures { event_fd_of result ≡ event_fd }
+    {
         CounterInnerMutSubscriber {
             event_fd,
             counter: AtomicU64::new(0),
