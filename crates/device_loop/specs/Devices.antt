@@ -1,0 +1,27 @@
+-- A device stays of its kind, and asks for what its kind asks for.
+use Rattle.event_manager.specs.Event.{Event}
+use Rattle.event_manager.specs.Exchange.{Exchanges}
+use Rattle.device_loop.specs.declared.devices.QueueDevice.{QueueDevice}
+use Rattle.device_loop.specs.declared.devices.Console.{Console}
+use Rattle.device_loop.specs.declared.devices.Device.{Device}
+use Rattle.device_loop.specs.declared.devices.Device.TheVariants as device
+use Rattle.device_loop.specs.declared.statistics.Statistics.{Statistics}
+use Rattle.device_loop.specs.declared.statistics.Statistics.TheVariants as statistics
+
+-- what a device has counted
+abbrev pub statistics_of : {R : Type 0} → Device R → Statistics
+statistics_of (device.Queue queue) = statistics.Queue queue.statistics
+statistics_of (device.Console console) = statistics.Console console.statistics
+
+module _ {R : Type 0} where
+  abbrev pub device_begins : (QueueDevice R → Exchanges → QueueDevice R → Type 0) → (Console R → Exchanges → Console R → Type 0) → Device R → Exchanges → Device R → Type 0
+  device_begins queue console (device.Queue v) exchanges (device.Queue w) = queue v exchanges w
+  device_begins queue console (device.Console v) exchanges (device.Console w) = console v exchanges w
+  device_begins queue console (device.Queue v) exchanges (device.Console w) = ⊥
+  device_begins queue console (device.Console v) exchanges (device.Queue w) = ⊥
+
+  abbrev pub device_serves : (QueueDevice R → Event → Exchanges → QueueDevice R → Type 0) → (Console R → Event → Exchanges → Console R → Type 0) → Device R → Event → Exchanges → Device R → Type 0
+  device_serves queue console (device.Queue v) event exchanges (device.Queue w) = queue v event exchanges w
+  device_serves queue console (device.Console v) event exchanges (device.Console w) = console v event exchanges w
+  device_serves queue console (device.Queue v) event exchanges (device.Console w) = ⊥
+  device_serves queue console (device.Console v) event exchanges (device.Queue w) = ⊥

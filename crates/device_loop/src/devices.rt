@@ -1,0 +1,161 @@
+//! The devices of the machine, and what they ask of the loop.
+
+use crate::statistics::{ConsoleStatistics, QueueStatistics, Statistics};
+use event_manager::{EventOps, EventPoller, EventSet, Events, MutEventSubscriber};
+use std::sync::Wait;
+use vmm_sys::eventfd::EventFd;
+use vmm_sys::line::Line;
+
+/// The data of the events of a queue device: which queue was kicked.
+const FIRST_QUEUE: u32 = 0;
+const SECOND_QUEUE: u32 = 1;
+
+/// A device with two queues. The guest kicks a queue by adding to its counter.
+#[derive(Drop)]
+pub struct QueueDevice<R> {
+    first: EventFd,
+    second: EventFd,
+    second_is_watched: bool,
+    statistics: QueueStatistics,
+    rt: R,
+}
+
+impl<R: Wait> QueueDevice<R> {
+    /// A device with these counters, which serves its second queue once its first was kicked.
+    pub fn new(first: EventFd, second: EventFd, rt: R) -> Self {
+        QueueDevice {
+            first,
+            second,
+            second_is_watched: false,
+            statistics: QueueStatistics {
+                first: 0,
+                second: 0,
+            },
+            rt,
+        }
+    }
+}
+
+impl<R: Wait> MutEventSubscriber for QueueDevice<R> {
+    ghost use Rattle.std.specs.Prelude.{◌≡◌, ◌==◌, [], ◌∷◌, is_ok, MatchBool};
+    ghost use Rattle.event_manager.specs.Exchange.{Answer};
+    ghost use Rattle.event_manager.specs.declared.events.Request.TheVariants.{Add};
+    ghost use Rattle.device_loop.specs.Kicks.{kicks};
+
+    // The first queue's counter is added.
+    ghost begins = { λ v exchanges w. (answer : Answer) × (exchanges ≡ (Add (kicks v.first 0), answer) ∷ []) };
+
+    // At a kick of the first queue the second one's counter is added, unless it is watched; else nothing is asked.
+    ghost serves = { λ v event exchanges w. MatchBool (event.payload == 1) (exchanges ≡ []) (MatchBool v.second_is_watched (exchanges ≡ []) ((answer : Answer) × (exchanges ≡ (Add (kicks v.second 1), answer) ∷ []) × (w.second_is_watched ≡ is_ok answer))) };
+
+    fn process<P: EventPoller>(&mut self, events: Events, ops: &mut EventOps<P>) {
+        if events.data() == SECOND_QUEUE {
+            let kicks = self.second.read(&self.rt).unwrap_or(0);
+            self.statistics.second = self.statistics.second.saturating_add(kicks);
+            return;
+        }
+        let kicks = self.first.read(&self.rt).unwrap_or(0);
+        self.statistics.first = self.statistics.first.saturating_add(kicks);
+        if !self.second_is_watched {
+            let second = Events::with_data(&self.second, SECOND_QUEUE, EventSet::IN);
+            self.second_is_watched = ops.add(second).is_ok();
+        }
+    }
+
+    fn init<P: EventPoller>(&mut self, ops: &mut EventOps<P>) {
+        let _ = ops.add(Events::with_data(&self.first, FIRST_QUEUE, EventSet::IN));
+    }
+}
+
+/// A console at one end of a line.
+#[derive(Drop)]
+pub struct Console<R> {
+    line: Line,
+    statistics: ConsoleStatistics,
+    rt: R,
+}
+
+impl<R: Wait> Console<R> {
+    /// A console on this line.
+    pub fn new(line: Line, rt: R) -> Self {
+        Console {
+            line,
+            statistics: ConsoleStatistics {
+                inputs: 0,
+                hung_up: false,
+            },
+            rt,
+        }
+    }
+}
+
+impl<R: Wait> MutEventSubscriber for Console<R> {
+    ghost use Rattle.std.specs.Prelude.{◌≡◌, ◌==◌, [], ◌∷◌, true, MatchBool, bit_and, unsigned_abs};
+    ghost use Rattle.event_manager.specs.Exchange.{Answer};
+    ghost use Rattle.event_manager.specs.declared.events.Request.TheVariants.{Add, Remove};
+    ghost use Rattle.vmm_sys.specs.Line.{descriptor_of};
+
+    // Its line is added, wanted for IN.
+    ghost begins = { λ v exchanges w. (answer : Answer) × (exchanges ≡ (Add (record { fd = unsigned_abs (descriptor_of v.line); payload = 0; set = 0x1 }), answer) ∷ []) };
+
+    // At a hang-up the event's descriptor is removed; else nothing is asked.
+    ghost serves = { λ v event exchanges w. MatchBool (bit_and event.set 0x10 == 0x10) ((answer : Answer) × (exchanges ≡ (Remove event, answer) ∷ []) × (w.statistics.hung_up ≡ true)) (exchanges ≡ []) };
+
+    fn process<P: EventPoller>(&mut self, events: Events, ops: &mut EventOps<P>) {
+        if events.event_set().contains(EventSet::HANG_UP) {
+            self.statistics.hung_up = true;
+            let _ = ops.remove(events);
+        } else {
+            self.statistics.inputs = self.statistics.inputs.saturating_add(1);
+            let _ = self.line.set(EventSet::empty(), &self.rt);
+        }
+    }
+
+    fn init<P: EventPoller>(&mut self, ops: &mut EventOps<P>) {
+        let _ = ops.add(Events::new(&self.line, EventSet::IN));
+    }
+}
+
+/// A device of the machine.
+#[derive(Drop)]
+pub enum Device<R> {
+    Queue(QueueDevice<R>),
+    Console(Console<R>),
+}
+
+impl<R: Wait> Device<R> {
+    ghost use Rattle.std.specs.Prelude.{◌≡◌};
+    ghost use Rattle.device_loop.specs.Devices.{statistics_of};
+
+    /// What the device has counted so far.
+    pub fn statistics(&self) -> Statistics
+        ensures { result ≡ statistics_of self.now }
+    {
+        match self {
+            Device::Queue(queue) => Statistics::Queue(queue.statistics),
+            Device::Console(console) => Statistics::Console(console.statistics),
+        }
+    }
+}
+
+impl<R: Wait> MutEventSubscriber for Device<R> {
+    ghost use Rattle.device_loop.specs.Devices.{device_begins, device_serves};
+
+    ghost begins = { device_begins ⟦<QueueDevice<R> as MutEventSubscriber>⟧.begins ⟦<Console<R> as MutEventSubscriber>⟧.begins };
+
+    ghost serves = { device_serves ⟦<QueueDevice<R> as MutEventSubscriber>⟧.serves ⟦<Console<R> as MutEventSubscriber>⟧.serves };
+
+    fn process<P: EventPoller>(&mut self, events: Events, ops: &mut EventOps<P>) {
+        match self {
+            Device::Queue(queue) => queue.process(events, ops),
+            Device::Console(console) => console.process(events, ops),
+        }
+    }
+
+    fn init<P: EventPoller>(&mut self, ops: &mut EventOps<P>) {
+        match self {
+            Device::Queue(queue) => queue.init(ops),
+            Device::Console(console) => console.init(ops),
+        }
+    }
+}

@@ -1,0 +1,76 @@
+//! What a device counts, and the job that reads it.
+
+use crate::devices::Device;
+use event_manager::{EventPoller, Job, Registry, Result, SubscriberId, SubscriberOps};
+use std::fmt;
+use std::sync::Wait;
+use std::time::Clock;
+
+/// What a queue device counts.
+#[derive(Clone, Copy, PartialEq, Eq, Debug)]
+pub struct QueueStatistics {
+    /// How many kicks of the first queue were served.
+    pub first: u64,
+    /// How many kicks of the second queue were served.
+    pub second: u64,
+}
+
+/// What a console counts.
+#[derive(Clone, Copy, PartialEq, Eq, Debug)]
+pub struct ConsoleStatistics {
+    /// How many inputs were served.
+    pub inputs: u64,
+    /// Whether the other end hung up.
+    pub hung_up: bool,
+}
+
+/// What a device counts.
+#[derive(Clone, Copy, PartialEq, Eq, Debug)]
+pub enum Statistics {
+    Queue(QueueStatistics),
+    Console(ConsoleStatistics),
+}
+
+impl fmt::Display for Statistics {
+    fn fmt<W: fmt::Write>(&self, f: &mut fmt::Formatter<W>) -> fmt::Result {
+        match self {
+            Statistics::Queue(QueueStatistics { first, second }) => {
+                write!(f, "{first} kicks of the first queue, {second} of the second")
+            }
+            Statistics::Console(ConsoleStatistics { inputs, hung_up }) => {
+                let state = if *hung_up { "hung up" } else { "open" };
+                write!(f, "{inputs} inputs, {state}")
+            }
+        }
+    }
+}
+
+/// Replies the statistics of a device. `InvalidId` where no subscriber has the id.
+#[derive(Drop)]
+pub struct ReadStatistics {
+    pub device: SubscriberId,
+}
+
+impl<R: Wait + Drop> Job<Device<R>> for ReadStatistics {
+    type Reply = Result<Statistics>;
+
+    ghost use Rattle.device_loop.specs.declared.devices.Device.{Device};
+    ghost use Rattle.std.specs.Prelude.{◌≡◌, [], ◌∷◌, ◌⊎◌, Ok, Err};
+    ghost use Rattle.event_manager.specs.Registry.{Step, Replaced, NotReplaced};
+    ghost use Rattle.event_manager.specs.declared.error.Error.TheVariants.{InvalidId};
+    ghost use Rattle.device_loop.specs.Devices.{statistics_of};
+
+    // The device stays as it is, and the reply is what it has counted.
+    ghost may = { λ self steps reply. ((device : Device R) × (steps ≡ Replaced self.device device device ∷ []) × (reply ≡ Ok (statistics_of device))) ⊎ ((steps ≡ NotReplaced self.device ∷ []) × (reply ≡ Err InvalidId)) };
+
+    ghost replies = { λ reply. Unit {0} };
+
+    fn call<P: EventPoller, W: Wait + Clock>(
+        self,
+        registry: &mut Registry<Device<R>, P>,
+        _rt: &W,
+    ) -> Result<Statistics> {
+        let device = registry.subscriber_mut(self.device)?;
+        Ok(device.statistics())
+    }
+}
