@@ -3,11 +3,13 @@
 use crate::statistics::{ConsoleStatistics, QueueStatistics, Statistics};
 use event_manager::{EventOps, EventPoller, EventSet, Events, MutEventSubscriber};
 use std::sync::Wait;
+use vmm_sys::errno::Errno;
 use vmm_sys::eventfd::EventFd;
 use vmm_sys::line::Line;
 
 /// The data of the events of a queue device: which queue was kicked.
 const FIRST_QUEUE: u32 = 0;
+
 const SECOND_QUEUE: u32 = 1;
 
 /// A device with two queues. The guest kicks a queue by adding to its counter.
@@ -20,24 +22,26 @@ pub struct QueueDevice<R> {
     rt: R,
 }
 
-impl<R: Wait> QueueDevice<R> {
-    /// A device with these counters, which serves its second queue once its first was kicked.
-    pub fn new(first: EventFd, second: EventFd, rt: R) -> Self {
-        QueueDevice {
-            first,
-            second,
+impl<R: Wait + Drop> QueueDevice<R> {
+    /// A device with handles of its own on these counters, which serves its second queue once its first was kicked.
+    ///
+    /// `ENOMEM`: one more owner of their table was refused.
+    pub fn new(first: &EventFd, second: &EventFd, rt: R) -> Result<Self, Errno> {
+        Ok(QueueDevice {
+            first: first.try_clone()?,
+            second: second.try_clone()?,
             second_is_watched: false,
             statistics: QueueStatistics {
                 first: 0,
                 second: 0,
             },
             rt,
-        }
+        })
     }
 }
 
 impl<R: Wait> MutEventSubscriber for QueueDevice<R> {
-    ghost use Rattle.std.specs.Prelude.{◌≡◌, ◌==◌, [], ◌∷◌, is_ok, MatchBool};
+    ghost use Rattle.std.specs.Prelude.{◌≡◌, ◌==◌, ◌||◌, [], ◌∷◌, is_ok, MatchBool};
     ghost use Rattle.event_manager.specs.Exchange.{Answer};
     ghost use Rattle.event_manager.specs.declared.events.Request.TheVariants.{Add};
     ghost use Rattle.device_loop.specs.Kicks.{kicks};
@@ -46,7 +50,7 @@ impl<R: Wait> MutEventSubscriber for QueueDevice<R> {
     ghost begins = { λ v exchanges w. (answer : Answer) × (exchanges ≡ (Add (kicks v.first 0), answer) ∷ []) };
 
     // At a kick of the first queue the second one's counter is added, unless it is watched; else nothing is asked.
-    ghost serves = { λ v event exchanges w. MatchBool (event.payload == 1) (exchanges ≡ []) (MatchBool v.second_is_watched (exchanges ≡ []) ((answer : Answer) × (exchanges ≡ (Add (kicks v.second 1), answer) ∷ []) × (w.second_is_watched ≡ is_ok answer))) };
+    ghost serves = { λ v event exchanges w. MatchBool (event.payload == 1 || v.second_is_watched) (exchanges ≡ []) ((answer : Answer) × (exchanges ≡ (Add (kicks v.second 1), answer) ∷ []) × (w.second_is_watched ≡ is_ok answer)) };
 
     fn process<P: EventPoller>(&mut self, events: Events, ops: &mut EventOps<P>) {
         if events.data() == SECOND_QUEUE {
@@ -75,17 +79,17 @@ pub struct Console<R> {
     rt: R,
 }
 
-impl<R: Wait> Console<R> {
-    /// A console on this line.
-    pub fn new(line: Line, rt: R) -> Self {
-        Console {
-            line,
+impl<R: Wait + Drop> Console<R> {
+    /// A console with a handle of its own on this line. `ENOMEM`: one more owner of its table was refused.
+    pub fn new(line: &Line, rt: R) -> Result<Self, Errno> {
+        Ok(Console {
+            line: line.try_clone()?,
             statistics: ConsoleStatistics {
                 inputs: 0,
                 hung_up: false,
             },
             rt,
-        }
+        })
     }
 }
 

@@ -35,11 +35,11 @@ impl fmt::Display for Statistics {
     fn fmt<W: fmt::Write>(&self, f: &mut fmt::Formatter<W>) -> fmt::Result {
         match self {
             Statistics::Queue(QueueStatistics { first, second }) => {
-                write!(f, "{first} kicks of the first queue, {second} of the second")
+                write!(f, "first {first}, second {second}")
             }
             Statistics::Console(ConsoleStatistics { inputs, hung_up }) => {
                 let state = if *hung_up { "hung up" } else { "open" };
-                write!(f, "{inputs} inputs, {state}")
+                write!(f, "inputs {inputs}, {state}")
             }
         }
     }

@@ -1,4 +1,4 @@
-use Rattle.std.proofs.Common.{rules, refl, ap, [], ◌∷◌, inl, inr, Ok}
+use Rattle.std.proofs.Common.{rules, refl, [], ◌∷◌, inl, inr}
 use Rattle.event_manager.specs.Registry.{Replaced, NotReplaced}
 use Rattle.event_manager.proofs.OneStep.{replaced_step, not_replaced_step}
 use Rattle.device_loop.proofs.statistics.ReadStatisticsJobDevice.call.Goals as goal
