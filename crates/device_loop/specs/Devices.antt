@@ -10,8 +10,8 @@ use Rattle.device_loop.specs.declared.statistics.Statistics.TheVariants as stati
 
 -- what a device has counted
 abbrev pub statistics_of : {R : Type 0} → Device R → Statistics
-statistics_of (device.Queue queue) = statistics.Queue queue.statistics
-statistics_of (device.Console console) = statistics.Console console.statistics
+statistics_of (device.Queue queue) = statistics.Queue queue.first_kicks queue.second_kicks
+statistics_of (device.Console console) = statistics.Console console.inputs console.hung_up
 
 module _ {R : Type 0} where
   abbrev pub device_begins : (QueueDevice R → Exchanges → QueueDevice R → Type 0) → (Console R → Exchanges → Console R → Type 0) → Device R → Exchanges → Device R → Type 0

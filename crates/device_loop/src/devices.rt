@@ -1,15 +1,16 @@
 //! The devices of the machine, and what they ask of the loop.
 
-use crate::statistics::{ConsoleStatistics, QueueStatistics, Statistics};
+use crate::statistics::Statistics;
 use event_manager::{EventOps, EventPoller, EventSet, Events, MutEventSubscriber};
 use std::sync::Wait;
 use vmm_sys::errno::Errno;
 use vmm_sys::eventfd::EventFd;
 use vmm_sys::line::Line;
 
-/// The data of the events of a queue device: which queue was kicked.
+/// The data of an event of the first queue.
 const FIRST_QUEUE: u32 = 0;
 
+/// The data of an event of the second queue.
 const SECOND_QUEUE: u32 = 1;
 
 /// A device with two queues. The guest kicks a queue by adding to its counter.
@@ -18,7 +19,8 @@ pub struct QueueDevice<R> {
     first: EventFd,
     second: EventFd,
     second_is_watched: bool,
-    statistics: QueueStatistics,
+    first_kicks: u64,
+    second_kicks: u64,
     rt: R,
 }
 
@@ -31,10 +33,8 @@ impl<R: Wait + Drop> QueueDevice<R> {
             first: first.try_clone()?,
             second: second.try_clone()?,
             second_is_watched: false,
-            statistics: QueueStatistics {
-                first: 0,
-                second: 0,
-            },
+            first_kicks: 0,
+            second_kicks: 0,
             rt,
         })
     }
@@ -55,11 +55,11 @@ impl<R: Wait> MutEventSubscriber for QueueDevice<R> {
     fn process<P: EventPoller>(&mut self, events: Events, ops: &mut EventOps<P>) {
         if events.data() == SECOND_QUEUE {
             let kicks = self.second.read(&self.rt).unwrap_or(0);
-            self.statistics.second = self.statistics.second.saturating_add(kicks);
+            self.second_kicks = self.second_kicks.saturating_add(kicks);
             return;
         }
         let kicks = self.first.read(&self.rt).unwrap_or(0);
-        self.statistics.first = self.statistics.first.saturating_add(kicks);
+        self.first_kicks = self.first_kicks.saturating_add(kicks);
         if !self.second_is_watched {
             let second = Events::with_data(&self.second, SECOND_QUEUE, EventSet::IN);
             self.second_is_watched = ops.add(second).is_ok();
@@ -75,7 +75,8 @@ impl<R: Wait> MutEventSubscriber for QueueDevice<R> {
 #[derive(Drop)]
 pub struct Console<R> {
     line: Line,
-    statistics: ConsoleStatistics,
+    inputs: u64,
+    hung_up: bool,
     rt: R,
 }
 
@@ -84,10 +85,8 @@ impl<R: Wait + Drop> Console<R> {
     pub fn new(line: &Line, rt: R) -> Result<Self, Errno> {
         Ok(Console {
             line: line.try_clone()?,
-            statistics: ConsoleStatistics {
-                inputs: 0,
-                hung_up: false,
-            },
+            inputs: 0,
+            hung_up: false,
             rt,
         })
     }
@@ -103,14 +102,14 @@ impl<R: Wait> MutEventSubscriber for Console<R> {
     ghost begins = { λ v exchanges w. (answer : Answer) × (exchanges ≡ (Add (record { fd = unsigned_abs (descriptor_of v.line); payload = 0; set = 0x1 }), answer) ∷ []) };
 
     // At a hang-up the event's descriptor is removed; else nothing is asked.
-    ghost serves = { λ v event exchanges w. MatchBool (bit_and event.set 0x10 == 0x10) ((answer : Answer) × (exchanges ≡ (Remove event, answer) ∷ []) × (w.statistics.hung_up ≡ true)) (exchanges ≡ []) };
+    ghost serves = { λ v event exchanges w. MatchBool (bit_and event.set 0x10 == 0x10) ((answer : Answer) × (exchanges ≡ (Remove event, answer) ∷ []) × (w.hung_up ≡ true)) (exchanges ≡ []) };
 
     fn process<P: EventPoller>(&mut self, events: Events, ops: &mut EventOps<P>) {
         if events.event_set().contains(EventSet::HANG_UP) {
-            self.statistics.hung_up = true;
+            self.hung_up = true;
             let _ = ops.remove(events);
         } else {
-            self.statistics.inputs = self.statistics.inputs.saturating_add(1);
+            self.inputs = self.inputs.saturating_add(1);
             let _ = self.line.set(EventSet::empty(), &self.rt);
         }
     }
@@ -123,11 +122,13 @@ impl<R: Wait> MutEventSubscriber for Console<R> {
 /// A device of the machine.
 #[derive(Drop)]
 pub enum Device<R> {
+    /// The queue device.
     Queue(QueueDevice<R>),
+    /// The console.
     Console(Console<R>),
 }
 
-impl<R: Wait> Device<R> {
+impl<R> Device<R> {
     ghost use Rattle.std.specs.Prelude.{◌≡◌};
     ghost use Rattle.device_loop.specs.Devices.{statistics_of};
 
@@ -136,8 +137,14 @@ impl<R: Wait> Device<R> {
         ensures { result ≡ statistics_of self.now }
     {
         match self {
-            Device::Queue(queue) => Statistics::Queue(queue.statistics),
-            Device::Console(console) => Statistics::Console(console.statistics),
+            Device::Queue(queue) => Statistics::Queue {
+                first: queue.first_kicks,
+                second: queue.second_kicks,
+            },
+            Device::Console(console) => Statistics::Console {
+                inputs: console.inputs,
+                hung_up: console.hung_up,
+            },
         }
     }
 }

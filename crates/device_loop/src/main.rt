@@ -37,15 +37,16 @@ impl<R: Threads + Wait + Clock + Print + Copy + Send + Sync + Drop> Host for R {
 /// The loop: its subscribers, its jobs, the ledgers of its tickets and taken jobs, and its poller.
 type DeviceLoop<L, T, R> = EventManager<Device<R>, ReadStatistics, L, T, PlainPoller<Epoll<R>>>;
 
-/// The parts of the ledger of tickets, as each manager wants them.
-const TICKETS: u64 = 9223372036854775808;
+/// How many parts the ledger of a manager's tickets has.
+const TICKET_PARTS: u64 = 9223372036854775808;
 
-/// How often the loop waits at most, and for how many milliseconds each time.
+/// How often the loop waits at most.
 const MAX_WAITS: u32 = 10_000;
 
+/// For how many milliseconds the loop waits at most each time.
 const MAX_WAIT: i32 = 100;
 
-/// Runs the loop until the flag is set. An error of the loop is passed on.
+/// Runs the loop until the flag is set, or it has waited `MAX_WAITS` times. An error of the loop is passed on.
 fn run_until<L: Ledger, T: Ledger, R: Wait + Clock + Clone + Send + Drop>(
     rt: &R,
     manager: &mut DeviceLoop<L, T, R>,
@@ -60,7 +61,7 @@ fn run_until<L: Ledger, T: Ledger, R: Wait + Clock + Clone + Send + Drop>(
     Ok(())
 }
 
-/// Runs the loop beside the guest's thread, and prints what the guest observed.
+/// Runs the loop beside the guest's thread, and then prints how many jobs were issued and taken.
 ///
 /// Whatever ends the loop, it is closed, so that the guest waits for no reply any more.
 fn run_beside<L: Ledger + Send + Sync, T: Ledger + Send + Sync, R: Host>(
@@ -70,26 +71,23 @@ fn run_beside<L: Ledger + Send + Sync, T: Ledger + Send + Sync, R: Host>(
 ) -> Result<(), Fault> {
     let endpoint = manager.remote_endpoint()?;
     let stopped = AtomicBool::new(false);
-    let (observed, (ran, closed)) = thread::join(
+    let (guest_ran, (loop_ran, closed)) = thread::join(
         rt,
         || {
-            let observed = guest.run(&endpoint, rt);
+            let ran = guest.run(&endpoint, rt);
             stopped.store(true, Ordering::SeqCst);
             let _ = endpoint.kick(rt);
-            observed
+            ran
         },
         || {
             let ran = run_until(rt, &mut manager, &stopped);
             (ran, manager.close(rt))
         },
     );
-    ran?;
-    print!(rt; "{}", observed?)?;
-    println!(rt;
-        "jobs: {} issued, {} taken",
-        closed.issued(),
-        closed.taken()
-    )?;
+    loop_ran?;
+    guest_ran?;
+    let (issued, taken) = (closed.issued(), closed.taken());
+    println!(rt; "jobs: {issued} issued, {taken} taken")?;
     Ok(())
 }
 
@@ -125,7 +123,7 @@ fn run_machine<L: Ledger + Send + Sync, T: Ledger + Send + Sync, R: Host>(
 }
 
 fn main(rt: HostRuntime) -> ExitCode {
-    let (tickets, taken) = (Blank::new(TICKETS), Blank::new(1));
+    let (tickets, taken) = (Blank::new(TICKET_PARTS), Blank::new(1));
     match run_machine::<Brand, Brand, HostRuntime>(&rt, rt.alloc(), tickets, taken) {
         Ok(()) => ExitCode::SUCCESS,
         Err(fault) => {

@@ -6,38 +6,20 @@ use std::fmt;
 use std::sync::Wait;
 use std::time::Clock;
 
-/// What a queue device counts.
-#[derive(Clone, Copy, PartialEq, Eq, Debug)]
-pub struct QueueStatistics {
-    /// How many kicks of the first queue were served.
-    pub first: u64,
-    /// How many kicks of the second queue were served.
-    pub second: u64,
-}
-
-/// What a console counts.
-#[derive(Clone, Copy, PartialEq, Eq, Debug)]
-pub struct ConsoleStatistics {
-    /// How many inputs were served.
-    pub inputs: u64,
-    /// Whether the other end hung up.
-    pub hung_up: bool,
-}
-
-/// What a device counts.
+/// What a device has counted.
 #[derive(Clone, Copy, PartialEq, Eq, Debug)]
 pub enum Statistics {
-    Queue(QueueStatistics),
-    Console(ConsoleStatistics),
+    /// The kicks of either queue that were served.
+    Queue { first: u64, second: u64 },
+    /// The inputs that were served, and whether the other end hung up.
+    Console { inputs: u64, hung_up: bool },
 }
 
 impl fmt::Display for Statistics {
     fn fmt<W: fmt::Write>(&self, f: &mut fmt::Formatter<W>) -> fmt::Result {
         match self {
-            Statistics::Queue(QueueStatistics { first, second }) => {
-                write!(f, "first {first}, second {second}")
-            }
-            Statistics::Console(ConsoleStatistics { inputs, hung_up }) => {
+            Statistics::Queue { first, second } => write!(f, "first {first}, second {second}"),
+            Statistics::Console { inputs, hung_up } => {
                 let state = if *hung_up { "hung up" } else { "open" };
                 write!(f, "inputs {inputs}, {state}")
             }
@@ -45,7 +27,7 @@ impl fmt::Display for Statistics {
     }
 }
 
-/// Replies the statistics of a device. `InvalidId` where no subscriber has the id.
+/// Replies the statistics of the device of the id, which stays as it is. `InvalidId` where there is none.
 #[derive(Drop)]
 pub struct ReadStatistics {
     pub device: SubscriberId,
@@ -54,14 +36,15 @@ pub struct ReadStatistics {
 impl<R: Wait + Drop> Job<Device<R>> for ReadStatistics {
     type Reply = Result<Statistics>;
 
-    ghost use Rattle.device_loop.specs.declared.devices.Device.{Device};
     ghost use Rattle.std.specs.Prelude.{◌≡◌, [], ◌∷◌, ◌⊎◌, Ok, Err};
     ghost use Rattle.event_manager.specs.Registry.{Step, Replaced, NotReplaced};
     ghost use Rattle.event_manager.specs.declared.error.Error.TheVariants.{InvalidId};
+    ghost use Rattle.device_loop.specs.declared.devices.Device.{Device};
     ghost use Rattle.device_loop.specs.Devices.{statistics_of};
 
-    // The device stays as it is, and the reply is what it has counted.
-    ghost may = { λ self steps reply. ((device : Device R) × (steps ≡ Replaced self.device device device ∷ []) × (reply ≡ Ok (statistics_of device))) ⊎ ((steps ≡ NotReplaced self.device ∷ []) × (reply ≡ Err InvalidId)) };
+    // The device that is lent is put back unchanged, and the reply is what it has counted; or there is none.
+    ghost may = { λ self steps reply. ((device : Device R) × (steps ≡ Replaced self.device device device ∷ []) × (reply ≡ Ok (statistics_of device)))
+        ⊎ ((steps ≡ NotReplaced self.device ∷ []) × (reply ≡ Err InvalidId)) };
 
     ghost replies = { λ reply. Unit {0} };
 
