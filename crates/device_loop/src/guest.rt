@@ -39,10 +39,7 @@ impl Guest {
         self.first.write(1, rt)?;
         println!(rt; "kick of the first queue: {}", statistics(self.queue)?)?;
         self.second.write(2, rt)?;
-        println!(rt;
-            "two kicks of the second queue: {}",
-            statistics(self.queue)?
-        )?;
+        println!(rt; "kicks of the second queue: {}", statistics(self.queue)?)?;
         self.line.set(EventSet::IN, rt)?;
         println!(rt; "input: {}", statistics(self.console)?)?;
         self.line.set(EventSet::HANG_UP, rt)?;

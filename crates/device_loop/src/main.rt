@@ -41,7 +41,7 @@ type DeviceLoop<L, T, R> = EventManager<Device<R>, ReadStatistics, L, T, PlainPo
 const TICKET_PARTS: u64 = 9223372036854775808;
 
 /// How often the loop waits at most.
-const MAX_WAITS: u32 = 10_000;
+const MAX_WAITS: u32 = 600;
 
 /// For how many milliseconds the loop waits at most each time.
 const MAX_WAIT: i32 = 100;
@@ -63,7 +63,8 @@ fn run_until<L: Ledger, T: Ledger, R: Wait + Clock + Clone + Send + Drop>(
 
 /// Runs the loop beside the guest's thread, and then prints how many jobs were issued and taken.
 ///
-/// Whatever ends the loop, it is closed, so that the guest waits for no reply any more.
+/// Whatever ends the loop, it is closed, so that the guest waits for no reply any more. Where no thread can be made, the
+/// loop runs to its last wait, and then the guest, whose first job is refused.
 fn run_beside<L: Ledger + Send + Sync, T: Ledger + Send + Sync, R: Host>(
     rt: &R,
     mut manager: DeviceLoop<L, T, R>,
