@@ -1,7 +1,7 @@
 //! The devices of the machine, and what they ask of the loop.
 
 use crate::statistics::Statistics;
-use event_manager::{EventOps, EventPoller, EventSet, Events, MutEventSubscriber};
+use event_manager::{EventOps, EventPoller, EventSet, Events, MutEventSubscriber, Result};
 use std::sync::Wait;
 use vmm_sys::errno::Errno;
 use vmm_sys::eventfd::EventFd;
@@ -21,6 +21,8 @@ pub struct QueueDevice<R> {
     second_is_watched: bool,
     first_kicks: u64,
     second_kicks: u64,
+    // What its last request was answered.
+    answer: Result<()>,
     rt: R,
 }
 
@@ -28,13 +30,14 @@ impl<R: Wait + Drop> QueueDevice<R> {
     /// A device with handles of its own on these counters, which serves its second queue once its first was kicked.
     ///
     /// `ENOMEM`: one more owner of their table was refused.
-    pub fn new(first: &EventFd, second: &EventFd, rt: R) -> Result<Self, Errno> {
+    pub fn new(first: &EventFd, second: &EventFd, rt: R) -> std::result::Result<Self, Errno> {
         Ok(QueueDevice {
             first: first.try_clone()?,
             second: second.try_clone()?,
             second_is_watched: false,
             first_kicks: 0,
             second_kicks: 0,
+            answer: Ok(()),
             rt,
         })
     }
@@ -42,15 +45,14 @@ impl<R: Wait + Drop> QueueDevice<R> {
 
 impl<R: Wait> MutEventSubscriber for QueueDevice<R> {
     ghost use Rattle.std.specs.Prelude.{◌≡◌, ◌==◌, ◌||◌, [], ◌∷◌, is_ok, MatchBool};
-    ghost use Rattle.event_manager.specs.Exchange.{Answer};
     ghost use Rattle.event_manager.specs.declared.events.Request.TheVariants.{Add};
     ghost use Rattle.device_loop.specs.Kicks.{kicks};
 
-    // The first queue's counter is added.
-    ghost begins = { λ v exchanges w. (answer : Answer) × (exchanges ≡ (Add (kicks v.first 0), answer) ∷ []) };
+    // The first queue's counter is added, and the answer is kept.
+    ghost begins = { λ v exchanges w. exchanges ≡ (Add (kicks v.first 0), w.answer) ∷ [] };
 
     // At a kick of the first queue the second one's counter is added, unless it is watched; else nothing is asked.
-    ghost serves = { λ v event exchanges w. MatchBool (event.payload == 1 || v.second_is_watched) (exchanges ≡ []) ((answer : Answer) × (exchanges ≡ (Add (kicks v.second 1), answer) ∷ []) × (w.second_is_watched ≡ is_ok answer)) };
+    ghost serves = { λ v event exchanges w. MatchBool (event.payload == 1 || v.second_is_watched) (exchanges ≡ []) ((exchanges ≡ (Add (kicks v.second 1), w.answer) ∷ []) × (w.second_is_watched ≡ is_ok w.answer)) };
 
     fn process<P: EventPoller>(&mut self, events: Events, ops: &mut EventOps<P>) {
         if events.data() == SECOND_QUEUE {
@@ -62,12 +64,13 @@ impl<R: Wait> MutEventSubscriber for QueueDevice<R> {
         self.first_kicks = self.first_kicks.saturating_add(kicks);
         if !self.second_is_watched {
             let second = Events::with_data(&self.second, SECOND_QUEUE, EventSet::IN);
-            self.second_is_watched = ops.add(second).is_ok();
+            self.answer = ops.add(second);
+            self.second_is_watched = self.answer.is_ok();
         }
     }
 
     fn init<P: EventPoller>(&mut self, ops: &mut EventOps<P>) {
-        let _ = ops.add(Events::with_data(&self.first, FIRST_QUEUE, EventSet::IN));
+        self.answer = ops.add(Events::with_data(&self.first, FIRST_QUEUE, EventSet::IN));
     }
 }
 
@@ -77,16 +80,19 @@ pub struct Console<R> {
     line: Line,
     inputs: u64,
     hung_up: bool,
+    // What its last request was answered.
+    answer: Result<()>,
     rt: R,
 }
 
 impl<R: Wait + Drop> Console<R> {
     /// A console with a handle of its own on this line. `ENOMEM`: one more owner of its table was refused.
-    pub fn new(line: &Line, rt: R) -> Result<Self, Errno> {
+    pub fn new(line: &Line, rt: R) -> std::result::Result<Self, Errno> {
         Ok(Console {
             line: line.try_clone()?,
             inputs: 0,
             hung_up: false,
+            answer: Ok(()),
             rt,
         })
     }
@@ -94,20 +100,19 @@ impl<R: Wait + Drop> Console<R> {
 
 impl<R: Wait> MutEventSubscriber for Console<R> {
     ghost use Rattle.std.specs.Prelude.{◌≡◌, ◌==◌, [], ◌∷◌, true, MatchBool, bit_and, unsigned_abs};
-    ghost use Rattle.event_manager.specs.Exchange.{Answer};
     ghost use Rattle.event_manager.specs.declared.events.Request.TheVariants.{Add, Remove};
     ghost use Rattle.vmm_sys.specs.Line.{descriptor_of};
 
-    // Its line is added, wanted for IN.
-    ghost begins = { λ v exchanges w. (answer : Answer) × (exchanges ≡ (Add (record { fd = unsigned_abs (descriptor_of v.line); payload = 0; set = 0x1 }), answer) ∷ []) };
+    // Its line is added, wanted for IN, and the answer is kept.
+    ghost begins = { λ v exchanges w. exchanges ≡ (Add (record { fd = unsigned_abs (descriptor_of v.line); payload = 0; set = 0x1 }), w.answer) ∷ [] };
 
     // At a hang-up the event's descriptor is removed; else nothing is asked.
-    ghost serves = { λ v event exchanges w. MatchBool (bit_and event.set 0x10 == 0x10) ((answer : Answer) × (exchanges ≡ (Remove event, answer) ∷ []) × (w.hung_up ≡ true)) (exchanges ≡ []) };
+    ghost serves = { λ v event exchanges w. MatchBool (bit_and event.set 0x10 == 0x10) ((exchanges ≡ (Remove event, w.answer) ∷ []) × (w.hung_up ≡ true)) (exchanges ≡ []) };
 
     fn process<P: EventPoller>(&mut self, events: Events, ops: &mut EventOps<P>) {
         if events.event_set().contains(EventSet::HANG_UP) {
             self.hung_up = true;
-            let _ = ops.remove(events);
+            self.answer = ops.remove(events);
         } else {
             self.inputs = self.inputs.saturating_add(1);
             let _ = self.line.set(EventSet::empty(), &self.rt);
@@ -115,7 +120,7 @@ impl<R: Wait> MutEventSubscriber for Console<R> {
     }
 
     fn init<P: EventPoller>(&mut self, ops: &mut EventOps<P>) {
-        let _ = ops.add(Events::new(&self.line, EventSet::IN));
+        self.answer = ops.add(Events::new(&self.line, EventSet::IN));
     }
 }
 
@@ -132,19 +137,25 @@ impl<R> Device<R> {
     ghost use Rattle.std.specs.Prelude.{◌≡◌};
     ghost use Rattle.device_loop.specs.Devices.{statistics_of};
 
-    /// What the device has counted so far.
-    pub fn statistics(&self) -> Statistics
+    /// What the device has counted so far; or the refusal, where its last request was refused.
+    pub fn statistics(&self) -> Result<Statistics>
         ensures { result ≡ statistics_of self.now }
     {
         match self {
-            Device::Queue(queue) => Statistics::Queue {
-                first: queue.first_kicks,
-                second: queue.second_kicks,
-            },
-            Device::Console(console) => Statistics::Console {
-                inputs: console.inputs,
-                hung_up: console.hung_up,
-            },
+            Device::Queue(queue) => {
+                queue.answer?;
+                Ok(Statistics::Queue {
+                    first: queue.first_kicks,
+                    second: queue.second_kicks,
+                })
+            }
+            Device::Console(console) => {
+                console.answer?;
+                Ok(Statistics::Console {
+                    inputs: console.inputs,
+                    hung_up: console.hung_up,
+                })
+            }
         }
     }
 }

@@ -27,7 +27,8 @@ impl fmt::Display for Statistics {
     }
 }
 
-/// Replies the statistics of the device of the id, which stays as it is. `InvalidId` where there is none.
+/// Replies the statistics of the device of the id, which stays as it is; or the refusal of its last request. `InvalidId`
+/// where there is none.
 #[derive(Drop)]
 pub struct ReadStatistics {
     pub device: SubscriberId,
@@ -36,14 +37,14 @@ pub struct ReadStatistics {
 impl<R: Wait + Drop> Job<Device<R>> for ReadStatistics {
     type Reply = Result<Statistics>;
 
-    ghost use Rattle.std.specs.Prelude.{◌≡◌, [], ◌∷◌, ◌⊎◌, Ok, Err};
+    ghost use Rattle.std.specs.Prelude.{◌≡◌, [], ◌∷◌, ◌⊎◌, Err};
     ghost use Rattle.event_manager.specs.Registry.{Step, Replaced, NotReplaced};
     ghost use Rattle.event_manager.specs.declared.error.Error.TheVariants.{InvalidId};
     ghost use Rattle.device_loop.specs.declared.devices.Device.{Device};
     ghost use Rattle.device_loop.specs.Devices.{statistics_of};
 
-    // The device that is lent is put back unchanged, and the reply is what it has counted; or there is none.
-    ghost may = { λ self steps reply. ((device : Device R) × (steps ≡ Replaced self.device device device ∷ []) × (reply ≡ Ok (statistics_of device)))
+    // The device that is lent is put back unchanged, and the reply is what it says; or there is none.
+    ghost may = { λ self steps reply. ((device : Device R) × (steps ≡ Replaced self.device device device ∷ []) × (reply ≡ statistics_of device))
         ⊎ ((steps ≡ NotReplaced self.device ∷ []) × (reply ≡ Err InvalidId)) };
 
     ghost replies = { λ reply. Unit {0} };
@@ -54,6 +55,6 @@ impl<R: Wait + Drop> Job<Device<R>> for ReadStatistics {
         _rt: &W,
     ) -> Result<Statistics> {
         let device = registry.subscriber_mut(self.device)?;
-        Ok(device.statistics())
+        device.statistics()
     }
 }
