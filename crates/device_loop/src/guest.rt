@@ -1,0 +1,51 @@
+//! The guest: the thread of its virtual processor, and whoever is at the other end of its console's line.
+
+use crate::devices::Device;
+use crate::fault::Fault;
+use crate::statistics::ReadStatistics;
+use event_manager::{EventSet, RemoteEndpoint, SubscriberId};
+use std::sync::Wait;
+use std::sync::ledger::Ledger;
+use std::time::Clock;
+use vmm_sys::eventfd::EventFd;
+use vmm_sys::line::Line;
+
+/// What the guest has in its hands.
+#[derive(Drop)]
+pub struct Guest {
+    /// The counter of the first queue.
+    pub first: EventFd,
+    /// The counter of the second queue.
+    pub second: EventFd,
+    /// The other end of the console's line.
+    pub line: Line,
+    /// The id of the queue device.
+    pub queue: SubscriberId,
+    /// The id of the console.
+    pub console: SubscriberId,
+}
+
+impl Guest {
+    /// Does one thing after another to the devices, and prints after each what the device has counted.
+    ///
+    /// No contract says that the reply counts what was done before. It does, since the job's event is reported with the
+    /// device's or after it, and the jobs of a report are run once all of it is handed out.
+    pub fn run<L: Ledger, T: Ledger, R: Wait + Clock + Print + Drop>(
+        &self,
+        endpoint: &RemoteEndpoint<Device<R>, ReadStatistics, L, T>,
+        rt: &R,
+    ) -> Result<(), Fault> {
+        let statistics = |device| endpoint.call_blocking(ReadStatistics { device }, rt)?;
+        self.first.write(1, rt)?;
+        println!(rt; "kick of the first queue: {}", statistics(self.queue)?)?;
+        self.second.write(2, rt)?;
+        println!(rt; "kicks of the second queue: {}", statistics(self.queue)?)?;
+        self.line.set(EventSet::IN, rt)?;
+        println!(rt; "input: {}", statistics(self.console)?)?;
+        self.line.set(EventSet::HANG_UP, rt)?;
+        println!(rt; "hang-up: {}", statistics(self.console)?)?;
+        self.line.set(EventSet::IN, rt)?;
+        println!(rt; "late input: {}", statistics(self.console)?)?;
+        Ok(())
+    }
+}
