@@ -7,9 +7,11 @@ use std::sync::Wait;
 /// Greets each name of its mailbox, and hands it on.
 #[derive(Drop)]
 pub struct Greeter<R> {
+    /// Whose names it greets.
     pub mailbox: Mailbox,
     /// Where each name goes then; one that is refused there is lost.
     pub tally: Mailbox,
+    /// By which it prints, and waits for the locks of mailboxes.
     pub rt: R,
 }
 
@@ -40,9 +42,11 @@ impl<R: Wait + Print + AllocGlobal + Drop> StepSubscriber for Greeter<R> {
 /// Counts the names of its mailbox.
 #[derive(Drop)]
 pub struct Tally<R> {
+    /// Whose names it counts.
     pub mailbox: Mailbox,
     /// How many there were so far.
     pub count: usize,
+    /// By which it prints, and waits for the lock of its mailbox.
     pub rt: R,
 }
 

@@ -64,7 +64,9 @@ impl Mailbox {
 /// The job that puts a name into a mailbox.
 #[derive(Drop)]
 pub struct Deliver {
+    /// Where the name goes.
     pub to: Mailbox,
+    /// The name.
     pub name: String,
 }
 

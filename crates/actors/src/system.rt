@@ -14,7 +14,7 @@ const MOST_WAITS: usize = 100;
 
 /// Actors of type `S`, their manager, and an endpoint of it.
 ///
-/// It is generic over the actors' type: over boxes by their own type its methods would hide calls through a table.
+/// It is generic over the actors' type, since a struct that names `BoxedSubscriber` there can't be stated.
 #[derive(Drop)]
 pub struct ActorSystem<S: MutEventSubscriber, L: Ledger, T: Ledger, P> {
     manager: EventManager<S, Deliver, L, T, P>,
@@ -62,7 +62,7 @@ impl<S: MutEventSubscriber + Drop, L: Ledger, T: Ledger, P: EventPoller> ActorSy
         Ok(())
     }
 
-    /// Runs until nothing is ready, and answers how many events there were. It ends after 100 waits in any case.
+    /// Runs until a wait reports nothing, or after 100 waits; answers how many events there were, the endpoint's included.
     ///
     /// `Epoll` with the number with which a wait is refused.
     pub fn run<R: Wait + Clock>(&mut self, rt: &R) -> Result<usize> {
