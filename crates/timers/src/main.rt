@@ -1,0 +1,118 @@
+//! The program `timers`: a wheel of timers on an event manager, driven tick by tick until a job stops it. A line is
+//! printed for each timer that goes off. Time is a counter, so each run prints the same; arguments and input are ignored.
+#![tactic(auto)]
+
+pub mod stop;
+pub mod wheel;
+
+use event_manager::{
+    Error, EventManager, PlainPoller, Result, SubscriberOps, WithLedgers, with_ledgers,
+};
+use std::process::ExitCode;
+use std::sync::Wait;
+use std::sync::ledger::{Blank, Ledger};
+use std::time::Clock;
+use stop::Stop;
+use vmm_sys::epoll::Epoll;
+use vmm_sys::eventfd::EventFd;
+use wheel::{Schedule, Timer, Wheel};
+
+/// The timers, by their numbers from 0.
+const TIMERS: [(&str, Schedule); 4] = [
+    ("heartbeat", Schedule::Every(2)),
+    ("timeout", Schedule::Once(3)),
+    ("report", Schedule::Every(5)),
+    ("reminder", Schedule::Once(4)),
+];
+
+/// The tick at which the program asks its wheel to stop.
+const STOP_AT: u64 = 8;
+
+/// How many ticks a wheel runs at most.
+const MOST_TICKS: u64 = 100;
+
+/// A wheel that is ready to run: all that it needs but the manager, which is made over ledgers.
+struct Program<'a, R> {
+    rt: &'a R,
+    epoll: Epoll<R>,
+    endpoint: EventFd,
+    wheel: Wheel<R>,
+}
+
+impl<R: Wait + Clock + Print + AllocGlobal + Clone + Send + Drop> WithLedgers for Program<'_, R> {
+    type Output = Result<u64>;
+
+    /// Arms the timers, and runs the wheel until it is stopped. Answers how many ticks it ran.
+    fn run<L: Ledger + Send + Sync, T: Ledger + Send + Sync>(
+        self,
+        tickets: Blank,
+        taken: Blank,
+    ) -> Result<u64> {
+        let Program {
+            rt,
+            epoll,
+            endpoint,
+            wheel,
+        } = self;
+        let poller = PlainPoller(epoll);
+        let mut manager = EventManager::<Wheel<R>, Stop, L, T, _>::new(
+            rt.alloc(),
+            poller,
+            endpoint,
+            tickets,
+            taken,
+        )?;
+        let endpoint = manager.remote_endpoint()?;
+        let interests = wheel.interests(rt.alloc())?;
+        let wheel = manager.add_subscriber(wheel)?;
+        for events in interests {
+            manager.event_ops(wheel)?.add(events)?;
+        }
+        for tick in 1..=MOST_TICKS {
+            manager.subscriber_mut(wheel)?.advance(tick)?;
+            if tick == STOP_AT {
+                let _ticket = endpoint.fire(Stop(wheel), rt)?;
+            }
+            manager.run_with_timeout(0, rt)?;
+            if manager.subscriber_mut(wheel)?.is_stopped() {
+                return Ok(tick);
+            }
+        }
+        Ok(MOST_TICKS)
+    }
+}
+
+/// Makes the wheel, and runs it. Answers how many ticks it ran.
+fn run<R: Wait + Clock + Print + AllocGlobal + Copy + Send + Drop>(rt: &R) -> Result<u64> {
+    let epoll = Epoll::new(*rt, rt.alloc()).map_err(Error::Epoll)?;
+    let endpoint = EventFd::new(&epoll, 0, rt).map_err(Error::EventFd)?;
+    let mut timers = Vec::new(rt.alloc());
+    for (name, schedule) in TIMERS {
+        let counter = EventFd::new(&epoll, 0, rt).map_err(Error::EventFd)?;
+        timers.push(Timer {
+            name,
+            schedule,
+            counter,
+        })?;
+    }
+    let wheel = Wheel::new(timers, *rt);
+    with_ledgers(Program {
+        rt,
+        epoll,
+        endpoint,
+        wheel,
+    })
+}
+
+fn main(rt: HostRuntime) -> ExitCode {
+    match run(&rt) {
+        Ok(ticks) => match println!(rt; "ran for {ticks} ticks") {
+            Ok(()) => ExitCode::SUCCESS,
+            Err(_) => ExitCode::FAILURE,
+        },
+        Err(error) => {
+            let _ = eprintln!(rt; "timers: {error}");
+            ExitCode::FAILURE
+        }
+    }
+}
