@@ -48,10 +48,10 @@ impl<R: Wait> MutEventSubscriber for QueueDevice<R> {
     ghost use Rattle.event_manager.specs.declared.events.Request.TheVariants.{Add};
     ghost use Rattle.device_loop.specs.Kicks.{kicks};
 
-    // The first queue's counter is added, and the answer is kept.
+    // It asks to add the first queue's counter, and keeps the answer.
     ghost begins = { λ v exchanges w. exchanges ≡ (Add (kicks v.first 0), w.answer) ∷ [] };
 
-    // At a kick of the first queue the second one's counter is added, unless it is watched; else nothing is asked.
+    // At a kick of the first queue it asks to add the second one's counter, unless that is watched; else for nothing.
     ghost serves = { λ v event exchanges w. MatchBool (event.payload == 1 || v.second_is_watched) (exchanges ≡ []) ((exchanges ≡ (Add (kicks v.second 1), w.answer) ∷ []) × (w.second_is_watched ≡ is_ok w.answer)) };
 
     fn process<P: EventPoller>(&mut self, events: Events, ops: &mut EventOps<P>) {
@@ -103,10 +103,10 @@ impl<R: Wait> MutEventSubscriber for Console<R> {
     ghost use Rattle.event_manager.specs.declared.events.Request.TheVariants.{Add, Remove};
     ghost use Rattle.vmm_sys.specs.Line.{descriptor_of};
 
-    // Its line is added, wanted for IN, and the answer is kept.
+    // It asks to add its line, wanted for IN, and keeps the answer.
     ghost begins = { λ v exchanges w. exchanges ≡ (Add (record { fd = unsigned_abs (descriptor_of v.line); payload = 0; set = 0x1 }), w.answer) ∷ [] };
 
-    // At a hang-up the event's descriptor is removed; else nothing is asked.
+    // At a hang-up it asks to remove the event's descriptor, and notes the hang-up; else it asks for nothing.
     ghost serves = { λ v event exchanges w. MatchBool (bit_and event.set 0x10 == 0x10) ((exchanges ≡ (Remove event, w.answer) ∷ []) × (w.hung_up ≡ true)) (exchanges ≡ []) };
 
     fn process<P: EventPoller>(&mut self, events: Events, ops: &mut EventOps<P>) {

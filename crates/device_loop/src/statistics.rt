@@ -31,6 +31,7 @@ impl fmt::Display for Statistics {
 /// where there is none.
 #[derive(Drop)]
 pub struct ReadStatistics {
+    /// The id of the device.
     pub device: SubscriberId,
 }
 
@@ -43,7 +44,7 @@ impl<R: Wait + Drop> Job<Device<R>> for ReadStatistics {
     ghost use Rattle.device_loop.specs.declared.devices.Device.{Device};
     ghost use Rattle.device_loop.specs.Devices.{statistics_of};
 
-    // The device that is lent is put back unchanged, and the reply is what it says; or there is none.
+    // The device is left as it was, and the reply is what it says; or no device has the id.
     ghost may = { λ self steps reply. ((device : Device R) × (steps ≡ Replaced self.device device device ∷ []) × (reply ≡ statistics_of device))
         ⊎ ((steps ≡ NotReplaced self.device ∷ []) × (reply ≡ Err InvalidId)) };
 
