@@ -41,7 +41,8 @@ impl<S: MutEventSubscriber + Drop, L: Ledger, T: Ledger, P: EventPoller> ActorSy
         self.manager.add_subscriber(actor)
     }
 
-    /// Sends a name, which is put into the mailbox after the next batch, behind all that were sent before it.
+    /// Sends a name, which is put into the mailbox after the next batch, behind all that were sent before it. The sender
+    /// isn't told where there is no memory for it in the mailbox then: it is lost.
     ///
     /// Refused as [`fire_after`](RemoteEndpoint::fire_after) is, and with `OutOfMemory`.
     pub fn send<R: Wait + Clock + AllocGlobal>(

@@ -83,6 +83,8 @@ impl<R: Wait + Clock + Print + AllocGlobal + Clone + Send + Drop> WithLedgers fo
 }
 
 /// Makes the wheel, and runs it. Answers how many ticks it ran.
+///
+/// `Epoll`, `EventFd` or `OutOfMemory` where the poller, a counter or memory is refused; else as the manager's calls are.
 fn run<R: Wait + Clock + Print + AllocGlobal + Copy + Send + Drop>(rt: &R) -> Result<u64> {
     let epoll = Epoll::new(*rt, rt.alloc()).map_err(Error::Epoll)?;
     let endpoint = EventFd::new(&epoll, 0, rt).map_err(Error::EventFd)?;

@@ -27,11 +27,14 @@ impl Schedule {
     }
 }
 
-/// A timer. Its counter says how often it went off since it was last delivered.
+/// A timer.
 #[derive(Drop)]
 pub struct Timer {
+    /// What is printed when it is delivered.
     pub name: &'static str,
+    /// When it goes off.
     pub schedule: Schedule,
+    /// How often it went off since it was last delivered.
     pub counter: EventFd,
 }
 
