@@ -15,16 +15,18 @@ use std::time::Clock;
 use vmm_sys::epoll::EventSet;
 use vmm_sys::eventfd::EventFd;
 
-/// Adds a second descriptor at the first event, and runs twice.
+/// The limit of a run in milliseconds, or none, and the events that it delivers.
+type Run<'a> = (Option<i32>, &'a [Events]);
+
+/// Takes the subscriber in, and makes the runs: each must report and deliver just these events.
 #[derive(Drop)]
-struct Registering<'a, R> {
+struct Runs<'a, R> {
     rt: &'a R,
     subscriber: Reacting,
-    first: Events,
-    second: Events,
+    runs: &'a [Run<'a>],
 }
 
-impl<R: Wait + Clock + Abort> WithManager for Registering<'_, R> {
+impl<R: Wait + Clock + Abort> WithManager for Runs<'_, R> {
     type Subscriber = Reacting;
 
     type Output = ();
@@ -33,17 +35,20 @@ impl<R: Wait + Clock + Abort> WithManager for Registering<'_, R> {
         self,
         manager: &mut EventManager<Reacting, NoJob, L, T, P>,
     ) -> Result<()> {
-        let Registering {
+        let Runs {
             rt,
             subscriber,
-            first,
-            second,
+            runs,
         } = self;
         let id = manager.add_subscriber(subscriber)?;
-        assert_eq!(rt; manager.run(rt), Ok(1));
-        assert!(rt; manager.subscriber_mut(id)?.saw(&[first]));
-        assert_eq!(rt; manager.run(rt), Ok(2));
-        assert!(rt; manager.subscriber_mut(id)?.saw(&[first, second]));
+        for (limit, delivered) in runs {
+            let answer = match limit {
+                Some(ms) => manager.run_with_timeout(*ms, rt),
+                None => manager.run(rt),
+            };
+            assert_eq!(rt; answer, Ok(delivered.len()));
+            assert!(rt; manager.subscriber_mut(id)?.saw(delivered));
+        }
         Ok(())
     }
 }
@@ -54,11 +59,10 @@ fn test_register(rt: HostRuntime) -> std::result::Result<(), Fail> {
     let (one, two) = (counter_of(&rt, &parts)?, counter_of(&rt, &parts)?);
     let first = Events::new(&one, EventSet::OUT);
     let second = Events::new(&two, EventSet::OUT);
-    let body = Registering {
+    let body = Runs {
         rt: &rt,
         subscriber: Reacting::new(rt.alloc(), first, Some(Request::Add(second))),
-        first,
-        second,
+        runs: &[(None, &[first]), (None, &[first, second])],
     };
     with_manager(parts, body)?;
     Ok(())
@@ -105,45 +109,15 @@ fn test_add_invalid_subscriber(rt: HostRuntime) -> std::result::Result<(), Fail>
     Ok(())
 }
 
-/// Removes the descriptor at its first event, and runs twice.
-#[derive(Drop)]
-struct Unregistering<'a, R> {
-    rt: &'a R,
-    subscriber: Reacting,
-    own: Events,
-}
-
-impl<R: Wait + Clock + Abort> WithManager for Unregistering<'_, R> {
-    type Subscriber = Reacting;
-
-    type Output = ();
-
-    fn run<L: Ledger, T: Ledger, P: EventPoller>(
-        self,
-        manager: &mut EventManager<Reacting, NoJob, L, T, P>,
-    ) -> Result<()> {
-        let Unregistering {
-            rt,
-            subscriber,
-            own,
-        } = self;
-        let id = manager.add_subscriber(subscriber)?;
-        assert_eq!(rt; manager.run(rt), Ok(1));
-        assert_eq!(rt; manager.run_with_timeout(100, rt), Ok(0));
-        assert!(rt; manager.subscriber_mut(id)?.saw(&[own]));
-        Ok(())
-    }
-}
-
 #[test]
 fn test_unregister(rt: HostRuntime) -> std::result::Result<(), Fail> {
     let parts = on_table(rt, rt.alloc())?;
     let event_fd = counter_of(&rt, &parts)?;
     let own = Events::new(&event_fd, EventSet::OUT);
-    let body = Unregistering {
+    let body = Runs {
         rt: &rt,
         subscriber: Reacting::new(rt.alloc(), own, Some(Request::Remove(own))),
-        own,
+        runs: &[(None, &[own]), (Some(100), &[])],
     };
     with_manager(parts, body)?;
     Ok(())
