@@ -15,12 +15,13 @@ pub struct Counting {
 
 impl MutEventSubscriber for Counting {
     ghost use Rattle.std.specs.Prelude.{◌≡◌, [], ◌∷◌};
+    ghost use Rattle.event_manager.specs.CounterEvents.{next_count};
     ghost use Rattle.event_manager.specs.Exchange.{Answer};
     ghost use Rattle.event_manager.specs.declared.events.Request.TheVariants.{Add};
 
-    ghost begins = { λ v exchanges w. (answer : Answer) × (exchanges ≡ (Add v.own, answer) ∷ []) };
+    ghost begins = { λ v exchanges w. (answer : Answer) × (exchanges ≡ (Add v.own, answer) ∷ []) × (w ≡ v) };
 
-    ghost serves = { λ v event exchanges w. exchanges ≡ [] };
+    ghost serves = { λ v event exchanges w. (exchanges ≡ []) × (w ≡ record v { seen = next_count v.seen }) };
 
     fn process<P: EventPoller>(&mut self, _events: Events, _ops: &mut EventOps<P>) {
         self.seen = self.seen.saturating_add(1);

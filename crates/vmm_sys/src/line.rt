@@ -46,7 +46,8 @@ impl Line {
         Ok(Line { table, fd: self.fd })
     }
 
-    /// Sets the state; it is never refused.
+    /// Sets the state. The table's one refusal, `EBADF` for what is no line, is never met by the
+    /// descriptor of a line.
     pub fn set<R: Wait>(&self, set: EventSet, rt: &R) -> Result<(), Errno>
         ensures { AnswersOfSome (λ t. set_line_of t (descriptor_of self.now) set) result }
     {
