@@ -15,6 +15,7 @@ pub mod Releasing
 pub mod Soundness
 pub mod TreeMaps
 pub mod StepExchangeLemmas
+pub mod OwnerMaps
 pub mod Watching
 pub mod LentSteps
 pub mod Accounts

@@ -1,4 +1,5 @@
 pub mod PollerRelations
+pub mod Owners
 pub mod Dispatch
 pub mod Event
 pub mod Example

@@ -1,0 +1,133 @@
+//! Who owns which descriptor.
+
+ghost use Rattle.std.specs.Prelude.{◌≡◌, ◌<◌, ◌≤◌, length, None, Some, OnOk, OnErr};
+ghost use Rattle.std.specs.FinMap as map;
+ghost use Rattle.event_manager.specs.Owners.{id_of, id_at, HasOwnerAt};
+
+use std::alloc::{AllocError, Global};
+use std::collections::HashMap;
+use std::marker::Model;
+
+/// Descriptors below this number are low: their owners stand in a vector, by descriptor.
+const LOW_DESCRIPTORS: u32 = 65536;
+
+/// Who owns a descriptor: the id of a subscriber, and the place where the registry was holding it when it added the
+/// descriptor.
+#[derive(Clone, Copy)]
+pub(crate) struct Owner {
+    pub(crate) id: u64,
+    pub(crate) place: usize,
+}
+
+/// The owners of the descriptors. A look-up of a low descriptor reads one place of a vector, which is as long as the
+/// highest low descriptor that was ever added; one of another descriptor searches a hash map.
+#[derive(Drop)]
+pub(crate) struct Owners {
+    low: Vec<Option<Owner>>,
+    high: HashMap<u32, Owner>,
+}
+
+impl Model for Owners {
+    ghost use Rattle.std.specs.Prelude.{ℕ};
+    ghost use Rattle.std.specs.FinMap as map;
+    ghost use Rattle.std.specs.Ordering.{nat_cmp};
+    ghost use Rattle.std.specs.Coded.{coded_ℕ};
+    ghost use Rattle.event_manager.specs.Owners.{owners_in, AreApart};
+
+    ghost Value = { map.FinMap nat_cmp ℕ };
+
+    ghost coded = { map.code coded_ℕ coded_ℕ };
+
+    ghost view = { λ o. owners_in o.low.items o.high.entries };
+
+    ghost invariant = { λ o. AreApart o.low.items o.high.entries };
+}
+
+impl Owners {
+    /// No owner.
+    pub(crate) fn new(alloc: Global) -> Self
+        ensures { result ≡ map.empty }
+    {
+        Owners {
+            low: Vec::new(alloc),
+            high: HashMap::new(alloc),
+        }
+    }
+
+    /// The owner of the descriptor.
+    pub(crate) fn get(&self, fd: u32) -> Option<Owner>
+        ensures { id_of result ≡ map.get self.now fd }
+    {
+        if fd < LOW_DESCRIPTORS {
+            return owner_at(&self.low, fd as usize);
+        }
+        self.high.get(&fd).copied()
+    }
+
+    /// Enters the owner of a descriptor. Where memory is refused, all owners stay as they were.
+    pub(crate) fn insert(&mut self, fd: u32, owner: Owner) -> std::result::Result<(), AllocError>
+        ensures ok { OnOk result (self.new ≡ map.insert self.old fd owner.id) }
+        ensures err { OnErr result (self.new ≡ self.old) }
+    {
+        if fd < LOW_DESCRIPTORS {
+            put_at(&mut self.low, fd as usize, owner)?;
+            return Ok(());
+        }
+        match self.high.insert(fd, owner) {
+            Ok(_) => {}
+            Err(_) => return Err(AllocError),
+        }
+        Ok(())
+    }
+
+    /// Takes out the owner of the descriptor, and answers it. Takes no memory.
+    pub(crate) fn remove(&mut self, fd: u32) -> Option<Owner>
+        ensures value { id_of result ≡ map.get self.old fd }
+        ensures removed { self.new ≡ map.remove self.old fd }
+    {
+        if fd < LOW_DESCRIPTORS {
+            return take_at(&mut self.low, fd as usize);
+        }
+        self.high.remove(&fd)
+    }
+}
+
+/// Puts an owner at a descriptor, and makes the vector as long as it takes. Where memory is refused, it stays.
+fn put_at(
+    low: &mut Vec<Option<Owner>>,
+    fd: usize,
+    owner: Owner,
+) -> std::result::Result<(), AllocError>
+    requires { fd < 65536 }
+    ensures len { length low.old.items ≤ 65536 → length low.new.items ≤ 65536 }
+    ensures ok { OnOk result (HasOwnerAt low.old.items fd (Some owner.id) low.new.items) }
+    ensures err { OnErr result (low.new.items ≡ low.old.items) }
+{
+    if fd >= low.len() {
+        low.resize(fd + 1, None)?;
+    }
+    low[fd] = Some(owner);
+    Ok(())
+}
+
+/// The owner at a descriptor.
+fn owner_at(low: &[Option<Owner>], fd: usize) -> Option<Owner>
+    ensures { id_of result ≡ id_at low.now fd }
+{
+    match low.get(fd) {
+        Some(owner) => *owner,
+        None => None,
+    }
+}
+
+/// Takes out the owner at a descriptor, and answers it.
+fn take_at(low: &mut Vec<Option<Owner>>, fd: usize) -> Option<Owner>
+    ensures value { id_of result ≡ id_at low.old.items fd }
+    ensures taken { HasOwnerAt low.old.items fd None low.new.items }
+    ensures len { length low.new.items ≡ length low.old.items }
+{
+    if fd < low.len() {
+        return low[fd].take();
+    }
+    None
+}
