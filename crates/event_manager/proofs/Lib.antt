@@ -16,6 +16,7 @@ pub mod Soundness
 pub mod TreeMaps
 pub mod StepExchangeLemmas
 pub mod OwnerMaps
+pub mod Ascending
 pub mod Watching
 pub mod LentSteps
 pub mod Accounts

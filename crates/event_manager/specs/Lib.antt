@@ -1,5 +1,6 @@
 pub mod PollerRelations
 pub mod Owners
+pub mod Cancelled
 pub mod Dispatch
 pub mod Event
 pub mod Example

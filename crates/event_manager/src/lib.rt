@@ -16,6 +16,7 @@ pub mod jobs;
 pub mod laws;
 pub mod manager;
 mod owners;
+mod cancelled;
 pub mod poller;
 #[cfg(test)]
 mod subscriber_tests;
@@ -26,6 +27,7 @@ pub mod wrappers;
 
 pub use boxed_subscriber::{BoxedSubscriber, StepInput, StepSubscriber};
 pub use calls::{Call, Reply};
+pub use cancelled::cancelled_at;
 pub use endpoint::RemoteEndpoint;
 pub use endpoint::closed::Closed;
 pub use error::{Error, Result};
