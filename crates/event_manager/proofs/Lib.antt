@@ -17,6 +17,8 @@ pub mod TreeMaps
 pub mod StepExchangeLemmas
 pub mod OwnerMaps
 pub mod Ascending
+pub mod SortedLists
+pub mod ListChanges
 pub mod Watching
 pub mod LentSteps
 pub mod Accounts

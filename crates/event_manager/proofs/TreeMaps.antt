@@ -2,7 +2,6 @@
 use Rattle.std.specs.Ordering.{nat_cmp}
 use Rattle.event_manager.specs.RegistrationState.{RegistrationState}
 use Rattle.std.proofs.Common.{◌≡◌, ℕ, Bool, true, false, cond, List, [], ◌∷◌, refl, sym, ap, ◌∙◌, Option, Some, None, ◌<◌, ◌^◌, IsSome, subst}
-use Rattle.event_manager.specs.ReadyList.{AreDescriptors}
 use Rattle.std.specs.declared.cmp.Ordering.{Ordering}
 use Rattle.std.specs.declared.cmp.Ordering.TheVariants.{Less, Equal, Greater}
 use Rattle.std.specs.Ordering.{is_eq, eq_by_cmp}
@@ -44,14 +43,6 @@ untouched m k v q unregister_descriptor Greater e = refl
 
 pub remove_insert : (m : FinMap nat_cmp ℕ) (k v : ℕ) → get m k ≡ None → remove (insert m k v) k ≡ m
 remove_insert m k v unregister_descriptor = same_map nat_cmp_total nat_cmp-IsAntisymmetric _ _ (λ q. get-remove nat_cmp_total _ k q ∙ ap (cond (eq_by_cmp nat_cmp q k) None) (get-insert nat_cmp_total m k v q) ∙ untouched m k v q unregister_descriptor _ refl)
-
-descriptor_one : (m : BTreeMap ℕ ℕ) (k q : ℕ) (o : Option ℕ) → AreDescriptors m → k < 2 ^ 31 → (r : Ordering) → nat_cmp k q ≡ r → IsSome (cond (is_eq r) o (tree.get nat_cmp m q)) → q < 2 ^ 31
-descriptor_one m k q o is_descriptor h Less e s = is_descriptor q s
-descriptor_one m k q o is_descriptor h Equal e s = subst (λ x. x < 2 ^ 31) (nat_cmp-IsAntisymmetric k q e) h
-descriptor_one m k q o is_descriptor h Greater e s = is_descriptor q s
-
-pub descriptors_update : (m n : BTreeMap ℕ ℕ) (k : ℕ) (o : Option ℕ) → UpdatesBy nat_cmp (nat_cmp k) m n o → AreDescriptors m → k < 2 ^ 31 → AreDescriptors n
-descriptors_update m n k o u is_descriptor h q s = descriptor_one m k q o is_descriptor h (nat_cmp k q) refl (subst (λ x. IsSome x) (u.0 q) s)
 
 pub none_of : {A : Type 0} (o : Option A) → is_some o ≡ false → o ≡ None
 none_of None e = refl

@@ -1,123 +1,108 @@
 -- Watch lists beside the owners: how often a descriptor stands in a list.
-use Rattle.std.proofs.Common.{◌≡◌, ◌≢◌, ℕ, zero, suc, ◌+◌, ◌==◌, ◌<◌, ◌≤◌, refl, sym, ap, subst, ◌∙◌, List, [], ◌∷◌, ◌++◌, Bool, true, false, not, cond, Option, Some, None, inl, inr, arith, length, get_or, take, Contains, AllPairs, nat_cmp, nat_lt, IsSome, All, ◌^◌}
+use Rattle.std.proofs.Common.{◌≡◌, ◌≢◌, ℕ, zero, suc, ◌+◌, ◌==◌, ◌<◌, ◌≤◌, refl, sym, ap, subst, ◌∙◌, List, [], ◌∷◌, Bool, true, false, not, cond, Option, Some, None, inl, inr, arith, length, get_or, take, Contains, AllPairs, nat_cmp, nat_lt, IsSome, All, ◌^◌}
 use Rattle.std.proofs.lemmas.Bool.{false≢true}
 use Rattle.std.proofs.lemmas.Bool.Decides.{nat_tests, eqb_tells}
 use Rattle.std.proofs.lemmas.List.Elements.{Contains-get_or}
-use Rattle.std.proofs.lemmas.List.Sums.{sum_by_push, sum_by_more, sum_by-cons}
-use Rattle.std.specs.BTreeMap.{BTreeMap, UpdatesBy}
-use Rattle.std.specs.BTreeMap as tree
+use Rattle.std.proofs.lemmas.List.Sums.{sum_by_more, sum_by-cons}
+use Rattle.std.specs.Ordering.{eq_by_cmp}
 use Rattle.std.specs.Cmp.{nat_cmp_total}
-use Rattle.std.specs.FinMap.{get, from_entries, same_map, nat_cmp-IsAntisymmetric}
+use Rattle.std.specs.FinMap.{FinMap, get, insert, remove, get-insert, get-remove, same_map, nat_cmp-IsAntisymmetric}
 use Rattle.event_manager.specs.Registrations.{Registrations}
 use Rattle.event_manager.specs.Registry.{is_id, without_owner, AreOwnedBy}
-use Rattle.event_manager.specs.WatchLists.{watch_list, times_in, unwatched, HasList, HasSameLists, AreWatched}
+use Rattle.event_manager.specs.WatchLists.{watch_list, times_in, HasOneMore, HasList, HasSameLists, AreWatched}
 use Rattle.event_manager.specs.ReadyList.{AreDescriptors}
 use Rattle.event_manager.specs.Releasing.{IsWithout}
 use Rattle.event_manager.specs.declared.watch_lists.WatchLists.{WatchLists}
-use Rattle.event_manager.proofs.FiniteMaps.{same_tests, get-without_owner}
-use Rattle.event_manager.proofs.TreeMaps.{get_of_owner}
-
--- one more descriptor
-times_in_push : (fds : List ℕ) (fd q : ℕ) → times_in (fds ++ fd ∷ []) q ≡ times_in fds q + cond (fd == q) 1 0
-times_in_push fds fd q = sum_by_push (λ x. cond (x == q) 1 0) fds fd
+use Rattle.event_manager.proofs.FiniteMaps.{same_tests, nat_tied, get-without_owner}
 
 times_in_cons : (fds : List ℕ) (fd q : ℕ) → times_in (fd ∷ fds) q ≡ cond (fd == q) 1 0 + times_in fds q
 times_in_cons fds fd q = sum_by-cons (λ x. cond (x == q) 1 0) fd fds
 
--- a list without a descriptor
-unwatched_kept : (b : Bool) (x : ℕ) (fds : List ℕ) (fd q : ℕ) → b ≡ (x == fd) → times_in (unwatched fd fds) q ≡ cond (fd == q) 0 (times_in fds q)
-    → times_in (cond (not b) (x ∷ unwatched fd fds) (unwatched fd fds)) q ≡ cond (fd == q) 0 (cond (x == q) 1 0 + times_in fds q)
-unwatched_kept true x fds fd q is rest = grind (arith, nat_tests, is, rest)
-unwatched_kept false x fds fd q is rest = grind (arith, nat_tests, is, rest, times_in_cons (unwatched fd fds) x q)
-
-times_in_unwatched : (fds : List ℕ) (fd q : ℕ) → times_in (unwatched fd fds) q ≡ cond (fd == q) 0 (times_in fds q)
-times_in_unwatched [] fd q = grind (arith, nat_tests)
-times_in_unwatched (x ∷ fds) fd q = unwatched_kept (x == fd) x fds fd q refl (times_in_unwatched fds fd q) ∙ ap (λ n. cond (fd == q) 0 n) (sym (times_in_cons fds x q))
-
-times_in_cond : (b : Bool) (xs ys : List ℕ) (q : ℕ) → times_in (cond b xs ys) q ≡ cond b (times_in xs q) (times_in ys q)
-times_in_cond true xs ys q = refl
-times_in_cond false xs ys q = refl
+nothing : (b : Bool) → cond {A = ℕ} b 0 0 ≡ 0
+nothing true = refl
+nothing false = refl
 
 -- what an id's new list, and the new owners, say of one descriptor whose owner was o
-same_times : (j i : ℕ) (o : Option ℕ) → cond {A = ℕ} (j == i) (cond (is_id i o) 1 0) (cond (is_id j o) 1 0) ≡ cond (is_id j o) 1 0
-same_times j i None = grind (arith, nat_tests)
-same_times j i (Some k) = grind (arith, nat_tests)
-
-pushed_times : (j i : ℕ) (o : Option ℕ) (b : Bool) → (b ≡ true → o ≡ None) → cond {A = ℕ} (j == i) (cond (is_id i o) 1 0 + cond b 1 0) (cond (is_id j o) 1 0) ≡ cond (is_id j (cond b (Some i) o)) 1 0
+pushed_times : (j i : ℕ) (o : Option ℕ) (b : Bool) → (b ≡ true → o ≡ None) → cond {A = ℕ} (is_id j o) 1 0 + cond (j == i) (cond b 1 0) 0 ≡ cond (is_id j (cond b (Some i) o)) 1 0
 pushed_times j i o true was = rw (was refl) (grind (arith, nat_tests))
-pushed_times j i o false was = grind (arith, same_times j i o)
+pushed_times j i o false was = omega (arith, nothing (j == i))
 
-removed_times : (j i : ℕ) (o : Option ℕ) (b : Bool) → (b ≡ true → o ≡ Some i) → cond {A = ℕ} (j == i) (cond b 0 (cond (is_id i o) 1 0)) (cond (is_id j o) 1 0) ≡ cond (is_id j (cond b None o)) 1 0
-removed_times j i o true was = rw (was refl) (grind (arith, nat_tests))
-removed_times j i o false was = same_times j i o
+removed_times : (j i n : ℕ) (o : Option ℕ) (b : Bool) → (b ≡ true → o ≡ Some i) → n + cond (j == i) (cond b 1 0) 0 ≡ cond {A = ℕ} (is_id j o) 1 0 → n ≡ cond (is_id j (cond b None o)) 1 0
+removed_times j i n o true was h = grind (arith, nat_tests, rw (was refl) at h)
+removed_times j i n o false was h = omega (arith, nothing (j == i), h)
 
 taken_times : (j i : ℕ) (o : Option ℕ) → cond {A = ℕ} (j == i) 0 (cond (is_id j o) 1 0) ≡ cond (is_id j (cond (is_id i o) None o)) 1 0
 taken_times j i None = grind (arith, nat_tests)
 taken_times j i (Some k) = grind (arith, nat_tests)
 
-module _ (owner owners : BTreeMap ℕ ℕ) (watched lists : WatchLists) (fd i : ℕ) (are : AreWatched owner watched) where
-  -- at the descriptor itself, the owner is the one there
-  at_fd : (o : Option ℕ) → tree.get nat_cmp owner fd ≡ o → (q : ℕ) → (fd == q) ≡ true → tree.get nat_cmp owner q ≡ o
-  at_fd o was q e = ap (tree.get nat_cmp owner) (sym (elim (eqb_tells fd q) [ inl p ↦ p.1 | inr p ↦ absurd (grind (arith, p.0, e)) ])) ∙ was
+pub times_in_cond : (b : Bool) (xs ys : List ℕ) (q : ℕ) → times_in (cond b xs ys) q ≡ cond b (times_in xs q) (times_in ys q)
+times_in_cond true xs ys q = refl
+times_in_cond false xs ys q = refl
 
-  -- a free descriptor gets an owner, and goes last into that owner's list
-  pub watched_pushed : tree.get nat_cmp owner fd ≡ None → UpdatesBy nat_cmp (nat_cmp fd) owner owners (Some i) → HasList watched i (watch_list watched i ++ fd ∷ []) lists → AreWatched owners lists
-  watched_pushed was now has j q =
-      ap (λ l. times_in l q) (has j)
-      ∙ times_in_cond (j == i) (watch_list watched i ++ fd ∷ []) (watch_list watched j) q
-      ∙ ap (λ n. cond (j == i) n (times_in (watch_list watched j) q)) (times_in_push (watch_list watched i) fd q ∙ ap (λ n. n + cond (fd == q) 1 0) (are i q))
-      ∙ ap (λ n. cond (j == i) (cond (is_id i (tree.get nat_cmp owner q)) 1 0 + cond (fd == q) 1 0) n) (are j q)
-      ∙ pushed_times j i (tree.get nat_cmp owner q) (fd == q) (at_fd None was q)
-      ∙ ap (λ o. cond (is_id j o) 1 0) (sym (now.0 q ∙ ap (λ b. cond b (Some i) (tree.get nat_cmp owner q)) (same_tests fd q)))
+pub flipped : (a b : ℕ) → (a == b) ≡ (b == a)
+flipped a b = grind (arith, nat_tests)
+
+tests_alike : (fd q : ℕ) → (fd == q) ≡ eq_by_cmp nat_cmp q fd
+tests_alike fd q = flipped fd q ∙ sym (same_tests q fd)
+
+module _ (owner : FinMap nat_cmp ℕ) (watched lists : WatchLists) (fd i : ℕ) (are : AreWatched owner watched) where
+  -- at the descriptor itself, the owner is the one there
+  at_fd : (o : Option ℕ) → get owner fd ≡ o → (q : ℕ) → eq_by_cmp nat_cmp q fd ≡ true → get owner q ≡ o
+  at_fd o was q e = ap (get owner) (nat_tied q fd e) ∙ was
+
+  -- a free descriptor gets an owner, and stands in that owner's list
+  pub watched_pushed : get owner fd ≡ None → HasOneMore watched i fd lists → AreWatched (insert owner fd i) lists
+  watched_pushed was has j q =
+      has j q
+      ∙ ap (λ n. n + cond (j == i) (cond (fd == q) 1 0) 0) (are j q)
+      ∙ ap (λ b. cond {A = ℕ} (is_id j (get owner q)) 1 0 + cond (j == i) (cond b 1 0) 0) (tests_alike fd q)
+      ∙ pushed_times j i (get owner q) (eq_by_cmp nat_cmp q fd) (at_fd None was q)
+      ∙ ap (λ o. cond (is_id j o) 1 0) (sym (get-insert nat_cmp_total owner fd i q))
 
   -- a descriptor loses its owner, and goes out of that owner's list
-  pub watched_removed : tree.get nat_cmp owner fd ≡ Some i → UpdatesBy nat_cmp (nat_cmp fd) owner owners None → HasList watched i (unwatched fd (watch_list watched i)) lists → AreWatched owners lists
-  watched_removed was now has j q =
-      ap (λ l. times_in l q) (has j)
-      ∙ times_in_cond (j == i) (unwatched fd (watch_list watched i)) (watch_list watched j) q
-      ∙ ap (λ n. cond (j == i) n (times_in (watch_list watched j) q)) (times_in_unwatched (watch_list watched i) fd q ∙ ap (λ n. cond (fd == q) 0 n) (are i q))
-      ∙ ap (λ n. cond (j == i) (cond (fd == q) 0 (cond (is_id i (tree.get nat_cmp owner q)) 1 0)) n) (are j q)
-      ∙ removed_times j i (tree.get nat_cmp owner q) (fd == q) (at_fd (Some i) was q)
-      ∙ ap (λ o. cond (is_id j o) 1 0) (sym (now.0 q ∙ ap (λ b. cond b None (tree.get nat_cmp owner q)) (same_tests fd q)))
+  pub watched_removed : get owner fd ≡ Some i → HasOneMore lists i fd watched → AreWatched (remove owner fd) lists
+  watched_removed was has j q =
+      removed_times j i (times_in (watch_list lists j) q) (get owner q) (eq_by_cmp nat_cmp q fd) (at_fd (Some i) was q)
+      (ap (λ b. times_in (watch_list lists j) q + cond (j == i) (cond {A = ℕ} b 1 0) 0) (sym (tests_alike fd q)) ∙ sym (has j q) ∙ are j q)
+      ∙ ap (λ o. cond (is_id j o) 1 0) (sym (get-remove nat_cmp_total owner fd q))
 
-  restored_one : (b : Bool) (o : Option ℕ) → (b ≡ true → o ≡ None) → cond b None (cond b (Some i) o) ≡ o
-  restored_one true o was = sym (was refl)
-  restored_one false o was = refl
+  -- an owner's descriptor stands in its list
+  pub listed_once : get owner fd ≡ Some i → times_in (watch_list watched i) fd ≡ 1
+  listed_once was = are i fd ∙ ap (λ o. cond (is_id i o) 1 0) was ∙ grind (arith, nat_tests)
 
-  -- an owner that was just put in is taken out again
-  pub owners_restored : (again : BTreeMap ℕ ℕ) → tree.get nat_cmp owner fd ≡ None → UpdatesBy nat_cmp (nat_cmp fd) owner owners (Some i) → UpdatesBy nat_cmp (nat_cmp fd) owners again None → (q : ℕ) → tree.get nat_cmp again q ≡ tree.get nat_cmp owner q
-  owners_restored again was now removed q =
-      removed.0 q
-      ∙ ap (λ b. cond b None (tree.get nat_cmp owners q)) (same_tests fd q)
-      ∙ ap (λ o. cond (fd == q) None o) (now.0 q ∙ ap (λ b. cond b (Some i) (tree.get nat_cmp owner q)) (same_tests fd q))
-      ∙ restored_one (fd == q) (tree.get nat_cmp owner q) (at_fd None was q)
+pub watched_same : (owner : FinMap nat_cmp ℕ) (watched lists : WatchLists) → AreWatched owner watched → HasSameLists watched lists → AreWatched owner lists
+watched_same owner watched lists are has j q = ap (λ l. times_in l q) (has j) ∙ are j q
 
-module _ (owner owners : BTreeMap ℕ ℕ) (same : (q : ℕ) → tree.get nat_cmp owners q ≡ tree.get nat_cmp owner q) where
-  pub same_owners : from_entries {R = nat_cmp} owners.entries ≡ from_entries owner.entries
-  same_owners = same_map nat_cmp_total nat_cmp-IsAntisymmetric _ _ (λ q. get_of_owner owners q ∙ same q ∙ sym (get_of_owner owner q))
+-- which descriptors are ones from 0 up
+pub descriptors_pushed : (owner : FinMap nat_cmp ℕ) (fd i : ℕ) → AreDescriptors owner → fd < 2 ^ 31 → AreDescriptors (insert owner fd i)
+descriptors_pushed owner fd i are below q some = of_test (eq_by_cmp nat_cmp q fd) refl
+  where
+    of_test : (b : Bool) → eq_by_cmp nat_cmp q fd ≡ b → q < 2 ^ 31
+    of_test true e = subst (λ x. x < 2 ^ 31) (sym (nat_tied q fd e)) below
+    of_test false e = are q (subst (λ (o : Option ℕ). IsSome o) (get-insert nat_cmp_total owner fd i q ∙ ap (λ b. cond b (Some i) (get owner q)) e) some)
 
-  pub same_descriptors : AreDescriptors owner → AreDescriptors owners
-  same_descriptors are q some = are q (subst (λ (o : Option ℕ). IsSome o) (same q) some)
-
-  pub watched_same : (watched lists : WatchLists) → AreWatched owner watched → HasSameLists watched lists → AreWatched owners lists
-  watched_same watched lists are has j q = ap (λ l. times_in l q) (has j) ∙ are j q ∙ ap (λ o. cond (is_id j o) 1 0) (sym (same q))
+pub descriptors_removed : (owner : FinMap nat_cmp ℕ) (fd : ℕ) → AreDescriptors owner → AreDescriptors (remove owner fd)
+descriptors_removed owner fd are q some = of_test (eq_by_cmp nat_cmp q fd) refl
+  where
+    of_test : (b : Bool) → eq_by_cmp nat_cmp q fd ≡ b → q < 2 ^ 31
+    of_test true e = absurd (false≢true (subst (λ (o : Option ℕ). IsSome o) (get-remove nat_cmp_total owner fd q ∙ ap (λ b. cond b None (get owner q)) e) some))
+    of_test false e = are q (subst (λ (o : Option ℕ). IsSome o) (get-remove nat_cmp_total owner fd q ∙ ap (λ b. cond b None (get owner q)) e) some)
 
 -- the descriptors of a whole list go
 is_one : (b : Bool) (o : Option ℕ) → cond (nat_lt 0 (cond b 1 0)) None o ≡ cond b None o
 is_one true o = refl
 is_one false o = refl
 
-module _ (owner owners : BTreeMap ℕ ℕ) (watched : WatchLists) (i : ℕ) (are : AreWatched owner watched) (fds : List ℕ) (is : fds ≡ watch_list watched i) (gone : IsWithout fds owner owners) where
-  owner_after : (q : ℕ) → tree.get nat_cmp owners q ≡ cond (is_id i (tree.get nat_cmp owner q)) None (tree.get nat_cmp owner q)
-  owner_after q =
-      gone q ∙ ap (λ n. cond (nat_lt 0 n) None (tree.get nat_cmp owner q)) (ap (λ l. times_in l q) is ∙ are i q) ∙ is_one (is_id i (tree.get nat_cmp owner q)) (tree.get nat_cmp owner q)
+module _ (owner owners : FinMap nat_cmp ℕ) (watched : WatchLists) (i : ℕ) (are : AreWatched owner watched) (fds : List ℕ) (is : fds ≡ watch_list watched i) (gone : IsWithout fds owner owners) where
+  owner_after : (q : ℕ) → get owners q ≡ cond (is_id i (get owner q)) None (get owner q)
+  owner_after q = gone q ∙ ap (λ n. cond (nat_lt 0 n) None (get owner q)) (ap (λ l. times_in l q) is ∙ are i q) ∙ is_one (is_id i (get owner q)) (get owner q)
 
   pub watched_taken : (lists : WatchLists) → HasList watched i [] lists → AreWatched owners lists
   watched_taken lists has j q =
       ap (λ l. times_in l q) (has j)
       ∙ times_in_cond (j == i) [] (watch_list watched j) q
       ∙ ap (λ n. cond (j == i) 0 n) (are j q)
-      ∙ taken_times j i (tree.get nat_cmp owner q)
+      ∙ taken_times j i (get owner q)
       ∙ ap (λ o. cond (is_id j o) 1 0) (sym (owner_after q))
 
   still_some : (b : Bool) (o : Option ℕ) → IsSome (cond b None o) → IsSome o
@@ -125,30 +110,28 @@ module _ (owner owners : BTreeMap ℕ ℕ) (watched : WatchLists) (i : ℕ) (are
   still_some false o h = h
 
   pub descriptors_taken : AreDescriptors owner → AreDescriptors owners
-  descriptors_taken below q some = below q (still_some (is_id i (tree.get nat_cmp owner q)) (tree.get nat_cmp owner q) (subst (λ (o : Option ℕ). IsSome o) (owner_after q) some))
+  descriptors_taken below q some = below q (still_some (is_id i (get owner q)) (get owner q) (subst (λ (o : Option ℕ). IsSome o) (owner_after q) some))
 
   swapped : (b : Bool) (o : Option ℕ) → cond b None o ≡ cond (not b) o None
   swapped true o = refl
   swapped false o = refl
 
-  pub owners_taken : from_entries {R = nat_cmp} owners.entries ≡ without_owner i (from_entries owner.entries)
-  owners_taken = same_map nat_cmp_total nat_cmp-IsAntisymmetric _ _ (λ q.
-      get_of_owner owners q ∙ owner_after q ∙ swapped (is_id i (tree.get nat_cmp owner q)) (tree.get nat_cmp owner q)
-      ∙ ap (λ o. cond (not (is_id i o)) o None) (sym (get_of_owner owner q)) ∙ sym (get-without_owner i (from_entries owner.entries) q))
+  pub owners_taken : owners ≡ without_owner i owner
+  owners_taken = same_map nat_cmp_total nat_cmp-IsAntisymmetric _ _ (λ q. owner_after q ∙ swapped (is_id i (get owner q)) (get owner q) ∙ sym (get-without_owner i owner q))
 
 -- one more descriptor taken out
 without_answer : (b : Bool) (n : ℕ) (o : Option ℕ) → cond b None (cond (nat_lt 0 n) None o) ≡ cond (nat_lt 0 (n + cond b 1 0)) None o
 without_answer true n o = grind (arith, nat_tests)
 without_answer false n o = grind (arith, nat_tests)
 
-pub without_more : (before now after : BTreeMap ℕ ℕ) (fds : List ℕ) (k : ℕ) → k < length fds → IsWithout (take k fds) before now → UpdatesBy nat_cmp (nat_cmp (get_or fds k 0)) now after None → IsWithout (take (k + 1) fds) before after
-without_more before now after fds k below so_far removed q =
+pub without_more : (before now : FinMap nat_cmp ℕ) (fds : List ℕ) (k : ℕ) → k < length fds → IsWithout (take k fds) before now → IsWithout (take (k + 1) fds) before (remove now (get_or fds k 0))
+without_more before now fds k below so_far q =
     let fd = get_or fds k 0 in
-    removed.0 q
-    ∙ ap (λ b. cond b None (tree.get nat_cmp now q)) (same_tests fd q)
+    get-remove nat_cmp_total now fd q
+    ∙ ap (λ b. cond b None (get now q)) (sym (tests_alike fd q))
     ∙ ap (λ o. cond (fd == q) None o) (so_far q)
-    ∙ without_answer (fd == q) (times_in (take k fds) q) (tree.get nat_cmp before q)
-    ∙ ap (λ n. cond (nat_lt 0 n) None (tree.get nat_cmp before q)) (sym (sum_by_more (λ x. cond (x == q) 1 0) fds k 0 below))
+    ∙ without_answer (fd == q) (times_in (take k fds) q) (get before q)
+    ∙ ap (λ n. cond (nat_lt 0 n) None (get before q)) (sym (sum_by_more (λ x. cond (x == q) 1 0) fds k 0 below))
 
 -- what stands in a list is counted there
 counted_at : (q : ℕ) (fds : List ℕ) (k : ℕ) → k < length fds → get_or fds k q ≡ q → 0 < times_in fds q
@@ -180,7 +163,7 @@ distinct (x ∷ fds) h zero (suc j) d a b =
 distinct (x ∷ fds) h (suc i) (suc j) d a b = distinct fds (λ q. omega (arith, h q, times_in_cons fds x q)) i j d (omega arith) (omega arith)
 
 -- a list that has each descriptor of the id once
-module _ (owner : BTreeMap ℕ ℕ) (fds : List ℕ) (i : ℕ) (are : (fd : ℕ) → times_in fds fd ≡ cond (is_id i (tree.get nat_cmp owner fd)) 1 0) where
+module _ (owner : FinMap nat_cmp ℕ) (fds : List ℕ) (i : ℕ) (are : (fd : ℕ) → times_in fds fd ≡ cond (is_id i (get owner fd)) 1 0) where
   at_most_one : (b : Bool) → cond {A = ℕ} b 1 0 ≤ 1
   at_most_one true = omega arith
   at_most_one false = omega arith
@@ -192,15 +175,15 @@ module _ (owner : BTreeMap ℕ ℕ) (fds : List ℕ) (i : ℕ) (are : (fd : ℕ)
   own_once : (o : Option ℕ) → o ≡ Some i → 0 < cond {A = ℕ} (is_id i o) 1 0
   own_once o is = rw is (grind (arith, nat_tests))
 
-  listed_owner : (fd : ℕ) → Contains fds fd → tree.get nat_cmp owner fd ≡ Some i
-  listed_owner fd c = owner_is (tree.get nat_cmp owner fd) (omega (arith, counted fds fd c, are fd))
+  listed_owner : (fd : ℕ) → Contains fds fd → get owner fd ≡ Some i
+  listed_owner fd c = owner_is (get owner fd) (omega (arith, counted fds fd c, are fd))
 
-  pub owned_once : (registrations : Registrations) → registrations.owner ≡ from_entries {R = nat_cmp} owner.entries → AreOwnedBy i registrations fds
+  pub owned_once : (registrations : Registrations) → registrations.owner ≡ owner → AreOwnedBy i registrations fds
   owned_once registrations is = (
-    distinct fds (λ q. omega (arith, are q, at_most_one (is_id i (tree.get nat_cmp owner q)))),
+    distinct fds (λ q. omega (arith, are q, at_most_one (is_id i (get owner q)))),
     λ fd. (
-      λ c. ap (λ m. get m fd) is ∙ get_of_owner owner fd ∙ listed_owner fd c,
-      λ owns. contained fds fd (omega (arith, are fd, own_once (tree.get nat_cmp owner fd) (sym (ap (λ m. get m fd) is ∙ get_of_owner owner fd) ∙ owns))),
+      λ c. ap (λ m. get m fd) is ∙ listed_owner fd c,
+      λ owns. contained fds fd (omega (arith, are fd, own_once (get owner fd) (sym (ap (λ m. get m fd) is) ∙ owns))),
     ),
   )
 

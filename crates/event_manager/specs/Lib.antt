@@ -1,6 +1,7 @@
 pub mod PollerRelations
 pub mod Owners
 pub mod Cancelled
+pub mod Consistency
 pub mod Dispatch
 pub mod Event
 pub mod Example

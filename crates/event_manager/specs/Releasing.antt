@@ -1,7 +1,7 @@
 -- How the descriptors of an id are freed when it leaves.
 use Rattle.std.specs.Prelude.{◌≡◌, ℕ, cond, List, None, nat_lt}
 use Rattle.std.specs.Ordering.{nat_cmp}
-use Rattle.std.specs.BTreeMap.{BTreeMap, get}
+use Rattle.std.specs.FinMap as map
 use Rattle.event_manager.specs.PollerCall.{PollerCall, Controls, Waits, Leads}
 use Rattle.event_manager.specs.Registry.{AreOwnedBy, AreDeletes, without_owner}
 use Rattle.event_manager.specs.RegistrationState.{registrations_of}
@@ -9,8 +9,8 @@ use Rattle.event_manager.specs.WatchLists.{times_in}
 use Rattle.event_manager.specs.declared.epoll.EpollWrapper.{EpollWrapper}
 
 -- the map without the keys in the list
-abbrev pub IsWithout : List ℕ → BTreeMap ℕ ℕ → BTreeMap ℕ ℕ → Type 0
-IsWithout fds before after = (q : ℕ) → get nat_cmp after q ≡ cond (nat_lt 0 (times_in fds q)) None (get nat_cmp before q)
+abbrev pub IsWithout : List ℕ → map.FinMap nat_cmp ℕ → map.FinMap nat_cmp ℕ → Type 0
+IsWithout fds before after = (q : ℕ) → map.get after q ≡ cond (nat_lt 0 (times_in fds q)) None (map.get before q)
 
 module _ {P : Type 0} (controls : Controls P) (waits : Waits P) where
   -- the descriptors of id i are free, after one Delete for each, whatever it answered; all else is as before

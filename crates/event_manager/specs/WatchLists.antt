@@ -1,7 +1,9 @@
 -- Which descriptors each id watches, as the code keeps them beside the owners.
-use Rattle.std.specs.Prelude.{◌≡◌, ℕ, ◌==◌, cond, List, [], Option, Some, None, Vec, filter, not, count_by}
+use Rattle.std.specs.Prelude.{◌≡◌, ℕ, ◌+◌, ◌==◌, cond, List, [], Option, Some, None, Vec, count_by}
+use Rattle.std.specs.List.Sorted.{IsNonDecreasing}
 use Rattle.std.specs.Ordering.{nat_cmp}
-use Rattle.std.specs.BTreeMap.{BTreeMap, get}
+use Rattle.std.specs.HashMap.{get}
+use Rattle.std.specs.FinMap as map
 use Rattle.std.specs.declared.alloc.Global.{Global}
 use Rattle.event_manager.specs.Registry.{is_id}
 use Rattle.event_manager.specs.declared.watch_lists.WatchLists.{WatchLists}
@@ -11,13 +13,25 @@ abbrev pub items_or_none : Option (Vec ℕ Global) → List ℕ
 items_or_none None = []
 items_or_none (Some v) = v.items
 
--- the descriptors that id i watches, in the order in which they were added
+-- the descriptors that id i watches
 abbrev pub watch_list : WatchLists → ℕ → List ℕ
-watch_list watched i = items_or_none (get nat_cmp watched.lists i)
+watch_list watched i = items_or_none (get (λ a b. a == b) watched.lists i)
+
+-- each list is in order
+abbrev pub AreSorted : WatchLists → Type 0
+AreSorted watched = (i : ℕ) → IsNonDecreasing (watch_list watched i)
 
 -- how often a descriptor stands in a list
 abbrev pub times_in : List ℕ → ℕ → ℕ
 times_in fds fd = count_by (λ x. x == fd) fds
+
+-- the descriptor stands once more in the list, and the others as often as before
+abbrev pub IsOneMore : List ℕ → ℕ → List ℕ → Type 0
+IsOneMore before fd after = (q : ℕ) → times_in after q ≡ times_in before q + cond (fd == q) 1 0
+
+-- the descriptor stands once more in the list of id i, and all else as often as before
+abbrev pub HasOneMore : WatchLists → ℕ → ℕ → WatchLists → Type 0
+HasOneMore before i fd after = (j q : ℕ) → times_in (watch_list after j) q ≡ times_in (watch_list before j) q + cond (j == i) (cond (fd == q) 1 0) 0
 
 -- another list at id i, and all others as before
 abbrev pub HasList : WatchLists → ℕ → List ℕ → WatchLists → Type 0
@@ -27,10 +41,6 @@ HasList before i fds after = (j : ℕ) → watch_list after j ≡ cond (j == i) 
 abbrev pub HasSameLists : WatchLists → WatchLists → Type 0
 HasSameLists before after = (j : ℕ) → watch_list after j ≡ watch_list before j
 
--- without the descriptor
-abbrev pub unwatched : ℕ → List ℕ → List ℕ
-unwatched fd fds = filter (λ x. not (x == fd)) fds
-
 -- each descriptor stands once in its owner's list, and in no other list
-abbrev pub AreWatched : BTreeMap ℕ ℕ → WatchLists → Type 0
-AreWatched owner watched = (i fd : ℕ) → times_in (watch_list watched i) fd ≡ cond (is_id i (get nat_cmp owner fd)) 1 0
+abbrev pub AreWatched : map.FinMap nat_cmp ℕ → WatchLists → Type 0
+AreWatched owner watched = (i fd : ℕ) → times_in (watch_list watched i) fd ≡ cond (is_id i (map.get owner fd)) 1 0

@@ -1,25 +1,27 @@
 //! The registrations beside the poller that keeps the interest list.
 
-ghost use Rattle.std.specs.Prelude.{◌≡◌, ℕ, ◌≤◌, ◌<◌, ◌^◌, length, List, [], ◌∷◌, ◌++◌, false, drop, replicate, OnOk, IfErr, IfOk, IfSome, Result, Bool, IsTrue, ◌↔◌, ◌==◌, MatchOption, All};
+ghost use Rattle.std.specs.Prelude.{◌≡◌, ◌≤◌, ◌<◌, ◌^◌, List, [], ◌∷◌, OnOk, IfErr, IfOk, IfSome, Result, Bool, IsTrue, ◌↔◌, ◌==◌, MatchOption, All};
 ghost use Rattle.std.specs.FinMap as map;
 ghost use Rattle.event_manager.specs.Event.{Event};
 ghost use Rattle.event_manager.specs.PollerCall.{Control, Wait, Leads};
 ghost use Rattle.event_manager.specs.Registrations.{Owns, IsFree};
 ghost use Rattle.event_manager.specs.Registry.{AreOwnedBy, without_owner};
 ghost use Rattle.event_manager.specs.Exchange.{IsVacant};
-ghost use Rattle.event_manager.specs.ReadyList.{event_of_entry, ready_of};
+ghost use Rattle.event_manager.specs.Owners.{id_of};
+ghost use Rattle.event_manager.specs.ReadyList.{event_of_entry};
 ghost use Rattle.event_manager.specs.RegistrationState.{registrations_of, cancel_on, HasWaited};
 ghost use Rattle.event_manager.specs.Releasing.{IsWithout, HasReleased};
 ghost use Rattle.vmm_sys.specs.declared.errno.Errno.{Errno};
 
+use crate::cancelled::{cancelled_at, enter};
 use crate::events::Events;
+use crate::owners::{Owner, Owners};
 use crate::poller::EventPoller;
 use crate::watch_lists::WatchLists;
 use crate::{Error, Result};
 use std::alloc::{AllocError, Global};
-use std::collections::BTreeMap;
 use std::marker::Model;
-use vmm_sys::epoll::{ControlOperation, EpollEvent, EventSet};
+use vmm_sys::epoll::{ControlOperation, EpollEvent, EventSet, RawFd};
 use vmm_sys::errno::Errno;
 
 /// The descriptor of a reported entry, as the low half of its word.
@@ -29,36 +31,28 @@ pub(crate) fn fd_of(entry: &EpollEvent) -> u32
     (entry.data() % 4294967296) as u32
 }
 
-/// Marks the entries on a descriptor as cancelled, from place `at` up to place `count`.
-fn cancel_entries(buffer: &[EpollEvent], cancelled: &mut [bool], at: usize, count: usize, fd: u32)
-    requires order { at ≤ count }
-    requires within { count ≤ length buffer.now }
-    requires beside { length cancelled.old ≡ length buffer.now }
-    ensures { ready_of buffer.now cancelled.new at count ≡ cancel_on fd (ready_of buffer.now cancelled.old at count) }
+/// Takes out the owner of one descriptor, if it has one, and counts the owned ones.
+fn disown(owners: &mut Owners, owned: &mut usize, fd: u32)
+    requires { owned.old ≡ map.len owners.old }
+    ensures disowned { owners.new ≡ map.remove owners.old fd }
+    ensures counted { owned.new ≡ map.len owners.new }
+    ensures fewer { owned.new ≤ owned.old }
 {
-    let mut k = count;
-    while k > at {
-        k -= 1;
-        let hit = fd_of(&buffer[k]) == fd;
-        cancelled[k] = cancelled[k] | hit;
+    if owners.remove(fd).is_some() {
+        *owned -= 1;
     }
 }
 
-/// Takes the descriptors out of the map.
-fn remove_all(owner: &mut BTreeMap<u32, u64>, fds: &[u32])
-    ensures { IsWithout fds.now owner.old owner.new }
+/// Takes out the owners of the descriptors, and counts the owned ones.
+fn disown_all(owners: &mut Owners, owned: &mut usize, fds: &[u32])
+    requires { owned.old ≡ map.len owners.old }
+    ensures disowned { IsWithout fds.now owners.old owners.new }
+    ensures counted { owned.new ≡ map.len owners.new }
+    ensures fewer { owned.new ≤ owned.old }
 {
     for fd in fds {
-        let _ = owner.remove(fd);
+        disown(owners, owned, *fd);
     }
-}
-
-/// Clears the first `count` marks.
-fn clear_marks(cancelled: &mut [bool], count: usize)
-    requires { count ≤ length cancelled.old }
-    ensures { cancelled.new ≡ replicate count false ++ drop count cancelled.old }
-{
-    cancelled[..count].fill(false);
 }
 
 /// One entry of the ready list, whether it was cancelled, and whether it is on the endpoint's descriptor.
@@ -70,36 +64,38 @@ pub(crate) struct ReadyEntry {
 }
 
 /// Who owns which descriptor, both ways, and what is still to come of the current batch.
+///
+/// The list of cancelled descriptors has room for those in it and for all owned ones, so that a removal takes no memory.
 #[derive(Drop)]
 pub(crate) struct Registrations {
-    owner: BTreeMap<u32, u64>,
+    owners: Owners,
+    owned: usize,
     watched: WatchLists,
     endpoint: u32,
     buffer: Vec<EpollEvent>,
-    cancelled: Vec<bool>,
+    cancelled: Vec<RawFd>,
     at: usize,
     count: usize,
 }
 
 impl Model for Registrations {
-    ghost use Rattle.std.specs.Prelude.{◌≤◌, vec_len, ◌≡◌};
-    ghost use Rattle.std.specs.FinMap as map;
+    ghost use Rattle.std.specs.Prelude.{◌≤◌, vec_len, vec_capacity};
     ghost use Rattle.event_manager.specs.RegistrationState.{RegistrationState, registration_state_code};
-    ghost use Rattle.event_manager.specs.ReadyList.{ready_of, AreDescriptors};
-    ghost use Rattle.event_manager.specs.WatchLists.{AreWatched};
+    ghost use Rattle.event_manager.specs.ReadyList.{ready_of};
+    ghost use Rattle.event_manager.specs.Consistency.{AreConsistent};
 
     ghost Value = { RegistrationState };
 
     ghost coded = { registration_state_code };
 
     ghost view = { λ b. record {
-      owner = map.from_entries b.owner.entries;
+      owner = b.owners;
       endpoint = b.endpoint;
       capacity = vec_len b.buffer;
       ready = ready_of b.buffer.items b.cancelled.items b.at b.count;
     } };
 
-    ghost invariant = { λ b. (b.at ≤ b.count) × (b.count ≤ vec_len b.buffer) × (vec_len b.cancelled ≡ vec_len b.buffer) × AreDescriptors b.owner × AreWatched b.owner b.watched };
+    ghost invariant = { λ b. (b.at ≤ b.count) × (b.count ≤ vec_len b.buffer) × AreConsistent b.owners b.owned b.watched b.cancelled.items (vec_capacity b.cancelled) };
 }
 
 impl Registrations {
@@ -112,25 +108,24 @@ impl Registrations {
         ensures { IfOk result (λ r. r ≡ record { owner = map.empty; endpoint = endpoint; capacity = capacity; ready = [] }) }
     {
         let buffer = vec![in alloc; EpollEvent::new(EventSet::empty(), 0); capacity]?;
-        let cancelled = vec![in alloc; false; capacity]?;
         Ok(Registrations {
-            owner: BTreeMap::new(alloc),
+            owners: Owners::new(alloc),
+            owned: 0,
             watched: WatchLists::new(alloc),
             endpoint,
             buffer,
-            cancelled,
+            cancelled: Vec::new(alloc),
             at: 0,
             count: 0,
         })
     }
 
     /// Whether the descriptor may be added, as far as the registrations say.
-    #[tactic(auto, using(crate::proofs::TreeMaps::get_of_owner))]
     pub(crate) fn check_vacant(&self, events: Events) -> Result<()>
         ensures { IsVacant (registrations_of self.now) events result }
     {
         let fd = events.number();
-        if self.owner.contains_key(&fd) {
+        if self.owners.get(fd).is_some() {
             return Err(Error::FdAlreadyRegistered);
         }
         if fd == self.endpoint {
@@ -140,32 +135,38 @@ impl Registrations {
     }
 
     /// Whether the id owns the descriptor.
-    #[tactic(auto, using(crate::proofs::TreeMaps::get_of_owner))]
     pub(crate) fn is_owner(&self, id: u64, events: Events) -> bool
         ensures { IsTrue result ↔ Owns id (registrations_of self.now) events.fd }
     {
-        match self.owner.get(&events.number()) {
-            Some(owner) => *owner == id,
+        match self.owners.get(events.number()) {
+            Some(owner) => owner.id == id,
             None => false,
         }
     }
 
-    /// Enters the id as the owner of the descriptor, and the descriptor in its watch list. Where memory is refused,
-    /// both stay as they were.
-    pub(crate) fn register(&mut self, events: Events, id: u64) -> Result<()>
+    /// Enters the owner of the descriptor, and the descriptor in the watch list of the owner's id; makes the room that a
+    /// removal needs. Where memory is refused, all stays as it was.
+    pub(crate) fn register(&mut self, events: Events, owner: Owner) -> Result<()>
         requires { IsFree (registrations_of self.old) events.fd }
-        ensures ok { OnOk result (self.new ≡ record self.old { owner = map.insert self.old.owner events.fd id }) }
+        ensures ok { OnOk result (self.new ≡ record self.old { owner = map.insert self.old.owner events.fd owner.id }) }
         ensures err { IfErr result (λ e. (e ≡ Error.OutOfMemory) × (self.new ≡ self.old)) }
     {
         let fd = events.number();
-        match self.owner.insert(fd, id) {
-            Ok(_) => {}
+        match self.cancelled.reserve(self.owned + 1) {
+            Ok(()) => {}
             Err(_) => return Err(Error::OutOfMemory),
         }
-        match self.watched.push(id, fd) {
-            Ok(()) => Ok(()),
+        match self.owners.insert(fd, owner) {
+            Ok(()) => {}
+            Err(_) => return Err(Error::OutOfMemory),
+        }
+        match self.watched.insert(owner.id, fd) {
+            Ok(()) => {
+                self.owned += 1;
+                Ok(())
+            }
             Err(_) => {
-                let _ = self.owner.remove(&fd);
+                let _ = self.owners.remove(fd);
                 Err(Error::OutOfMemory)
             }
         }
@@ -177,30 +178,37 @@ impl Registrations {
         ensures { self.new ≡ record self.old { owner = map.remove self.old.owner events.fd } }
     {
         let fd = events.number();
-        let _ = self.owner.remove(&fd);
         self.watched.remove(id, fd);
+        disown(&mut self.owners, &mut self.owned, fd);
     }
 
-    /// Frees all descriptors of the id, and answers them in the order in which they were added. Takes no memory.
+    /// Frees a descriptor of the id's, and cancels its events that are still to come; where none is, no descriptor is
+    /// entered as cancelled. Takes no memory.
+    pub(crate) fn remove(&mut self, events: Events, id: u64)
+        requires { Owns id (registrations_of self.old) events.fd }
+        ensures { self.new ≡ record self.old { owner = map.remove self.old.owner events.fd; ready = cancel_on events.fd self.old.ready } }
+    {
+        let fd = events.number();
+        self.watched.remove(id, fd);
+        disown(&mut self.owners, &mut self.owned, fd);
+        if self.at < self.count {
+            enter(&mut self.cancelled, events.fd());
+        }
+    }
+
+    /// Frees all descriptors of the id, and answers them in ascending order. Takes no memory.
     pub(crate) fn take_watched(&mut self, id: u64) -> Vec<u32>
         ensures owned { AreOwnedBy id (registrations_of self.old) result.items }
         ensures are_descriptors { All (λ fd. fd < 2 ^ 31) result.items }
         ensures freed { self.new ≡ record self.old { owner = without_owner id self.old.owner } }
     {
         let fds = self.watched.take(id);
-        remove_all(&mut self.owner, &fds);
+        disown_all(&mut self.owners, &mut self.owned, &fds);
         fds
     }
 
-    /// Cancels the events on the descriptor that are still to come.
-    pub(crate) fn cancel(&mut self, events: Events)
-        ensures { self.new ≡ record self.old { ready = cancel_on events.fd self.old.ready } }
-    {
-        let fd = events.number();
-        cancel_entries(&self.buffer, &mut self.cancelled, self.at, self.count, fd);
-    }
-
-    /// Takes the next entry of the ready list.
+    /// Takes the next entry of the ready list. Where there is none the batch is over, and no descriptor is cancelled any
+    /// more.
     pub(crate) fn next_ready(&mut self) -> Option<ReadyEntry>
         ensures { MatchOption result ((self.old.ready ≡ []) × (self.new ≡ self.old))
             (λ t. (rest : List (Event × Bool)) × (self.old.ready ≡ (event_of_entry t.entry, t.cancelled) ∷ rest) × (self.new ≡ record self.old { ready = rest })
@@ -210,25 +218,25 @@ impl Registrations {
             let entry = self.buffer[self.at];
             let ready_entry = ReadyEntry {
                 entry,
-                cancelled: self.cancelled[self.at],
+                cancelled: cancelled_at(&self.cancelled, entry.fd()).0,
                 is_endpoint: fd_of(&entry) == self.endpoint,
             };
             self.at += 1;
             return Some(ready_entry);
         }
+        self.cancelled.clear();
         None
     }
 
-    /// The id that owns the descriptor of an entry.
-    #[tactic(auto, using(crate::proofs::TreeMaps::get_of_owner))]
-    pub(crate) fn owner(&self, entry: &EpollEvent) -> Option<u64>
-        ensures value { result ≡ map.get self.now.owner (event_of_entry entry.now).fd }
+    /// The owner of the descriptor of an entry.
+    pub(crate) fn owner(&self, entry: &EpollEvent) -> Option<Owner>
+        ensures value { id_of result ≡ map.get self.now.owner (event_of_entry entry.now).fd }
         ensures is_descriptor { IfSome result (λ _. (event_of_entry entry.now).fd < 2 ^ 31) }
     {
-        self.owner.get(&fd_of(entry)).copied()
+        self.owners.get(fd_of(entry))
     }
 
-    /// Waits for a batch, which takes the place of the one before. Takes no memory.
+    /// Waits for a batch, which takes the place of the one before, with no descriptor cancelled. Takes no memory.
     pub(crate) fn wait<P: EventPoller>(
         &mut self,
         poller: &mut P,
@@ -240,9 +248,9 @@ impl Registrations {
     {
         self.at = 0;
         self.count = 0;
+        self.cancelled.clear();
         match poller.wait_into(ms, &mut self.buffer) {
             Ok(count) => {
-                clear_marks(&mut self.cancelled, count);
                 self.count = count;
                 Ok(count)
             }
@@ -271,8 +279,8 @@ impl<P: EventPoller> EpollWrapper<P> {
         self.poller.control(op, events.number(), events)
     }
 
-    /// Frees all descriptors of the id, and asks the poller one Delete for each, in the order in which they were added
-    /// and whatever it answers. Takes no memory.
+    /// Frees all descriptors of the id, and asks the poller one Delete for each, in ascending order and
+    /// whatever it answers. Takes no memory.
     pub(crate) fn release(&mut self, id: u64)
         ensures { HasReleased P.controls P.waits self.old self.new id }
     {

@@ -10,6 +10,7 @@ ghost use Rattle.event_manager.specs.declared.events.Request.{Request};
 ghost use Rattle.vmm_sys.specs.EventSet.{bits_of};
 
 use crate::epoll::EpollWrapper;
+use crate::owners::Owner;
 use crate::poller::EventPoller;
 use crate::{Error, Result};
 use std::marker::Model;
@@ -182,7 +183,11 @@ impl<P: EventPoller> EventOps<P> {
             Ok(()) => {}
             Err(e) => return Err(e),
         }
-        match epoll.registrations.register(events, self.id) {
+        let owner = Owner {
+            id: self.id,
+            place: 0,
+        };
+        match epoll.registrations.register(events, owner) {
             Ok(()) => {}
             Err(e) => return Err(e),
         }
@@ -226,9 +231,7 @@ impl<P: EventPoller> EventOps<P> {
         }
         match epoll.ctl(ControlOperation::Delete, events) {
             Ok(()) => {
-                let registrations = &mut epoll.registrations;
-                registrations.unregister(events, self.id);
-                registrations.cancel(events);
+                epoll.registrations.remove(events, self.id);
                 Ok(())
             }
             Err(e) => Err(Error::Epoll(e)),

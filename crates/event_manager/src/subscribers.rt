@@ -167,13 +167,13 @@ impl<S: MutEventSubscriber, P: EventPoller> Registry<S, P> {
         if ready_entry.cancelled {
             return Some(ready_entry.is_endpoint);
         }
-        let Some(id) = self.ops.epoll.registrations.owner(&ready_entry.entry) else {
+        let Some(owner) = self.ops.epoll.registrations.owner(&ready_entry.entry) else {
             return Some(ready_entry.is_endpoint);
         };
-        let Some(subscriber) = self.subscribers.get_mut(&id) else {
+        let Some(subscriber) = self.subscribers.get_mut(&owner.id) else {
             return Some(ready_entry.is_endpoint);
         };
-        self.ops.id = id;
+        self.ops.id = owner.id;
         subscriber.process(Events::of_entry(&ready_entry.entry), &mut self.ops);
         Some(ready_entry.is_endpoint)
     }

@@ -1,15 +1,16 @@
 //! The watch list of each subscriber: which descriptors it owns.
 
-ghost use Rattle.std.specs.Prelude.{◌≡◌, ℕ, ◌++◌, [], ◌∷◌, OnOk, OnErr};
-ghost use Rattle.event_manager.specs.WatchLists.{watch_list, unwatched, HasList, HasSameLists};
+ghost use Rattle.std.specs.Prelude.{◌≡◌, ℕ, ◌+◌, ◌<◌, ◌≤◌, [], OnOk, OnErr, length, slice_index_or};
+ghost use Rattle.std.specs.List.Sorted.{IsNonDecreasing};
+ghost use Rattle.event_manager.specs.WatchLists.{watch_list, times_in, AreSorted, HasOneMore, HasList, HasSameLists, IsOneMore};
 
 use std::alloc::{AllocError, Global};
-use std::collections::BTreeMap;
+use std::collections::HashMap;
 
-/// The descriptors of each subscriber, by id, in the order in which they were added.
+/// The descriptors of each subscriber, by id; each list is in order, and searched by halving.
 #[derive(Drop)]
 pub(crate) struct WatchLists {
-    lists: BTreeMap<u64, Vec<u32>>,
+    lists: HashMap<u64, Vec<u32>>,
     alloc: Global,
 }
 
@@ -19,44 +20,49 @@ impl WatchLists {
         ensures { (i : ℕ) → watch_list result i ≡ [] }
     {
         WatchLists {
-            lists: BTreeMap::new(alloc),
+            lists: HashMap::new(alloc),
             alloc,
         }
     }
 
-    /// Puts the descriptor last in the list of the id. Where memory is refused, each list stays as it was.
-    pub(crate) fn push(&mut self, id: u64, fd: u32) -> std::result::Result<(), AllocError>
-        ensures ok { OnOk result (HasList self.old id (watch_list self.old id ++ fd ∷ []) self.new) }
+    /// Puts the descriptor into the list of the id. Where memory is refused, each list stays as it was.
+    pub(crate) fn insert(&mut self, id: u64, fd: u32) -> std::result::Result<(), AllocError>
+        requires { AreSorted self.old }
+        ensures sorted { AreSorted self.new }
+        ensures ok { OnOk result (HasOneMore self.old id fd self.new) }
         ensures err { OnErr result (HasSameLists self.old self.new) }
     {
-        if let Some(list) = self.lists.get_mut(&id) {
-            return match list.push(fd) {
-                Ok(()) => Ok(()),
-                Err(_) => Err(AllocError),
-            };
+        match self.lists.get_mut(&id) {
+            Some(list) => {
+                put_in(list, fd)?;
+                return Ok(());
+            }
+            None => {}
         }
         let mut list = Vec::new(self.alloc);
-        match list.push(fd) {
-            Ok(()) => {}
-            Err(_) => return Err(AllocError),
-        }
+        put_in(&mut list, fd)?;
         match self.lists.insert(id, list) {
             Ok(_) => Ok(()),
             Err(_) => Err(AllocError),
         }
     }
 
-    /// Takes the descriptor out of the list of the id. Takes no memory.
+    /// Takes a descriptor out of the list of the id. Takes no memory.
     pub(crate) fn remove(&mut self, id: u64, fd: u32)
-        ensures { HasList self.old id (unwatched fd (watch_list self.old id)) self.new }
+        requires sorted { AreSorted self.old }
+        requires listed { times_in (watch_list self.old id) fd ≡ 1 }
+        ensures sorted { AreSorted self.new }
+        ensures removed { HasOneMore self.new id fd self.old }
     {
         if let Some(list) = self.lists.get_mut(&id) {
-            list.retain(|watched| *watched != fd);
+            take_out(list, fd);
         }
     }
 
     /// Takes the whole list of the id. Takes no memory.
     pub(crate) fn take(&mut self, id: u64) -> Vec<u32>
+        requires { AreSorted self.old }
+        ensures sorted { AreSorted self.new }
         ensures value { result.items ≡ watch_list self.old id }
         ensures taken { HasList self.old id [] self.new }
     {
@@ -64,5 +70,45 @@ impl WatchLists {
             Some(list) => list,
             None => Vec::new(self.alloc),
         }
+    }
+}
+
+/// Where a descriptor stands in a list in order, or would stand.
+fn place_of(list: &[u32], fd: u32) -> usize
+    requires { IsNonDecreasing list.now }
+    ensures within { result ≤ length list.now }
+    ensures below { (k : ℕ) → k < result → slice_index_or list.now k 0 ≤ fd }
+    ensures above { (k : ℕ) → result ≤ k → k < length list.now → fd ≤ slice_index_or list.now k 0 }
+{
+    match list.binary_search(&fd) {
+        Ok(at) => at,
+        Err(at) => at,
+    }
+}
+
+/// Puts a descriptor at its place in a list in order.
+fn put_in(list: &mut Vec<u32>, fd: u32) -> std::result::Result<(), AllocError>
+    requires { IsNonDecreasing list.old.items }
+    ensures sorted { IsNonDecreasing list.new.items }
+    ensures ok { OnOk result (IsOneMore list.old.items fd list.new.items) }
+    ensures err { OnErr result (list.new.items ≡ list.old.items) }
+{
+    let at = place_of(list, fd);
+    list.insert(at, fd)?;
+    Ok(())
+}
+
+/// Takes a descriptor out of a list in order.
+fn take_out(list: &mut Vec<u32>, fd: u32)
+    requires sorted { IsNonDecreasing list.old.items }
+    requires listed { 0 < times_in list.old.items fd }
+    ensures sorted { IsNonDecreasing list.new.items }
+    ensures removed { IsOneMore list.new.items fd list.old.items }
+{
+    match list.binary_search(&fd) {
+        Ok(at) => {
+            let _ = list.remove(at);
+        }
+        Err(_) => {}
     }
 }

@@ -1,10 +1,23 @@
-use Rattle.std.proofs.Common.{◌≡◌, rules, arith}
-use Rattle.std.proofs.lemmas.Fn.{filter_same}
-use Rattle.std.proofs.lemmas.Grind.{common_steps}
-use Rattle.event_manager.specs.WatchLists.{unwatched}
+use Rattle.std.proofs.Common.{Some, refl, sym, ap, subst, IsSome}
+use Rattle.event_manager.specs.WatchLists.{items_or_none, IsOneMore}
+use Rattle.event_manager.specs.declared.watch_lists.WatchLists.{WatchLists}
+use Rattle.event_manager.proofs.ListChanges.{has_list, still_sorted, one_less}
 use Rattle.event_manager.proofs.watch_lists.WatchLists.remove.Goals as goal
 
-pub returns-in-Some : goal.returns-in-Some
-returns-in-Some c =
-    let kept : c.retain.new.self.items ≡ unwatched c.args.fd c.in-Some.list.now.items = filter_same _ _ _ (λ x b f' k. search rules) _ _ c.retain.ensures.filtered in
-    λ j. grind (arith, common_steps, kept, c.in-Some.ensures.value, c.get_mut.follows.holds c.retain.new.self)
+pub returns-in-Some-clause-sorted : goal.returns-in-Some-clause-sorted
+returns-in-Some-clause-sorted c =
+    let before = c.args.self.now in
+    let list = c.take_out.new.list in
+    let after : WatchLists = record { lists = c.get_mut.follows.lender list; alloc = before.alloc } in
+    let held = subst (λ o. IsSome o) c.in-Some.ensures.value refl in
+    let has = has_list before after c.args.id (Some list) ((c.get_mut.follows.holds list).3 held).0 in
+    still_sorted before after c.args.id list.items has c.requires.sorted c.take_out.ensures.sorted
+
+pub returns-in-Some-clause-removed : goal.returns-in-Some-clause-removed
+returns-in-Some-clause-removed c =
+    let before = c.args.self.now in
+    let list = c.take_out.new.list in
+    let after : WatchLists = record { lists = c.get_mut.follows.lender list; alloc = before.alloc } in
+    let held = subst (λ o. IsSome o) c.in-Some.ensures.value refl in
+    let has = has_list before after c.args.id (Some list) ((c.get_mut.follows.holds list).3 held).0 in
+    one_less before after c.args.id list.items has c.args.fd (subst (λ l. IsOneMore list.items c.args.fd l) (ap items_or_none c.in-Some.ensures.value) c.take_out.ensures.removed)
