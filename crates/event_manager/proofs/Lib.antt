@@ -19,6 +19,8 @@ pub mod OwnerMaps
 pub mod Ascending
 pub mod SortedLists
 pub mod ListChanges
+pub mod Counting
+pub mod Consistent
 pub mod Watching
 pub mod LentSteps
 pub mod Accounts

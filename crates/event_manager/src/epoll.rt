@@ -95,7 +95,7 @@ impl Model for Registrations {
       ready = ready_of b.buffer.items b.cancelled.items b.at b.count;
     } };
 
-    ghost invariant = { λ b. (b.at ≤ b.count) × (b.count ≤ vec_len b.buffer) × AreConsistent b.owners b.owned b.watched b.cancelled.items (vec_capacity b.cancelled) };
+    ghost invariant = { λ b. (b.at ≤ b.count) × (b.count ≤ vec_len b.buffer) × AreConsistent b.owners b.owned b.watched b.cancelled.items (vec_len b.cancelled) (vec_capacity b.cancelled) };
 }
 
 impl Registrations {

@@ -18,8 +18,7 @@ returns-in-Ok g c =
     let led = rw c.in-Ok.is at c.ctl.ensures.led in
     let s = c.args.self.now.epoll.registrations in
     let fd = c.args.events.fd in
-    let same = c.cancel.ensures
-    ∙ ap (λ (b : RegistrationState). record b { ready = cancel_on fd b.ready }) (c.unregister.ensures ∙ ap (λ (b : RegistrationState). record b { owner = remove b.owner fd }) c.ctl.ensures.registrations) in
+    let same = c.remove.ensures ∙ ap (λ (b : RegistrationState). record b { owner = remove b.owner fd; ready = cancel_on fd b.ready }) c.ctl.ensures.registrations in
     let left = ap registrations_of same ∙ ap (λ (l : List Event). record (registrations_of s) { owner = remove s.owner fd; pending = l }) (not_cancelled_cancel_on fd s.ready) in (
       Control operation.Delete fd c.args.events (Ok tt) ∷ [],
       one_made_through refl (by_agreement (c.is_owner.ensures.0 c.if-not-is_owner.false) refl refl left)
