@@ -5,6 +5,7 @@ pub mod ExchangeLemmas
 pub mod FiniteMaps
 pub mod Isolation
 pub mod PendingAfter
+pub mod PlaceLemmas
 pub mod Positions
 pub mod ProjectedDispatch
 pub mod ProjectedExchanges

@@ -15,6 +15,7 @@ pub mod events;
 pub mod jobs;
 pub mod laws;
 pub mod manager;
+mod places;
 pub mod poller;
 #[cfg(test)]
 mod subscriber_tests;
