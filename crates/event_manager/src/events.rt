@@ -165,6 +165,8 @@ pub enum Request {
 pub struct EventOps<P> {
     pub(crate) epoll: EpollWrapper<P>,
     pub(crate) id: u64,
+    // Where the subscriber is looked for first.
+    pub(crate) place: usize,
 }
 
 impl<P: EventPoller> EventOps<P> {
