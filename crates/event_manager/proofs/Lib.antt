@@ -6,6 +6,7 @@ pub mod FiniteMaps
 pub mod Isolation
 pub mod PendingAfter
 pub mod PlaceLemmas
+pub mod VacantPlaces
 pub mod Positions
 pub mod ProjectedDispatch
 pub mod ProjectedExchanges

@@ -1,23 +1,17 @@
--- What each change of a place does to the subscribers by id, to the index, and to the list of vacant places.
-use Rattle.std.proofs.Common.{◌≡◌, ◌≢◌, ◌⊎◌, ◌↔◌, ℕ, zero, suc, ◌+◌, ◌-◌, ◌<◌, ◌≤◌, List, [], ◌∷◌, ◌++◌, map, length, get_or, set, Option, Some, None, Bool, true, false, cond, is_some, IsSome, count_by, slice_get, refl, sym, ap, subst, ◌∙◌, inl, inr, arith, length-set, nat_eq, nat_cmp}
+-- What each change of a place does to the subscribers by id and to the index.
+use Rattle.std.proofs.Common.{◌≡◌, ◌≢◌, ◌⊎◌, ◌↔◌, ℕ, zero, suc, ◌<◌, List, [], ◌∷◌, ◌++◌, map, length, get_or, set, Option, Some, None, Bool, true, false, cond, is_some, IsSome, slice_get, refl, sym, ap, subst, ◌∙◌, inl, inr, arith, nat_eq, nat_cmp}
 use Rattle.std.proofs.lemmas.Bool.{cases_eq, cases_lt, false≢true}
 use Rattle.std.proofs.lemmas.Bool.Decides.{eqb_tells}
-use Rattle.std.proofs.lemmas.List.{map-set, map_push, length-map, length_push, get_or-map, get_or-set_same, get_or-set_other, get_or_past, get_or_push}
-use Rattle.std.proofs.lemmas.List.Sums.{sum_by-set, sum_by_push}
+use Rattle.std.proofs.lemmas.List.{map-set, length-map, get_or-map, get_or-set_same, get_or-set_other, get_or_past}
 use Rattle.std.proofs.lemmas.Option.{slice_get_within, slice_get-get_or, get_or_from_slice_get}
 use Rattle.std.specs.Cmp.{nat_cmp_total, tied_itself}
 use Rattle.std.specs.Ordering.{eq_by_cmp, is_eq}
 use Rattle.std.specs.FinMap.{FinMap, find, get, insert, remove, same_map, get-insert, get-remove, get-from_entries, nat_cmp-IsAntisymmetric}
 use Rattle.event_manager.specs.declared.places.Place.{Place}
 use Rattle.event_manager.specs.declared.places.Place.TheVariants.{Held, Vacant}
-use Rattle.event_manager.specs.Places.{id_of, subscriber_of, is_vacant, with_subscriber, id_at, subscriber_at, entries_of, values_of, AreIndexed, IsList, AreLinked, AreKept, HaveSameHolders}
+use Rattle.event_manager.specs.Places.{id_of, subscriber_of, with_subscriber, id_at, subscriber_at, entries_of, values_of, AreIndexed, AreLinked, AreSound, HaveSameHolders}
 use Rattle.event_manager.proofs.FiniteMaps.{nat_tied, fd_tells}
-
-none_some : {A : Type 0} (x : A) → None ≡ Some x → ⊥
-none_some x e = cc
-
-same_some : {A : Type 0} (x y : A) → Some x ≡ Some y → x ≡ y
-same_some x y e = cc
+use Rattle.event_manager.proofs.VacantPlaces.{none_some, same_some, linked_fill, linked_vacate, linked_rewrite}
 
 module _ {S : Type 0} where
   -- who stands at a place after a write
@@ -141,7 +135,7 @@ module _ {S : Type 0} where
     found_other j other None is = refl
     found_other j other (Some k) is = subscriber_at-set_other places place k e (λ same. other (was j (ap (id_at places) (sym same) ∙ (indexed j k).0 is)))
 
-    pub get_set : (j : ℕ) → get (values_of (set places place e)) j ≡ cond (eq_by_cmp nat_cmp j id) (subscriber_of e) (get (values_of places) j)
+    get_set : (j : ℕ) → get (values_of (set places place e)) j ≡ cond (eq_by_cmp nat_cmp j id) (subscriber_of e) (get (values_of places) j)
     get_set j =
         get_of_places (set places place e) later j indexed_set
         ∙ elim (fd_tells j id) [
@@ -154,95 +148,6 @@ module _ {S : Type 0} where
 
     pub removed : subscriber_of e ≡ None → values_of (set places place e) ≡ remove (values_of places) id
     removed is = same_map nat_cmp_total nat_cmp-IsAntisymmetric _ _ (λ j. get_set j ∙ ap (λ o. cond (eq_by_cmp nat_cmp j id) o (get (values_of places) j)) is ∙ sym (get-remove nat_cmp_total (values_of places) id j))
-
-  -- the list of vacant places
-  IsList-count : (places : List (Place S)) (m n : ℕ) (first : Option ℕ) → IsList places m first → IsList places n first → m ≡ n
-  IsList-count places zero zero first p q = refl
-  IsList-count places zero (suc n) first p q = absurd (none_some q.0 (sym p ∙ q.2))
-  IsList-count places (suc m) zero first p q = absurd (none_some p.0 (sym q ∙ p.2))
-  IsList-count places (suc m) (suc n) first p q =
-      let at = p.2 in
-      let other = q.2 in
-      let here = p.3 in
-      let there = q.3 in
-      let same_place : q.0 ≡ p.0 = cc in
-      let same : q.1 ≡ p.1 = next_is places p.0 q.1 p.1 (subst (λ k. slice_get places k ≡ Some (Vacant q.1)) same_place there) here in
-      ap suc (IsList-count places m n p.1 p.4 (subst (IsList places n) same q.4))
-    where
-      next_is : (places : List (Place S)) (k : ℕ) (a b : Option ℕ) → slice_get places k ≡ Some (Vacant a) → slice_get places k ≡ Some (Vacant b) → a ≡ b
-      next_is places k a b is also = cc
-
-  -- a write at a place that isn't on the list keeps the list
-  IsList-set : (places : List (Place S)) (place : ℕ) (e : Place S) (n : ℕ) (first : Option ℕ) → ((m : ℕ) → m < n → IsList places (suc m) (Some place) → ⊥) → IsList places n first → IsList (set places place e) n first
-  IsList-set places place e zero first off p = p
-  IsList-set places place e (suc n) first off p =
-      let other : p.0 ≢ place = λ same. off n (omega arith) (subst (λ o. IsList places (suc n) o) (p.2 ∙ ap Some same) p) in
-      let within = slice_get_within places p.0 _ p.3 in
-      let kept : slice_get (set places place e) p.0 ≡ Some (Vacant p.1) =
-      slice_get-get_or (set places place e) p.0 e (omega (arith, length-set places place e))
-      ∙ ap Some (get_or-set_other places place p.0 e e other ∙ get_or_from_slice_get places p.0 _ e p.3) in
-      (p.0, p.1, p.2, kept, IsList-set places place e n p.1 (λ m below. off m (omega arith)) p.4)
-
-  held_is_off_list : (places : List (Place S)) (place id : ℕ) (subscriber : S) → slice_get places place ≡ Some (Held id subscriber) → (m : ℕ) → IsList places (suc m) (Some place) → ⊥
-  held_is_off_list places place id subscriber found m p = apart places place id subscriber p.1 found (subst (λ k. slice_get places k ≡ Some (Vacant p.1)) (same_some p.0 place (sym p.2)) p.3)
-    where
-      apart : (places : List (Place S)) (place id : ℕ) (subscriber : S) (next : Option ℕ) → slice_get places place ≡ Some (Held id subscriber) → slice_get places place ≡ Some (Vacant next) → ⊥
-      apart places place id subscriber next held vacant = cc
-
-  -- how many are vacant after a write
-  vacant_count : (places : List (Place S)) (place : ℕ) (old new : Place S) → slice_get places place ≡ Some old
-      → count_by is_vacant (set places place new) + cond (is_vacant old) 1 0 ≡ count_by is_vacant places + cond (is_vacant new) 1 0
-  vacant_count places place old new found =
-      let within = slice_get_within places place old found in
-      rw (get_or_from_slice_get places place old old found) at (sum_by-set (λ x. cond (is_vacant x) 1 0) places place new old within)
-
-  -- the first vacant place is filled
-  pub linked_fill : (places : List (Place S)) (place : ℕ) (next : Option ℕ) (id : ℕ) (subscriber : S) → AreLinked places (Some place) → slice_get places place ≡ Some (Vacant next) → AreLinked (set places place (Held id subscriber)) next
-  linked_fill places place next id subscriber linked found = by_count (count_by is_vacant places) refl linked
-    where
-      by_count : (n : ℕ) → count_by is_vacant places ≡ n → IsList places n (Some place) → AreLinked (set places place (Held id subscriber)) next
-      by_count zero is p = absurd (none_some place (sym p))
-      by_count (suc n) is p =
-          let counted = vacant_count places place (Vacant next) (Held id subscriber) found in
-          let fewer : n ≡ count_by is_vacant (set places place (Held id subscriber)) = omega arith in
-          let same : p.1 ≡ next = next_is (subst (λ k. slice_get places k ≡ Some (Vacant p.1)) (same_some p.0 place (sym p.2)) p.3) in
-          let off : (m : ℕ) → m < n → IsList places (suc m) (Some place) → ⊥ = λ m below q. omega (arith, IsList-count places (suc m) (suc n) (Some place) q p) in
-          subst (λ count. IsList (set places place (Held id subscriber)) count next) fewer (IsList-set places place (Held id subscriber) n next off (subst (IsList places n) same p.4))
-        where
-          next_is : {a : Option ℕ} → slice_get places place ≡ Some (Vacant a) → a ≡ next
-          next_is is = cc
-
-  -- a held place falls vacant, and is the first then
-  pub linked_vacate : (places : List (Place S)) (place : ℕ) (first : Option ℕ) (id : ℕ) (subscriber : S) → AreLinked places first → slice_get places place ≡ Some (Held id subscriber) → AreLinked (set places place (Vacant first)) (Some place)
-  linked_vacate places place first id subscriber linked found =
-      let within = slice_get_within places place _ found in
-      let counted = vacant_count places place (Held id subscriber) (Vacant first) found in
-      let more : suc (count_by is_vacant places) ≡ count_by is_vacant (set places place (Vacant first)) = omega arith in
-      let written : slice_get (set places place (Vacant first)) place ≡ Some (Vacant first) =
-      slice_get-get_or _ place (Vacant first) (omega (arith, length-set places place (Vacant first))) ∙ ap Some (get_or-set_same places place (Vacant first) (Vacant first) within) in
-      subst (λ count. IsList (set places place (Vacant first)) count (Some place)) more
-      (place, first, refl, written, IsList-set places place (Vacant first) (count_by is_vacant places) first (λ m _. held_is_off_list places place id subscriber found m) linked)
-
-  -- a held place has another subscriber
-  pub linked_rewrite : (places : List (Place S)) (place : ℕ) (first : Option ℕ) (id : ℕ) (old new : S) → AreLinked places first → slice_get places place ≡ Some (Held id old) → AreLinked (set places place (Held id new)) first
-  linked_rewrite places place first id old new linked found =
-      let counted = vacant_count places place (Held id old) (Held id new) found in
-      let same : count_by is_vacant places ≡ count_by is_vacant (set places place (Held id new)) = omega arith in
-      subst (λ count. IsList (set places place (Held id new)) count first) same
-      (IsList-set places place (Held id new) (count_by is_vacant places) first (λ m _. held_is_off_list places place id old found m) linked)
-
-  -- one more place, where none is vacant
-  pub linked_push : (places : List (Place S)) (place : ℕ) → place ≡ length places → AreLinked places None → AreLinked (places ++ Vacant None ∷ []) (Some place)
-  linked_push places place last linked = subst (λ k. AreLinked (places ++ Vacant None ∷ []) (Some k)) (sym last) (by_count (count_by is_vacant places) refl linked)
-    where
-      by_count : (n : ℕ) → count_by is_vacant places ≡ n → IsList places n None → AreLinked (places ++ Vacant None ∷ []) (Some (length places))
-      by_count zero is p =
-          let counted = sum_by_push (λ x. cond (is_vacant x) 1 0) places (Vacant None) in
-          let one : 1 ≡ count_by is_vacant (places ++ Vacant None ∷ []) = omega arith in
-          let there : slice_get (places ++ Vacant None ∷ []) (length places) ≡ Some (Vacant None) =
-          slice_get-get_or _ (length places) (Vacant None) (omega (arith, length_push places (Vacant None))) ∙ ap Some (get_or_push places (Vacant None) (Vacant None) (length places) refl) in
-          subst (λ count. IsList (places ++ Vacant None ∷ []) count (Some (length places))) one (length places, None, refl, there, refl)
-      by_count (suc n) is p = absurd (none_some p.0 p.2)
 
   -- a vacant place more at the end is no subscriber more
   id_at_push : (places : List (Place S)) (next : Option ℕ) (k : ℕ) → id_at (places ++ Vacant next ∷ []) k ≡ id_at places k
@@ -298,11 +203,6 @@ module _ {S : Type 0} where
       ∙ get_or-map subscriber_of places place e None within
       ∙ ap subscriber_of (sym read)
 
-  -- a place is held by an id where it is read so
-  pub held_read : (places : List (Place S)) (place id : ℕ) (e : Place S) → slice_get places place ≡ Some e → id_of e ≡ Some id → id_at places place ≡ Some id
-  held_read places place id e found is =
-      get_or-map id_of places place e None (slice_get_within places place e found) ∙ ap id_of (get_or_from_slice_get places place e e found) ∙ is
-
   -- an id has a subscriber where it has a place
   pub index_tells : (places : List (Place S)) (index : ℕ → Option ℕ) (id : ℕ) → AreIndexed places index → (o : Option ℕ) → index id ≡ o → is_some o ≡ is_some (get (values_of places) id)
   index_tells places index id indexed None is = ap is_some (sym (get_of_places places index id indexed ∙ ap (at_index places) is))
@@ -322,7 +222,7 @@ module _ {S : Type 0} where
       none_if (Some k) is = absurd (false≢true (sym is))
 
   -- another subscriber at the place of an id
-  module _ (places : List (Place S)) (first : Option ℕ) (index : ℕ → Option ℕ) (id place : ℕ) (e : Place S) (kept : AreKept places first index) (held : id_at places place ≡ Some id) (read : e ≡ get_or places place e) (subscriber : S) where
+  module _ (places : List (Place S)) (first : Option ℕ) (index : ℕ → Option ℕ) (id place : ℕ) (e : Place S) (kept : AreSound places first index) (held : id_at places place ≡ Some id) (read : e ≡ get_or places place e) (subscriber : S) where
     same_index : (j : ℕ) → index j ≡ cond (nat_eq id j) (Some place) (index j)
     same_index j =
         elim (eqb_tells id j) [
@@ -330,10 +230,10 @@ module _ {S : Type 0} where
           | inr p ↦ sym (ap (λ b. cond b (Some place) (index j)) p.0)
         ]
 
-    pub kept_rewrite : AreKept (set places place (with_subscriber e subscriber)) first index
-    kept_rewrite =
+    pub sound_rewrite : AreSound (set places place (with_subscriber e subscriber)) first index
+    sound_rewrite =
         let there = held_entry places place id held in
-        subst (λ x. AreKept (set places place (with_subscriber x subscriber)) first index) (sym (read ∙ get_or_from_slice_get places place _ e there.1)) (record {
+        subst (λ x. AreSound (set places place (with_subscriber x subscriber)) first index) (sym (read ∙ get_or_from_slice_get places place _ e there.1)) (record {
           indexed = indexed_set places index index id place (Held id subscriber) kept.indexed (held_within places place id held) (λ j is. same_some j id (sym is ∙ held)) (λ j is. sym (same_some id j is))
               (λ k is. same_some k place (sym is ∙ (kept.indexed id place).1 held)) same_index;
           linked = linked_rewrite places place first id there.0 subscriber kept.linked there.1;
@@ -346,27 +246,6 @@ module _ {S : Type 0} where
         ∙ inserted places index index id place (Held id subscriber) kept.indexed (held_within places place id held) (λ j is. same_some j id (sym is ∙ held)) (λ j is. sym (same_some id j is))
         (λ k is. same_some k place (sym is ∙ (kept.indexed id place).1 held)) same_index subscriber refl
 
-  -- the first place of the list is vacant
-  pub first_is_vacant : (places : List (Place S)) (place : ℕ) → AreLinked places (Some place) → (next : Option ℕ) × (slice_get places place ≡ Some (Vacant next))
-  first_is_vacant places place linked = by_count (count_by is_vacant places) linked
-    where
-      by_count : (n : ℕ) → IsList places n (Some place) → (next : Option ℕ) × (slice_get places place ≡ Some (Vacant next))
-      by_count zero p = absurd (none_some place (sym p))
-      by_count (suc n) p = (p.1, subst (λ k. slice_get places k ≡ Some (Vacant p.1)) (same_some p.0 place (sym p.2)) p.3)
-
-  pub read_vacant : (places : List (Place S)) (place : ℕ) (e : Place S) → AreLinked places (Some place) → e ≡ get_or places place e → slice_get places place ≡ Some e
-  read_vacant places place e linked read =
-      let there = first_is_vacant places place linked in
-      there.1 ∙ ap Some (sym (read ∙ get_or_from_slice_get places place _ e there.1))
-
-  pub vacant_is_not_held : (places : List (Place S)) (place id : ℕ) (subscriber : S) → AreLinked places (Some place) → slice_get places place ≡ Some (Held id subscriber) → ⊥
-  vacant_is_not_held places place id subscriber linked found =
-      let there = first_is_vacant places place linked in
-      apart there.0 there.1
-    where
-      apart : (next : Option ℕ) → slice_get places place ≡ Some (Vacant next) → ⊥
-      apart next vacant = cc
-
   -- a vacant place is given to an id that nobody has
   module _ (places : List (Place S)) (index later : ℕ → Option ℕ) (id place : ℕ) (next : Option ℕ) (subscriber : S) (indexed : AreIndexed places index) (linked : AreLinked places (Some place)) (found : slice_get places place ≡ Some (Vacant next))
       (none : get (values_of places) id ≡ None) (changed : (j : ℕ) → later j ≡ cond (nat_eq id j) (Some place) (index j)) where
@@ -376,8 +255,8 @@ module _ {S : Type 0} where
     nowhere : (k : ℕ) → index id ≡ Some k → k ≡ place
     nowhere k is = absurd (none_some k (sym (no_subscriber places index id indexed none) ∙ is))
 
-    pub kept_fill : AreKept (set places place (Held id subscriber)) next later
-    kept_fill = record {
+    pub sound_fill : AreSound (set places place (Held id subscriber)) next later
+    sound_fill = record {
       indexed = indexed_set places index later id place (Held id subscriber) indexed (slice_get_within places place _ found) nobody (λ j is. sym (same_some id j is)) nowhere changed;
       linked = linked_fill places place next id subscriber linked found;
     }
@@ -386,12 +265,12 @@ module _ {S : Type 0} where
     values_fill = inserted places index later id place (Held id subscriber) indexed (slice_get_within places place _ found) nobody (λ j is. sym (same_some id j is)) nowhere changed subscriber refl
 
   -- the place of an id falls vacant
-  module _ (places : List (Place S)) (first : Option ℕ) (index later : ℕ → Option ℕ) (id place : ℕ) (kept : AreKept places first index) (is : index id ≡ Some place) (changed : (j : ℕ) → later j ≡ cond (nat_eq id j) None (index j)) where
+  module _ (places : List (Place S)) (first : Option ℕ) (index later : ℕ → Option ℕ) (id place : ℕ) (kept : AreSound places first index) (is : index id ≡ Some place) (changed : (j : ℕ) → later j ≡ cond (nat_eq id j) None (index j)) where
     held : id_at places place ≡ Some id
     held = (kept.indexed id place).0 is
 
-    pub kept_vacate : AreKept (set places place (Vacant first)) (Some place) later
-    kept_vacate =
+    pub sound_vacate : AreSound (set places place (Vacant first)) (Some place) later
+    sound_vacate =
         let there = held_entry places place id held in
         record {
           indexed = indexed_set places index later id place (Vacant first) kept.indexed (held_within places place id held) (λ j other. same_some j id (sym other ∙ held)) (λ j none. absurd (none_some j none)) (λ k other. same_some k place (sym other ∙ is)) changed;

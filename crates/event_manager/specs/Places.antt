@@ -45,15 +45,16 @@ module _ {S : Type 0} where
   AreIndexed places index = (id place : ℕ) → (index id ≡ Some place) ↔ (id_at places place ≡ Some id)
 
   -- so many vacant places stand on the list: each names the next, and the last names none
-  abbrev pub IsList : List (Place S) → ℕ → Option ℕ → Type 0
-  IsList places zero first = first ≡ None
-  IsList places (suc count) first = (place : ℕ) × (next : Option ℕ) × (first ≡ Some place) × (slice_get places place ≡ Some (Vacant next)) × IsList places count next
+  abbrev pub IsVacantList : List (Place S) → ℕ → Option ℕ → Type 0
+  IsVacantList places zero first = first ≡ None
+  IsVacantList places (suc count) first = (place : ℕ) × (next : Option ℕ) × (first ≡ Some place) × (slice_get places place ≡ Some (Vacant next)) × IsVacantList places count next
 
   -- all vacant places stand on the list
   abbrev pub AreLinked : List (Place S) → Option ℕ → Type 0
-  AreLinked places first = IsList places (count_by is_vacant places) first
+  AreLinked places first = IsVacantList places (count_by is_vacant places) first
 
-  pub record AreKept (places : List (Place S)) (first : Option ℕ) (index : ℕ → Option ℕ) : Type 0 where
+  -- the index names the held places, and the list the vacant ones
+  pub record AreSound (places : List (Place S)) (first : Option ℕ) (index : ℕ → Option ℕ) : Type 0 where
     pub indexed : AreIndexed places index
     pub linked : AreLinked places first
 

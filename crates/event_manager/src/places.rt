@@ -1,6 +1,6 @@
 //! The places of the subscribers: a delivery finds its subscriber at its place, without a search.
 
-ghost use Rattle.std.specs.Prelude.{◌≡◌, ◌↔◌, ℕ, ◌<◌, ◌++◌, length, slice_set, IsTrue, IfNone, IfOk, OnSome, OnOk, OnErr, MatchOption, Option, Some, None, is_some, IsSome, nat_eq};
+ghost use Rattle.std.specs.Prelude.{◌≡◌, ◌↔◌, ℕ, ◌<◌, ◌++◌, length, slice_set, IsTrue, IfNone, IfSome, IfOk, OnSome, OnOk, OnErr, MatchOption, Option, Some, None, is_some, IsSome, nat_eq};
 ghost use Rattle.std.specs.Option.{option_copied_mut};
 ghost use Rattle.std.specs.Borrow.{Lends, LendsIf, sem};
 ghost use Rattle.std.specs.FinMap as map;
@@ -69,11 +69,11 @@ impl<S> Model for SubscriberPlaces<S> {
 
     ghost coded = { map.code coded_ℕ S.code };
 
-    ghost use Rattle.event_manager.specs.Places.{values_of, AreKept};
+    ghost use Rattle.event_manager.specs.Places.{values_of, AreSound};
 
     ghost view = { λ s. values_of s.places.items };
 
-    ghost invariant = { λ s. AreKept s.places.items s.first_vacant (get nat_eq s.index) };
+    ghost invariant = { λ s. AreSound s.places.items s.first_vacant (get nat_eq s.index) };
 }
 
 /// The place that holds the id: looked for at the hint first, and by the index only where it isn't held there.
@@ -102,6 +102,7 @@ fn vacant_place<S: Drop>(
 ) -> Result<usize, AllocError>
     requires { AreLinked places.old.items first_vacant.old }
     ensures first { IfOk result (λ place. first_vacant.new ≡ Some place) }
+    ensures reused { IfSome first_vacant.old (λ _. places.new.items ≡ places.old.items) }
     ensures linked { AreLinked places.new.items first_vacant.new }
     ensures holders { HaveSameHolders places.old.items places.new.items }
 {

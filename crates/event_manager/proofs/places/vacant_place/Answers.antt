@@ -1,5 +1,6 @@
 use Rattle.std.proofs.Common.{None, arith}
-use Rattle.event_manager.proofs.PlaceLemmas.{linked_push, same_holders_push}
+use Rattle.event_manager.proofs.PlaceLemmas.{same_holders_push}
+use Rattle.event_manager.proofs.VacantPlaces.{linked_push}
 use Rattle.event_manager.proofs.places.vacant_place.Goals as goal
 
 pub returns-clause-linked : goal.returns-clause-linked

@@ -1,6 +1,6 @@
-use Rattle.std.proofs.Common.{◌∙◌, sym, refl, ap, arith}
+use Rattle.std.proofs.Common.{◌∙◌, sym, ap, arith}
 use mathlib.Core.Logic.{inl, inr}
-use Rattle.event_manager.proofs.PlaceLemmas.{read_id, read_subscriber, held_within, kept_rewrite, values_rewrite, no_place}
+use Rattle.event_manager.proofs.PlaceLemmas.{read_id, read_subscriber, held_within, sound_rewrite, values_rewrite, no_place}
 use Rattle.event_manager.proofs.places.SubscriberPlaces.get_mut.Goals as goal
 
 pub index_mut-requires : goal.index_mut-requires
@@ -10,7 +10,7 @@ pub subscriber_mut-requires : goal.subscriber_mut-requires
 subscriber_mut-requires g c = read_id c.self.inside.places.items c.in-Some.place c.args.id c.index_mut.result.now ((c.self.invariant.indexed c.args.id c.in-Some.place).0 (sym (c.copied.ensures ∙ c.get.ensures.value) ∙ c.in-Some.is)) c.index_mut.ensures.value
 
 pub invariant_of-self-lent : goal.invariant_of-self-lent
-invariant_of-self-lent g c w = kept_rewrite _ _ _ c.args.id c.in-Some.place c.index_mut.result.now c.self.invariant ((c.self.invariant.indexed c.args.id c.in-Some.place).0 (sym (c.copied.ensures ∙ c.get.ensures.value) ∙ c.in-Some.is)) c.index_mut.ensures.value w
+invariant_of-self-lent g c w = sound_rewrite _ _ _ c.args.id c.in-Some.place c.index_mut.result.now c.self.invariant ((c.self.invariant.indexed c.args.id c.in-Some.place).0 (sym (c.copied.ensures ∙ c.get.ensures.value) ∙ c.in-Some.is)) c.index_mut.ensures.value w
 
 pub returns-in-Some : goal.returns-in-Some
 returns-in-Some g c =

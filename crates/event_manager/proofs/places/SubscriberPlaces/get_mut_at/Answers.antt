@@ -1,13 +1,13 @@
-use Rattle.std.proofs.Common.{◌∙◌, sym, refl, ap, arith}
+use Rattle.std.proofs.Common.{◌∙◌, sym, ap}
 use mathlib.Core.Logic.{inl, inr}
-use Rattle.event_manager.proofs.PlaceLemmas.{read_id, read_subscriber, held_within, kept_rewrite, values_rewrite, no_place}
+use Rattle.event_manager.proofs.PlaceLemmas.{read_subscriber, sound_rewrite, values_rewrite, no_place}
 use Rattle.event_manager.proofs.places.SubscriberPlaces.get_mut_at.Goals as goal
 
 pub place_by_hint-requires : goal.place_by_hint-requires
 place_by_hint-requires g c = rw c.deref.ensures.value c.self.invariant.indexed
 
 pub invariant_of-self-lent : goal.invariant_of-self-lent
-invariant_of-self-lent g c w = kept_rewrite _ _ _ c.args.id c.in-Some.place c.index_mut.result.now c.self.invariant (rw c.deref.ensures.value at c.in-Some.ensures) c.index_mut.ensures.value w
+invariant_of-self-lent g c w = sound_rewrite _ _ _ c.args.id c.in-Some.place c.index_mut.result.now c.self.invariant (rw c.deref.ensures.value at c.in-Some.ensures) c.index_mut.ensures.value w
 
 pub returns-in-Some : goal.returns-in-Some
 returns-in-Some g c =

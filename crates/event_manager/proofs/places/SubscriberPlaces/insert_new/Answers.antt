@@ -1,7 +1,8 @@
 use Rattle.std.proofs.Common.{Some, ◌∙◌, sym, ap, arith, nat_eq}
 use Rattle.std.specs.Map.{lookup}
 use Rattle.std.proofs.lemmas.Option.{slice_get_within}
-use Rattle.event_manager.proofs.PlaceLemmas.{first_is_vacant, read_vacant, vacant_is_not_held, kept_fill, values_fill, indexed_same, indexed_again}
+use Rattle.event_manager.proofs.VacantPlaces.{first_is_vacant, read_vacant, vacant_is_not_held}
+use Rattle.event_manager.proofs.PlaceLemmas.{sound_fill, values_fill, indexed_same, indexed_again}
 use Rattle.event_manager.proofs.places.SubscriberPlaces.insert_new.Goals as goal
 
 pub invariant_of-self : goal.invariant_of-self
@@ -25,7 +26,7 @@ invariant_of-self-in-Vacant g c =
     let vacant = read_vacant _ c.in_ok-place.place c.index_mut.result.now linked c.index_mut.ensures.value ∙ ap Some (sym c.replace.ensures.value ∙ c.in-Vacant.is) in
     let same = c.vacant_place.ensures.holders in
     rw c.replace.ensures.after
-    (kept_fill _ _ _ c.args.id c.in_ok-place.place c.in-Vacant.next c.args.subscriber (indexed_same _ _ _ same c.self.invariant.indexed) linked vacant
+    (sound_fill _ _ _ c.args.id c.in_ok-place.place c.in-Vacant.next c.args.subscriber (indexed_same _ _ _ same c.self.invariant.indexed) linked vacant
     (rw (same.values, c.self.view_is) c.requires) c.in-Ok.ensures.updates.0)
 
 pub unreachable-requires : goal.unreachable-requires

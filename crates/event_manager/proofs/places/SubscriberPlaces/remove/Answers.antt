@@ -1,8 +1,7 @@
-use Rattle.std.proofs.Common.{◌≡◌, Some, ◌∙◌, sym, refl, ap, arith}
+use Rattle.std.proofs.Common.{◌∙◌, sym, ap, arith}
 use Rattle.std.proofs.lemmas.Bool.{false≢true}
-use Rattle.event_manager.specs.Places.{id_of, subscriber_of}
-use Rattle.event_manager.specs.declared.places.Place.TheVariants.{Held, Vacant}
-use Rattle.event_manager.proofs.PlaceLemmas.{read_id, read_subscriber, held_within, kept_vacate, values_vacate, no_place}
+use Rattle.event_manager.specs.Places.{subscriber_of}
+use Rattle.event_manager.proofs.PlaceLemmas.{read_id, read_subscriber, held_within, sound_vacate, values_vacate, no_place}
 use Rattle.event_manager.proofs.places.SubscriberPlaces.remove.Goals as goal
 
 pub returns-in_default-clause-value : goal.returns-in_default-clause-value
@@ -14,7 +13,7 @@ index_mut-requires g c =
 
 pub invariant_of-self-in-Held : goal.invariant_of-self-in-Held
 invariant_of-self-in-Held g c =
-    rw c.replace.ensures.after (kept_vacate _ _ _ _ c.args.id c.in-Some.place c.self.invariant (sym c.in-Some.ensures.value) c.remove.ensures.updates.0)
+    rw c.replace.ensures.after (sound_vacate _ _ _ _ c.args.id c.in-Some.place c.self.invariant (sym c.in-Some.ensures.value) c.remove.ensures.updates.0)
 
 pub unreachable-requires : goal.unreachable-requires
 unreachable-requires g c =

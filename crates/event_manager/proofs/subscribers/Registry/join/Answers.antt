@@ -1,4 +1,4 @@
-use Rattle.std.proofs.Common.{◌≡◌, Some, None, refl, sym, ap, ◌∙◌, inr, arith, ◌+◌, subst, []}
+use Rattle.std.proofs.Common.{◌≡◌, Some, None, refl, ap, ◌∙◌, inr, arith, ◌+◌, subst, []}
 use Rattle.std.specs.FinMap.{insert, get}
 use Rattle.event_manager.proofs.TreeMaps.{insert_twice, get_same, some_is}
 use Rattle.event_manager.proofs.ExchangeLemmas.{idle_fits}
