@@ -217,3 +217,6 @@ impl<S> SubscriberPlaces<S> {
         }
     }
 }
+
+#[cfg(test)]
+mod tests;

@@ -17,6 +17,8 @@ pub mod forms;
 #[cfg(test)]
 mod jobs;
 #[cfg(test)]
+mod joins;
+#[cfg(test)]
 mod log;
 #[cfg(test)]
 mod making;
