@@ -1,6 +1,6 @@
 //! The places of the subscribers: a delivery finds its subscriber at its place, without a search.
 
-ghost use Rattle.std.specs.Prelude.{◌≡◌, ◌↔◌, ℕ, ◌<◌, ◌++◌, length, slice_set, IsTrue, IfNone, IfSome, IfOk, OnSome, OnOk, OnErr, MatchOption, Option, Some, None, is_some, IsSome, nat_eq};
+ghost use Rattle.std.specs.Prelude.{◌≡◌, ◌↔◌, IsTrue, IfNone, IfSome, IfOk, OnSome, OnOk, OnErr, MatchOption, Some, None, is_some, IsSome, nat_eq};
 ghost use Rattle.std.specs.Option.{option_copied_mut};
 ghost use Rattle.std.specs.Borrow.{Lends, LendsIf, sem};
 ghost use Rattle.std.specs.FinMap as map;
