@@ -110,20 +110,20 @@ module _ (list : List ℤ) (fd : ℤ) (at : ℕ) (place : IsPlaceOf list fd fals
   up_from up i j d l past within = elim (cases_lt i at) [
     | inl less ↦ omega (arith, ints, before i d less, after j d past, up i (j - 1) d (omega (arith, less, past)) within)
     | inr more ↦ elim (cases_lt at i) [
-        | inl above ↦ omega (arith, ints, after i d above, after j d past, up (i - 1) (j - 1) d (omega (arith, above, l)) within)
-        | inr below ↦
-            let same : i ≡ at = omega (arith, more, below) in
-            omega (arith, ints, ap (λ n. get_or (insert list at fd) n d) same, at_it d, after j d past, above_it (j - 1) d (omega (arith, past)) within)
-      ]
+      | inl above ↦ omega (arith, ints, after i d above, after j d past, up (i - 1) (j - 1) d (omega (arith, above, l)) within)
+      | inr below ↦
+          let same : i ≡ at = omega (arith, more, below) in
+          omega (arith, ints, ap (λ n. get_or (insert list at fd) n d) same, at_it d, after j d past, above_it (j - 1) d (omega (arith, past)) within)
+    ]
   ]
 
   pub still_ascending : IsAscending list → IsAscending (insert list at fd)
   still_ascending up i j d l within = elim (cases_lt j at) [
     | inl less ↦ omega (arith, ints, before i d (omega (arith, l, less)), before j d less, up i j d l (omega (arith, less, place.0)))
     | inr more ↦ elim (cases_lt at j) [
-        | inl past ↦ up_from up i j d l past (omega (arith, past, within, length-insert list at fd place.0))
-        | inr below ↦
-            let same : at ≡ j = omega (arith, more, below) in
-            subst (λ n. get_or (insert list at fd) i d <ℤ get_or (insert list at fd) n d) same (up_to_it i d (omega (arith, l, same)))
-      ]
+      | inl past ↦ up_from up i j d l past (omega (arith, past, within, length-insert list at fd place.0))
+      | inr below ↦
+          let same : at ≡ j = omega (arith, more, below) in
+          subst (λ n. get_or (insert list at fd) i d <ℤ get_or (insert list at fd) n d) same (up_to_it i d (omega (arith, l, same)))
+    ]
   ]

@@ -57,7 +57,7 @@ entered_each : (before after : List ℤ) (fd : ℕ) → fd < 2 ^ 31 → HasEnter
 entered_each before after fd small has [] = refl
 entered_each before after fd small has (e ∷ es) =
     ap (λ b. (event_of_entry e, b) ∷ map (λ x. (event_of_entry x, is_cancelled after x)) es)
-        (has (fd_of e) ∙ ap (λ b. is_cancelled before e || b) (same_descriptor fd (word_of e % 2 ^ 32) small (omega arith)))
+    (has (fd_of e) ∙ ap (λ b. is_cancelled before e || b) (same_descriptor fd (word_of e % 2 ^ 32) small (omega arith)))
     ∙ ap (λ r. (event_of_entry e, is_cancelled before e || (fd == (event_of_entry e).fd)) ∷ r) (entered_each before after fd small has es)
 
 pub ready_cancelled : (buffer : List EpollEvent) (before after : List ℤ) (fd i n : ℕ) → fd < 2 ^ 31 → HasEntered before (pos fd) after → ready_of buffer after i n ≡ cancel_on fd (ready_of buffer before i n)

@@ -5,6 +5,8 @@ pub mod ExchangeLemmas
 pub mod FiniteMaps
 pub mod Isolation
 pub mod PendingAfter
+pub mod PlaceLemmas
+pub mod VacantPlaces
 pub mod Positions
 pub mod ProjectedDispatch
 pub mod ProjectedExchanges

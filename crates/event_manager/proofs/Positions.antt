@@ -3,8 +3,7 @@ use Rattle.std.proofs.Common.{◌≡◌, ℕ, refl, sym, ap, subst, ◌∙◌, L
 use Rattle.vmm_sys.specs.declared.errno.Errno.{Errno}
 use Rattle.event_manager.specs.Registry as model
 use Rattle.std.proofs.lemmas.List.{append-nil}
-use Rattle.std.specs.Ordering.{nat_cmp}
-use Rattle.std.specs.FinMap.{get, insert, from_entries}
+use Rattle.std.specs.FinMap.{get, insert}
 use Rattle.event_manager.specs.Event.{Event}
 use Rattle.event_manager.specs.Registrations.{Owns}
 use Rattle.event_manager.specs.PollerCall.{PollerCall, Wait}
@@ -33,7 +32,7 @@ module _ {S P : Type 0} {controls : Controls P} {waits : Waits P} (serves : S �
     later = rest;
     outcome = Nobody;
     was = was;
-    had = (why, λ k. record { values = from_entries (subs k).entries; next = next k; registrations = registrations_of (registrations k) });
+    had = (why, λ k. record { values = subs k; next = next k; registrations = registrations_of (registrations k) });
     ready = ap (λ (b : RegistrationState). b.ready) registrations;
     led = led;
     same_capacity = ap (λ (b : RegistrationState). b.capacity) registrations;
@@ -45,7 +44,7 @@ module _ {S P : Type 0} {controls : Controls P} {waits : Waits P} (serves : S �
       (id : ℕ) (value held : S) (exchanges : Exchanges) (calls : List PollerCall)
       → before.ops.epoll.registrations.ready ≡ (event, false) ∷ rest → mid ≡ record before.ops.epoll.registrations { ready = rest } → get mid.owner event.fd ≡ Some id → HasId (registry_of before) id value → serves value event exchanges held
       → AreMade controls waits (record { registrations = mid; poller = before.ops.epoll.poller }) after.ops.epoll id exchanges calls
-      → from_entries {R = nat_cmp} after.subscribers.entries ≡ insert (from_entries before.subscribers.entries) id held → after.next ≡ before.next
+      → after.subscribers ≡ insert before.subscribers id held → after.next ≡ before.next
       → is_endpoint ≡ (event.fd == before.ops.epoll.registrations.endpoint)
       → TakesPosition serves controls waits before is_endpoint after
   served_position before after event is_endpoint rest mid id value held exchanges calls was registrations owns has served made values next noticed = record {
@@ -80,10 +79,10 @@ module _ {S P : Type 0} (before : Registry S P) (mid : RegistrationState) (fd : 
   pub not_owned : mid ≡ record before.ops.epoll.registrations { ready = rest } → get mid.owner fd ≡ None → (i : ℕ) (value : S) → ¬ (Owns i (registrations_of before.ops.epoll.registrations) fd × HasId (registry_of before) i value)
   not_owned registrations none i value h = taken i (sym (subst (λ (b : RegistrationState). get b.owner fd ≡ None) registrations none) ∙ h.0)
 
-  pub not_there : (id : ℕ) → mid ≡ record before.ops.epoll.registrations { ready = rest } → get mid.owner fd ≡ Some id → get (from_entries {R = nat_cmp} before.subscribers.entries) id ≡ None → (i : ℕ) (value : S) → ¬ (Owns i (registrations_of before.ops.epoll.registrations) fd × HasId (registry_of before) i value)
+  pub not_there : (id : ℕ) → mid ≡ record before.ops.epoll.registrations { ready = rest } → get mid.owner fd ≡ Some id → get before.subscribers id ≡ None → (i : ℕ) (value : S) → ¬ (Owns i (registrations_of before.ops.epoll.registrations) fd × HasId (registry_of before) i value)
   not_there id registrations owns none i value h =
       let same = same_some _ id i (subst (λ (b : RegistrationState). get b.owner fd ≡ Some id) registrations owns) h.0 in
-      taken value (sym (subst (λ j. get (from_entries {R = nat_cmp} before.subscribers.entries) j ≡ None) same none) ∙ h.1)
+      taken value (sym (subst (λ j. get before.subscribers j ≡ None) same none) ∙ h.1)
 
 -- with a mark where one of these positions removed the descriptor
 abbrev pub cancelled_by : {V : Type 0} → List (Position V) → List Event → List (Event × Bool)
@@ -244,12 +243,12 @@ module _ {V : Type 0} (serves : V → Event → Exchanges → V → Type 0) wher
 module _ {S P : Type 0} (serves : S → Event → Exchanges → S → Type 0) (controls : Controls P) (waits : Waits P) where
   pub batch_ok : (start after : Registry S P) (registrations : RegistrationState) (poller : P) (ms : ℤ) (answer : Result (List Event) Errno) (result : Result ℕ Errno) (n : ℕ) (endpoint_ready : Bool)
       → Leads controls waits start.ops.epoll.poller (Wait ms start.ops.epoll.registrations.capacity answer ∷ []) poller → HasWaited start.ops.epoll.registrations answer result registrations → result ≡ Ok n
-      → IsDispatched serves controls waits (record { subscribers = start.subscribers; next = start.next; ops = record { epoll = record { registrations = registrations; poller = poller }; id = start.ops.id } }) after (map (λ (p : Event × Bool). p.0) registrations.ready) endpoint_ready
+      → IsDispatched serves controls waits (record { subscribers = start.subscribers; next = start.next; ops = record { epoll = record { registrations = registrations; poller = poller }; id = start.ops.id; place = start.ops.place } }) after (map (λ (p : Event × Bool). p.0) registrations.ready) endpoint_ready
       → IsBatch serves controls waits (loop_state start) ms (Ok (record { count = n; endpoint_ready = endpoint_ready })) (loop_state after)
   batch_ok start after registrations poller ms (Ok report) result n endpoint_ready led waited is dispatched =
       let came = ap (λ (b : RegistrationState). b.ready) waited.1 in
       let reported = ap (map (λ (p : Event × Bool). p.0)) came ∙ fst_all_pending report in
-      let from = subst (λ (b : RegistrationState). AreDispatched serves (record { values = from_entries {R = nat_cmp} start.subscribers.entries; next = start.next; registrations = registrations_of b }) [] dispatched.positions (registry_of after)) waited.1 dispatched.dispatched.1 in
+      let from = subst (λ (b : RegistrationState). AreDispatched serves (record { values = start.subscribers; next = start.next; registrations = registrations_of b }) [] dispatched.positions (registry_of after)) waited.1 dispatched.dispatched.1 in
       let onto = subst (λ l. AreDispatched serves (idle (registry_of start)) [] dispatched.positions (record (registry_of after) { registrations = record (registrations_of after.ops.epoll.registrations) { pending = not_cancelled l } })) dispatched.over
       (from_any_pending serves (idle (registry_of start)) (not_cancelled (all_pending report)) dispatched.positions (registry_of after) from) in
       record {

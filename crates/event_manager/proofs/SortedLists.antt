@@ -28,8 +28,8 @@ module _ (list : List ℕ) (fd : ℕ) (up : IsNonDecreasing list) where
       let shorter = length-remove list at within in
       elim (cases_lt i at) [
         | inl first ↦ elim (cases_lt j at) [
-            | inl second ↦ omega (arith, get_or-remove_below list at d i first within, get_or-remove_below list at d j second within, up i j d l (omega (arith, shorter, below)))
-            | inr second ↦ omega (arith, get_or-remove_below list at d i first within, get_or-remove_above list at d j second within, up i (j + 1) d (omega (arith, l)) (omega (arith, shorter, below)))
-          ]
+          | inl second ↦ omega (arith, get_or-remove_below list at d i first within, get_or-remove_below list at d j second within, up i j d l (omega (arith, shorter, below)))
+          | inr second ↦ omega (arith, get_or-remove_below list at d i first within, get_or-remove_above list at d j second within, up i (j + 1) d (omega (arith, l)) (omega (arith, shorter, below)))
+        ]
         | inr first ↦ omega (arith, get_or-remove_above list at d i first within, get_or-remove_above list at d j (omega (arith, first, l)) within, up (i + 1) (j + 1) d (omega (arith, l)) (omega (arith, shorter, below)))
       ]

@@ -22,6 +22,7 @@ pub mod Trace
 pub mod WatchLists
 pub mod ErrorText
 pub mod Manager
+pub mod Places
 pub mod StepExchanges
 pub mod EitherSubscriber
 pub mod Account

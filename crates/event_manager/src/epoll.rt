@@ -248,9 +248,9 @@ impl Registrations {
     {
         self.at = 0;
         self.count = 0;
-        self.cancelled.clear();
         match poller.wait_into(ms, &mut self.buffer) {
             Ok(count) => {
+                self.cancelled.clear();
                 self.count = count;
                 Ok(count)
             }

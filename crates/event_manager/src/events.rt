@@ -166,6 +166,8 @@ pub enum Request {
 pub struct EventOps<P> {
     pub(crate) epoll: EpollWrapper<P>,
     pub(crate) id: u64,
+    // Where the subscriber is looked for first.
+    pub(crate) place: usize,
 }
 
 impl<P: EventPoller> EventOps<P> {
@@ -185,7 +187,7 @@ impl<P: EventPoller> EventOps<P> {
         }
         let owner = Owner {
             id: self.id,
-            place: 0,
+            place: self.place,
         };
         match epoll.registrations.register(events, owner) {
             Ok(()) => {}

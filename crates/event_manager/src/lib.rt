@@ -7,6 +7,7 @@
 
 pub mod boxed_subscriber;
 pub mod calls;
+mod cancelled;
 pub mod drive;
 pub mod endpoint;
 pub mod epoll;
@@ -16,7 +17,7 @@ pub mod jobs;
 pub mod laws;
 pub mod manager;
 mod owners;
-mod cancelled;
+mod places;
 pub mod poller;
 #[cfg(test)]
 mod subscriber_tests;

@@ -97,7 +97,7 @@ impl<S: MutEventSubscriber + Drop, P: EventPoller> SubscriberOps for Registry<S,
     }
 
     fn subscriber_mut(&mut self, id: SubscriberId) -> Result<&mut S> {
-        match self.subscribers.get_mut(&id.number()) {
+        match self.subscribers.get_mut(id.number()) {
             Some(subscriber) => Ok(subscriber),
             None => Err(Error::InvalidId),
         }
@@ -105,8 +105,9 @@ impl<S: MutEventSubscriber + Drop, P: EventPoller> SubscriberOps for Registry<S,
 
     fn event_ops(&mut self, id: SubscriberId) -> Result<&mut EventOps<P>> {
         let id = id.number();
-        if self.subscribers.contains_key(&id) {
+        if let Some(place) = self.subscribers.place_of(id) {
             self.ops.id = id;
+            self.ops.place = place;
             return Ok(&mut self.ops);
         }
         Err(Error::InvalidId)

@@ -13,10 +13,10 @@ ghost use Rattle.event_manager.specs.Subscribers.{TakesPosition, IsDispatched, I
 
 use crate::epoll::{EpollWrapper, Registrations};
 use crate::events::{EventOps, Events};
+use crate::places::SubscriberPlaces;
 use crate::poller::{BoxedPoller, EventPoller};
 use crate::{Error, Result};
 use std::alloc::{AllocError, Global};
-use std::collections::BTreeMap;
 use std::marker::Model;
 use vmm_sys::errno::Errno;
 
@@ -105,7 +105,7 @@ pub(crate) struct Batch {
 /// The subscribers by id, and their registrations.
 #[derive(Drop)]
 pub struct Registry<S, P = BoxedPoller> {
-    pub(crate) subscribers: BTreeMap<u64, S>,
+    pub(crate) subscribers: SubscriberPlaces<S>,
     pub(crate) next: u64,
     pub(crate) ops: EventOps<P>,
 }
@@ -124,7 +124,7 @@ impl<S: MutEventSubscriber, P: EventPoller> Registry<S, P> {
     {
         let registrations = Registrations::new(alloc, endpoint, capacity)?;
         Ok(Registry {
-            subscribers: BTreeMap::new(alloc),
+            subscribers: SubscriberPlaces::new(alloc),
             next: 1,
             ops: EventOps {
                 epoll: EpollWrapper {
@@ -132,6 +132,7 @@ impl<S: MutEventSubscriber, P: EventPoller> Registry<S, P> {
                     poller,
                 },
                 id: 0,
+                place: 0,
             },
         })
     }
@@ -170,10 +171,11 @@ impl<S: MutEventSubscriber, P: EventPoller> Registry<S, P> {
         let Some(owner) = self.ops.epoll.registrations.owner(&ready_entry.entry) else {
             return Some(ready_entry.is_endpoint);
         };
-        let Some(subscriber) = self.subscribers.get_mut(&owner.id) else {
+        let Some(subscriber) = self.subscribers.get_mut_at(owner.place, owner.id) else {
             return Some(ready_entry.is_endpoint);
         };
         self.ops.id = owner.id;
+        self.ops.place = owner.place;
         subscriber.process(Events::of_entry(&ready_entry.entry), &mut self.ops);
         Some(ready_entry.is_endpoint)
     }
@@ -230,15 +232,16 @@ impl<S: MutEventSubscriber, P: EventPoller> Registry<S, P> {
             return Err(Error::IdsUsedUp);
         }
         let id = self.next;
-        match self.subscribers.insert(id, subscriber) {
-            Ok(_) => {}
+        let place = match self.subscribers.insert(id, subscriber) {
+            Ok(place) => place,
             Err(_) => return Err(Error::OutOfMemory),
-        }
+        };
         // Never none: the id was inserted just now.
-        let Some(held) = self.subscribers.get_mut(&id) else {
+        let Some(held) = self.subscribers.get_mut_at(place, id) else {
             return Err(Error::OutOfMemory);
         };
         self.ops.id = id;
+        self.ops.place = place;
         held.init(&mut self.ops);
         self.next += 1;
         Ok(SubscriberId { number: id })
@@ -249,7 +252,7 @@ impl<S: MutEventSubscriber, P: EventPoller> Registry<S, P> {
         ensures { (step : Step S) × IsLeave id result step
             × HasStepped S.begins P.controls P.waits (loop_state self.old) step (loop_state self.new) }
     {
-        match self.subscribers.remove(&id) {
+        match self.subscribers.remove(id) {
             Some(subscriber) => {
                 self.ops.epoll.release(id);
                 Ok(subscriber)

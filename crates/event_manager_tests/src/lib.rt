@@ -17,6 +17,8 @@ pub mod forms;
 #[cfg(test)]
 mod jobs;
 #[cfg(test)]
+mod joins;
+#[cfg(test)]
 mod log;
 #[cfg(test)]
 mod making;
@@ -24,6 +26,8 @@ mod making;
 mod parts;
 #[cfg(test)]
 mod real_parts;
+#[cfg(test)]
+mod removals;
 #[cfg(test)]
 mod requests;
 #[cfg(test)]

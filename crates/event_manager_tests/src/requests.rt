@@ -103,7 +103,7 @@ fn request_and_leave<P: EventPoller + Drop, R: Wait + Clock + Abort>(
 }
 
 #[test]
-fn one_delete_each_in_the_order_of_addition(rt: HostRuntime) -> std::result::Result<(), Fail> {
+fn one_delete_each_in_ascending_order(rt: HostRuntime) -> std::result::Result<(), Fail> {
     let recorder = Recorder::new(rt.alloc())?;
     let parts = silent_parts(rt, rt.alloc(), recorder.try_clone()?)?;
     let requests = [
@@ -118,7 +118,7 @@ fn one_delete_each_in_the_order_of_addition(rt: HostRuntime) -> std::result::Res
         fd,
         event,
     };
-    let deletes = [delete(4), delete(7), delete(3), delete(5), delete(6)];
+    let deletes = [delete(3), delete(4), delete(7), delete(5), delete(6)];
     assert!(rt; recorder.was_asked(&deletes));
     Ok(())
 }

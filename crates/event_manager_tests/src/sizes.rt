@@ -61,13 +61,13 @@ fn make_grabbing(
     Ok(BoxedSubscriber(boxed))
 }
 
-/// One Delete for each descriptor from 300 down to 1.
+/// One Delete for each descriptor from 1 up to 300.
 fn deletes(alloc: Global) -> Result<Vec<Control>, Fail> {
     let mut deletes = Vec::new(alloc);
-    for before in 0..300 {
+    for fd in 1..301 {
         deletes.push(Control {
             op: ControlOperation::Delete,
-            fd: 300 - before,
+            fd,
             event: Events::empty_raw(0),
         })?;
     }

@@ -1,0 +1,148 @@
+//! Subscribers that come and go: their ids, and what becomes of an event of one that left.
+
+use crate::counting::{Counting, counting_on};
+use crate::parts::script_of;
+use crate::runs::{WithManager, no_memory, silent_parts, with_manager};
+use event_manager::{
+    Error, EventManager, EventPoller, NoJob, PlainPoller, Result, SubscriberId, SubscriberOps,
+};
+use std::alloc::Global;
+use std::process::Abort;
+use std::sync::Wait;
+use std::sync::ledger::Ledger;
+use std::test::Fail;
+use std::time::Clock;
+
+/// How many subscribers stay.
+const STAYING: usize = 16;
+
+/// Takes five thousand subscribers in, and lets one of those that stay go for each that comes, from all over the order. Each
+/// has its own number as its count.
+#[derive(Drop)]
+struct Comings<'a, R> {
+    rt: &'a R,
+    alloc: Global,
+}
+
+fn expect_count<S: SubscriberOps<Subscriber = Counting>, R: Abort>(
+    rt: &R,
+    manager: &mut S,
+    id: SubscriberId,
+) {
+    match manager.subscriber_mut(id) {
+        Ok(counting) => assert_eq!(rt; counting.count, id.number()),
+        Err(_) => panic!(rt; "the subscriber is not there"),
+    }
+}
+
+impl<R: Abort> WithManager for Comings<'_, R> {
+    type Subscriber = Counting;
+
+    type Output = Vec<SubscriberId>;
+
+    fn run<L: Ledger, T: Ledger, P: EventPoller>(
+        self,
+        manager: &mut EventManager<Counting, NoJob, L, T, P>,
+    ) -> Result<Vec<SubscriberId>> {
+        let Comings { rt, alloc } = self;
+        let mut staying: Vec<SubscriberId> = Vec::new(alloc);
+        for number in 1..5001 {
+            let mut newcomer = counting_on((number % 1000) as u16);
+            newcomer.count = number;
+            let id = manager.add_subscriber(newcomer)?;
+            assert_eq!(rt; id.number(), number);
+            staying.push(id).map_err(no_memory)?;
+            if staying.len() > STAYING {
+                let leaving = staying.remove(number as usize * 7 % STAYING);
+                let left = manager.remove_subscriber(leaving)?;
+                assert_eq!(rt; left.count, leaving.number());
+                assert_eq!(rt;
+                    manager.remove_subscriber(leaving).err(),
+                    Some(Error::InvalidId)
+                );
+            }
+            for id in &staying {
+                expect_count(rt, manager, *id);
+            }
+        }
+        Ok(staying)
+    }
+}
+
+#[test]
+fn five_thousand_joins_and_leaves(rt: HostRuntime) -> std::result::Result<(), Fail> {
+    let script = script_of(rt.alloc(), &[])?;
+    let parts = silent_parts(rt, rt.alloc(), PlainPoller(script))?;
+    let body = Comings {
+        rt: &rt,
+        alloc: rt.alloc(),
+    };
+    let staying = with_manager(parts, body)?;
+    assert_eq!(rt; staying.len(), STAYING);
+    let mut last = 0;
+    for id in &staying {
+        assert!(rt; last < id.number());
+        last = id.number();
+    }
+    Ok(())
+}
+
+/// Three join on the descriptors 3, 4 and 5, the one on 4 leaves, and another joins; then one run. Answers the counts of
+/// those on 3 and 5, and of the newcomer.
+#[derive(Drop)]
+struct Replacing<'a, R> {
+    rt: &'a R,
+    newcomer: Counting,
+}
+
+impl<R: Wait + Clock + Abort> WithManager for Replacing<'_, R> {
+    type Subscriber = Counting;
+
+    type Output = (u64, u64, u64);
+
+    fn run<L: Ledger, T: Ledger, P: EventPoller>(
+        self,
+        manager: &mut EventManager<Counting, NoJob, L, T, P>,
+    ) -> Result<(u64, u64, u64)> {
+        let first = manager.add_subscriber(counting_on(3))?;
+        let middle = manager.add_subscriber(counting_on(4))?;
+        let last = manager.add_subscriber(counting_on(5))?;
+        manager.remove_subscriber(middle)?;
+        let newcomer = manager.add_subscriber(self.newcomer)?;
+        assert_eq!(self.rt; manager.run(self.rt), Ok(3));
+        Ok((
+            manager.remove_subscriber(first)?.count,
+            manager.remove_subscriber(last)?.count,
+            manager.remove_subscriber(newcomer)?.count,
+        ))
+    }
+}
+
+/// The counts after a report of 4, of 6 and of 3.
+fn counts_with<R>(
+    rt: R,
+    alloc: Global,
+    newcomer: Counting,
+) -> std::result::Result<(u64, u64, u64), Fail>
+where
+    R: Wait + Clock + Abort + Clone + Send + Drop,
+{
+    let handle = rt.clone()?;
+    let parts = silent_parts(handle, alloc, PlainPoller(script_of(alloc, &[4, 6, 3])?))?;
+    let body = Replacing { rt: &rt, newcomer };
+    Ok(with_manager(parts, body)?)
+}
+
+#[test]
+fn event_of_one_that_left_goes_to_nobody(rt: HostRuntime) -> std::result::Result<(), Fail> {
+    let counts = counts_with(rt, rt.alloc(), counting_on(6))?;
+    assert_eq!(rt; counts, (1, 0, 1));
+    Ok(())
+}
+
+#[test]
+fn event_of_one_that_left_goes_to_the_next_owner(rt: HostRuntime) -> std::result::Result<(), Fail> {
+    let counts = counts_with(rt, rt.alloc(), counting_on(4))?;
+    assert_eq!(rt; counts, (1, 0, 1));
+    Ok(())
+}
