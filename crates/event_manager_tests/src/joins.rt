@@ -104,17 +104,17 @@ impl<R: Wait + Clock + Abort> WithManager for Replacing<'_, R> {
         self,
         manager: &mut EventManager<Counting, NoJob, L, T, P>,
     ) -> Result<(u64, u64, u64)> {
+        let Replacing { rt, newcomer } = self;
         let first = manager.add_subscriber(counting_on(3))?;
         let middle = manager.add_subscriber(counting_on(4))?;
         let last = manager.add_subscriber(counting_on(5))?;
         manager.remove_subscriber(middle)?;
-        let newcomer = manager.add_subscriber(self.newcomer)?;
-        assert_eq!(self.rt; manager.run(self.rt), Ok(3));
-        Ok((
-            manager.remove_subscriber(first)?.count,
-            manager.remove_subscriber(last)?.count,
-            manager.remove_subscriber(newcomer)?.count,
-        ))
+        let newcomer = manager.add_subscriber(newcomer)?;
+        assert_eq!(rt; manager.run(rt), Ok(3));
+        let first = manager.remove_subscriber(first)?;
+        let last = manager.remove_subscriber(last)?;
+        let newcomer = manager.remove_subscriber(newcomer)?;
+        Ok((first.count, last.count, newcomer.count))
     }
 }
 
