@@ -4,6 +4,8 @@ pub mod Poller
 pub mod Lists
 pub mod Codes
 pub mod ScriptPoller
+pub mod Links
+pub mod Queue
 pub mod Table
 pub mod TablePoller
 pub mod ServiceBound

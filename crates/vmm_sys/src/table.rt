@@ -7,6 +7,8 @@ ghost use Rattle.vmm_sys.specs.Table.{new_table, state_of, state_at, is_ready, e
 ghost use Rattle.vmm_sys.specs.ServiceBound.{Ctl, Wait, MovesForward, EachStepMovesForward, ReportedWithinRooms, ReportedWithinWaits};
 ghost use Rattle.vmm_sys.specs.TablePoller.{table_code, MayCtl, MayWait};
 
+mod queue;
+
 use crate::epoll::{ControlOperation, EpollEvent, RawFd};
 use crate::errno::Errno;
 use crate::event_set::EventSet;
