@@ -2,4 +2,5 @@ pub mod Firsts
 pub mod Paths
 pub mod Picks
 pub mod Places
+pub mod Queued
 pub mod Service

@@ -48,19 +48,19 @@ relink f g f' g' x z y [] p sf sg nx d ny ef eg = (ef, eg)
 relink f g f' g' x z y (n ∷ ns) p sf sg nx d ny ef eg =
     ((sf x (last-differs x n ns nx) ∙ p.0.0, sg (Some n) (λ e. ny.0 (sym e)) ∙ p.0.1), relink f g f' g' (Some n) z y ns p.1 sf sg d.0 d.1 ny.1 ef eg)
 
-NotIn-left : (x : Node) (ms ns : List ℕ) → NotIn x (ms ++ ns) → NotIn x ms
+pub NotIn-left : (x : Node) (ms ns : List ℕ) → NotIn x (ms ++ ns) → NotIn x ms
 NotIn-left x [] ns h = tt
 NotIn-left x (m ∷ ms) ns h = (h.0, NotIn-left x ms ns h.1)
 
-NotIn-right : (x : Node) (ms ns : List ℕ) → NotIn x (ms ++ ns) → NotIn x ns
+pub NotIn-right : (x : Node) (ms ns : List ℕ) → NotIn x (ms ++ ns) → NotIn x ns
 NotIn-right x [] ns h = h
 NotIn-right x (m ∷ ms) ns h = NotIn-right x ms ns h.1
 
-AreDifferent-left : (ms ns : List ℕ) → AreDifferent (ms ++ ns) → AreDifferent ms
+pub AreDifferent-left : (ms ns : List ℕ) → AreDifferent (ms ++ ns) → AreDifferent ms
 AreDifferent-left [] ns h = tt
 AreDifferent-left (m ∷ ms) ns h = (NotIn-left (Some m) ms ns h.0, AreDifferent-left ms ns h.1)
 
-AreDifferent-right : (ms ns : List ℕ) → AreDifferent (ms ++ ns) → AreDifferent ns
+pub AreDifferent-right : (ms ns : List ℕ) → AreDifferent (ms ++ ns) → AreDifferent ns
 AreDifferent-right [] ns h = h
 AreDifferent-right (m ∷ ms) ns h = AreDifferent-right ms ns h.1
 
@@ -69,7 +69,7 @@ NotIn-none [] = tt
 NotIn-none (n ∷ ns) = ((λ e. cc), NotIn-none ns)
 
 -- a number of the right part is not in the left part
-NotIn-cross : (ms ns : List ℕ) (n : ℕ) → AreDifferent (ms ++ n ∷ ns) → NotIn (Some n) ms
+pub NotIn-cross : (ms ns : List ℕ) (n : ℕ) → AreDifferent (ms ++ n ∷ ns) → NotIn (Some n) ms
 NotIn-cross [] ns n h = tt
 NotIn-cross (m ∷ ms) ns n h = ((λ e. (NotIn-right (Some m) ms (n ∷ ns) h.0).0 (sym e)), NotIn-cross ms ns n h.1)
 
@@ -220,7 +220,7 @@ HoldQueue-from l ns p d r =
     let e : numbers_of l ≡ ns = walk-Path (after_of l) (before_of l) None ns (room_of l) p (length-distinct (room_of l) ns d r) in
     (e, record { path = subst (λ ks. Path (after_of l) (before_of l) None ks None) (sym e) p; different = subst (λ ks. AreDifferent ks) (sym e) d; below = subst (λ ks. AreBelow (room_of l) ks) (sym e) r })
 
-NotIn-both : (x : Node) (ms ns : List ℕ) → NotIn x ms → NotIn x ns → NotIn x (ms ++ ns)
+pub NotIn-both : (x : Node) (ms ns : List ℕ) → NotIn x ms → NotIn x ns → NotIn x (ms ++ ns)
 NotIn-both x [] ns h k = k
 NotIn-both x (m ∷ ms) ns h k = (h.0, NotIn-both x ms ns h.1 k)
 

@@ -7,6 +7,7 @@ pub mod ScriptPoller
 pub mod Links
 pub mod Queue
 pub mod Table
+pub mod Interests
 pub mod TablePoller
 pub mod ServiceBound
 pub mod SharedTable

@@ -152,11 +152,16 @@ impl Queue {
         self.inner.links.len()
     }
 
-    /// Makes room for one more number.
-    pub(super) fn grow(&mut self) -> Result<(), AllocError>
-        ensures more { OnOk result (self.new ≡ record self.old { room = self.old.room + 1 }) }
-        ensures refused { OnErr result (self.new ≡ self.old) }
+    /// Makes room for a number.
+    pub(super) fn make_room(&mut self, n: usize) -> Result<(), AllocError>
+        requires { n ≤ self.old.room }
+        ensures numbers { self.new.numbers ≡ self.old.numbers }
+        ensures kept { self.old.room ≤ self.new.room }
+        ensures room { OnOk result (n < self.new.room) }
     {
+        if n < self.inner.links.len() {
+            return Ok(());
+        }
         self.inner.grow()
     }
 
