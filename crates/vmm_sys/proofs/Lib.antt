@@ -1,4 +1,5 @@
 pub mod Firsts
+pub mod Numbers
 pub mod Paths
 pub mod Picks
 pub mod Places

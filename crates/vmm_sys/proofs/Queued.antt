@@ -13,7 +13,7 @@ use Rattle.vmm_sys.specs.Links.{Node, NotIn, AreDifferent, AreBelow}
 use Rattle.vmm_sys.specs.Queue.{QueueState}
 use Rattle.vmm_sys.specs.Interests.{event_of, interest_of, interests_of, HaveEvents, AreQueued}
 use Rattle.vmm_sys.specs.Table.{is_of}
-use Rattle.vmm_sys.proofs.Paths.{NotIn-cross, NotIn-left, NotIn-right, NotIn-both, AreDifferent-right, AreDifferent-push, AreDifferent-without, length-distinct}
+use Rattle.vmm_sys.proofs.Numbers.{NotIn-cross, NotIn-left, NotIn-right, NotIn-both, AreDifferent-right, AreDifferent-push, AreDifferent-without, length-distinct}
 use Rattle.vmm_sys.proofs.Places.{At, At-from_position, position-from_At}
 
 -- a number stands in a list, or doesn't

@@ -1,7 +1,7 @@
 use Rattle.std.proofs.Common.{◌∙◌, sym, ap, subst, Some}
 use Rattle.vmm_sys.specs.Links.{NotIn}
 use Rattle.vmm_sys.specs.Queue.{QueueState}
-use Rattle.vmm_sys.proofs.Paths.{in_range_at, not_left}
+use Rattle.vmm_sys.proofs.Paths.{below_at, not_left}
 use Rattle.vmm_sys.proofs.table.queue.Queue.move_to_back.Goals as goal
 
 pub push_back-requires-clause-bound : goal.push_back-requires-clause-bound
@@ -9,7 +9,7 @@ push_back-requires-clause-bound c =
     let l = c.self.inside.inner in
     let e = ap (λ (o : QueueState). o.numbers) c.self.view_is in
     let s = ap (λ (o : QueueState). o.room) c.self.view_is in
-    rw (c.remove.ensures.room, ← s) (in_range_at l c.self.invariant c.requires.0 c.requires.1 c.args.n (e ∙ c.requires.2))
+    rw (c.remove.ensures.room, ← s) (below_at l c.self.invariant c.requires.0 c.requires.1 c.args.n (e ∙ c.requires.2))
 
 pub push_back-requires-clause-absent : goal.push_back-requires-clause-absent
 push_back-requires-clause-absent c =

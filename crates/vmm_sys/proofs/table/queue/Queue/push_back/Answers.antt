@@ -4,7 +4,8 @@ use Rattle.vmm_sys.specs.Links.{after_of, before_of}
 use Rattle.vmm_sys.specs.declared.table.queue.Links.{Links}
 use Rattle.vmm_sys.specs.Links.{HoldQueue, AreBelow, numbers_of, room_of}
 use Rattle.vmm_sys.specs.Queue.{QueueState}
-use Rattle.vmm_sys.proofs.Paths.{end-range, AreBelow-push, AreDifferent-push, HoldQueue-from}
+use Rattle.vmm_sys.proofs.Numbers.{AreBelow-push, AreDifferent-push}
+use Rattle.vmm_sys.proofs.Paths.{end-range, HoldQueue-from}
 use Rattle.vmm_sys.proofs.table.queue.Queue.push_back.Goals as goal
 
 more : (l l' : Links) (n : ℕ) → HoldQueue l → n < room_of l → NotIn (Some n) (numbers_of l) → room_of l' ≡ room_of l →
