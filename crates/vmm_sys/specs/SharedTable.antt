@@ -16,7 +16,7 @@ AnswersOfSomeWithMemory call result = (t u : TableState) × AnswersWithMemory (c
 
 -- the answer that some table gives to a change of its interest list
 abbrev pub Changed : ControlOperation → ℤ → EpollEvent → Result (Unit {0}) Errno → Type 0
-Changed op fd event answer = (t u : TableState) × Answers (ctl_of t op fd event) t answer u
+Changed op fd event answer = AnswersOfSome (λ t. ctl_of t op fd event) answer
 
 -- the answer of some table to a wait with this room, and the entries of its report
 abbrev pub Waited : ℕ → Result ℕ Errno → List EpollEvent → Type 0

@@ -68,7 +68,8 @@ pub struct Interest {
 ///
 /// A descriptor is a counter or a line, and is never closed. The state of a counter is `IN` where
 /// its value is above 0 and `OUT` where it is below 18446744073709551614; that of a line is the set
-/// last given to [`Table::set_line`], at first the empty one.
+/// last given to [`Table::set_line`], at first the empty one. With a descriptor comes the room for
+/// its interest, which is found, moved and taken out without a look at the others.
 ///
 /// An interest is ready where its descriptor's state has something of what is wanted, or `ERROR` or
 /// `HANG_UP`: that is what is reported, with the interest's word. It is level-triggered, as Linux's
@@ -379,6 +380,7 @@ fn report(sources: &[Source], interests: &mut Interests, buffer: &mut [EpollEven
     let last = interests.last();
     let mut next = interests.first();
     let mut count = 0;
+    // The range only says that the walk ends: there are no more interests than it has numbers.
     for k in 0..interests.room() {
         let Some(interest) = next else {
             break;

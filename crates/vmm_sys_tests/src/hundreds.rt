@@ -81,7 +81,7 @@ fn half_of_4096_interests_are_taken_out(rt: HostRuntime) -> Result<(), Fail> {
     for word in 0..INTERESTS {
         let mut buffer = [no_event()];
         assert_eq!(rt; table.wait(&mut buffer), Ok(1));
-        assert_eq!(rt; buffer, [input(word * 2 % INTERESTS)]);
+        assert_eq!(rt; buffer, [input(word.wrapping_mul(2) % INTERESTS)]);
     }
     Ok(())
 }
