@@ -14,7 +14,7 @@ use Rattle.vmm_sys.specs.declared.table.Source.TheVariants.{Counter, Line}
 use Rattle.vmm_sys.specs.declared.table.Interest.{Interest}
 use Rattle.vmm_sys.specs.EventSet.{with_bits}
 use Rattle.vmm_sys.specs.Lists.{without_first}
-use Rattle.vmm_sys.specs.Table.{TableState, is_ready, is_of, place_of, chosen, has_mode, changed, ctl_at, opened, write_to, read_from, set_at, with_source, open_of, source_of, entry_of, Answers, ChangeAnswers, ctl_of, moved_back}
+use Rattle.vmm_sys.specs.Table.{TableState, is_ready, is_of, place_of, chosen, has_mode, changed, ctl_at, opened, write_to, read_from, set_at, with_source, open_of, source_of, entry_of, Answers, ctl_of, moved_back}
 use Rattle.vmm_sys.specs.ServiceBound.{Step, Ctl, Wait, Write, Read, SetLine, AddCounter, AddLine, WithoutMemory, left_by, after, rooms, waits, Keeps, EachWaitHas, MovesForward, EachStepMovesForward, ReportedWithinRooms, ReportedWithinWaits}
 use Rattle.vmm_sys.proofs.Places.{At, At-from_position, position-from_At, At-append, At-set, At-remove, Here-from_find, without_first-At}
 
@@ -151,9 +151,8 @@ after-answers (Ok (a, v)) t u result h = h.1
 after-answers (Err e) t u result h = h.1
 
 -- so `ctl` moves nothing back
-pub moves_forward-ctl : (t u : TableState) (op : ControlOperation) (fd : ℤ) (event : EpollEvent) (result : Result (Unit {0}) Errno) → ChangeAnswers op (ctl_of t op fd event) t result u → MovesForward t (Ctl op fd event) u
-moves_forward-ctl t u op fd event result (inl h) = subst (MovesForward t (Ctl op fd event)) (sym (after-answers (ctl_of t op fd event) t u result h)) (each_step_moves_forward t (Ctl op fd event))
-moves_forward-ctl t u op fd event result (inr h) = λ n a e k. inr (a, ap (λ v. place_of v n) h.1.2 ∙ e, omega arith, (λ _. omega arith))
+pub moves_forward-ctl : (t u : TableState) (op : ControlOperation) (fd : ℤ) (event : EpollEvent) (result : Result (Unit {0}) Errno) → Answers (ctl_of t op fd event) t result u → MovesForward t (Ctl op fd event) u
+moves_forward-ctl t u op fd event result h = subst (MovesForward t (Ctl op fd event)) (sym (after-answers (ctl_of t op fd event) t u result h)) (each_step_moves_forward t (Ctl op fd event))
 
 left_by-ok : {A : Type 0} (t u : TableState) (x : A) (b : Bool) (e : Errno) → b ≡ false → left_by t (if b then Err e else Ok (x, u)) ≡ u
 left_by-ok t u x true e h = absurd (false≢true (sym h))

@@ -4,7 +4,10 @@ pub mod Poller
 pub mod Lists
 pub mod Codes
 pub mod ScriptPoller
+pub mod Links
+pub mod Queue
 pub mod Table
+pub mod Interests
 pub mod TablePoller
 pub mod ServiceBound
 pub mod SharedTable

@@ -4,7 +4,7 @@ use base.Stored.{Gv}
 use Rattle.vmm_sys.specs.declared.epoll.EpollEvent.{EpollEvent}
 use Rattle.vmm_sys.specs.declared.epoll.ControlOperation.{ControlOperation}
 use Rattle.vmm_sys.specs.declared.errno.Errno.{Errno}
-use Rattle.vmm_sys.specs.Table.{TableState, Answers, AnswersWithMemory, ChangeAnswers, ctl_of, wait_of, counted, entries_of}
+use Rattle.vmm_sys.specs.Table.{TableState, Answers, AnswersWithMemory, ctl_of, wait_of, counted, entries_of}
 
 -- the answer that some table gives to a call
 abbrev pub AnswersOfSome : {A : Type 0} → (TableState → Result (A × TableState) Errno) → Result A Errno → Type 0
@@ -16,7 +16,7 @@ AnswersOfSomeWithMemory call result = (t u : TableState) × AnswersWithMemory (c
 
 -- the answer that some table gives to a change of its interest list
 abbrev pub Changed : ControlOperation → ℤ → EpollEvent → Result (Unit {0}) Errno → Type 0
-Changed op fd event answer = (t u : TableState) × ChangeAnswers op (ctl_of t op fd event) t answer u
+Changed op fd event answer = AnswersOfSome (λ t. ctl_of t op fd event) answer
 
 -- the answer of some table to a wait with this room, and the entries of its report
 abbrev pub Waited : ℕ → Result ℕ Errno → List EpollEvent → Type 0

@@ -114,10 +114,6 @@ ctl_at t op (Some n) e = if has_mode op e then Err EINVAL else changed t op (rec
 abbrev pub ctl_of : TableState → ControlOperation → ℤ → EpollEvent → Result (Unit {0} × TableState) Errno
 ctl_of t op fd e = ctl_at t op (opened t fd) e
 
--- only Add requests memory
-abbrev pub ChangeAnswers : ControlOperation → Result (Unit {0} × TableState) Errno → TableState → Result (Unit {0}) Errno → TableState → Type 0
-ChangeAnswers op r before result now = Answers r before result now ⊎ ((op ≡ Add) × MemoryRefused r before result now)
-
 -- Reads, writes and settings
 
 -- the source of a descriptor

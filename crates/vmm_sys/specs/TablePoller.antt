@@ -11,7 +11,7 @@ use Rattle.vmm_sys.specs.declared.table.Source.{Source}
 use Rattle.vmm_sys.specs.declared.table.Source.TheVariants.{Counter, Line}
 use Rattle.vmm_sys.specs.declared.table.Interest.{Interest}
 use Rattle.vmm_sys.specs.Codes.{set_code, event_code}
-use Rattle.vmm_sys.specs.Table.{TableState, Answers, ChangeAnswers, ctl_of, wait_of, counted, entries_of}
+use Rattle.vmm_sys.specs.Table.{TableState, Answers, ctl_of, wait_of, counted, entries_of}
 
 abbrev interest_code : Coded Interest
 interest_code = code_by (ℕ × EpollEvent) (coded× coded_ℕ event_code) (λ i. (i.descriptor, i.event)) (λ p. record { descriptor = p.0; event = p.1 }) (λ _. refl)
@@ -38,10 +38,10 @@ abbrev pub table_code : Coded TableState
 table_code =
     code_by (List Source × (List Interest × ℕ)) (coded× (coded_list source_code) (coded× (coded_list interest_code) coded_ℕ)) (λ t. (t.sources, (t.interests, t.limit))) (λ p. record { sources = p.0; interests = p.1.0; limit = p.1.1 }) (λ _. refl)
 
--- the one answer of `ctl` and the one state after it, want of memory aside
+-- the one answer of `ctl`, and the one state after it
 abbrev pub MayCtl : Gv → ControlOperation → ℤ → EpollEvent → Result (Unit {0}) Errno → Gv → Type 0
 MayCtl before op fd event answer after =
-    (t u : TableState) × (before ≡ table_code.code t) × (after ≡ table_code.code u) × ChangeAnswers op (ctl_of t op fd event) t answer u
+    (t u : TableState) × (before ≡ table_code.code t) × (after ≡ table_code.code u) × Answers (ctl_of t op fd event) t answer u
 
 -- the one answer of `wait` with its entries, and the one state after it
 abbrev pub MayWait : Gv → ℤ → ℕ → Result ℕ Errno → List EpollEvent → Gv → Type 0

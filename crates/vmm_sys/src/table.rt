@@ -1,16 +1,19 @@
 //! The in-process table: counters and lines, and a list of interests in them.
 
-ghost use Rattle.std.specs.Prelude.{◌≡◌, ◌<◌, ◌≤◌, ◌^◌, length, ◌++◌, take, drop, filter, map, slice_get, IsSome, IfSome};
+ghost use Rattle.std.specs.Prelude.{◌≡◌, ◌≢◌, ◌<◌, ◌≤◌, ◌^◌, List, length, ◌++◌, ◌∷◌, take, drop, filter, map, slice_get, Some, None, IsSome};
 ghost use Rattle.vmm_sys.specs.EventSet.{bits_of};
-ghost use Rattle.vmm_sys.specs.Lists.{put_last};
-ghost use Rattle.vmm_sys.specs.Table.{new_table, state_of, state_at, is_ready, entry_of as entry_in, opened, source_of as source_in, with_source, place_of as place_in, changed, has_mode, Answers, AnswersWithMemory, ChangeAnswers, ctl_of, wait_of, write_of, read_of, set_line_of, open_of, add_counter_of, add_line_of, filled, counted, chosen, moved_back, first_ready, first_ready_last};
+ghost use Rattle.vmm_sys.specs.Table.{new_table, state_of, state_at, is_ready, entry_of as entry_in, opened, source_of as source_in, with_source, place_of as place_in, changed, has_mode, Answers, AnswersWithMemory, ctl_of, wait_of, write_of, read_of, set_line_of, open_of, add_counter_of, add_line_of, filled, counted, chosen, moved_back, first_ready, first_ready_last};
 ghost use Rattle.vmm_sys.specs.ServiceBound.{Ctl, Wait, MovesForward, EachStepMovesForward, ReportedWithinRooms, ReportedWithinWaits};
 ghost use Rattle.vmm_sys.specs.TablePoller.{table_code, MayCtl, MayWait};
+
+mod interests;
+mod queue;
 
 use crate::epoll::{ControlOperation, EpollEvent, RawFd};
 use crate::errno::Errno;
 use crate::event_set::EventSet;
 use crate::poller::Poller;
+use interests::Interests;
 use std::alloc::Global;
 use std::marker::Model;
 
@@ -65,7 +68,8 @@ pub struct Interest {
 ///
 /// A descriptor is a counter or a line, and is never closed. The state of a counter is `IN` where
 /// its value is above 0 and `OUT` where it is below 18446744073709551614; that of a line is the set
-/// last given to [`Table::set_line`], at first the empty one.
+/// last given to [`Table::set_line`], at first the empty one. With a descriptor comes the room for
+/// its interest, which is found, moved and taken out without a look at the others.
 ///
 /// An interest is ready where its descriptor's state has something of what is wanted, or `ERROR` or
 /// `HANG_UP`: that is what is reported, with the interest's word. It is level-triggered, as Linux's
@@ -77,19 +81,19 @@ pub struct Interest {
 #[derive(Drop)]
 pub struct Table {
     sources: Vec<Source>,
-    interests: Vec<Interest>,
+    interests: Interests,
     limit: usize,
 }
 
 impl Model for Table {
-    ghost use Rattle.std.specs.Prelude.{◌≤◌, ◌^◌};
+    ghost use Rattle.std.specs.Prelude.{◌≤◌, ◌^◌, length};
     ghost use Rattle.vmm_sys.specs.Table.{TableState};
 
     ghost Value = { TableState };
 
-    ghost view = { λ t. record { sources = t.sources.items; interests = t.interests.items; limit = t.limit } };
+    ghost view = { λ t. record { sources = t.sources.items; interests = t.interests.list; limit = t.limit } };
 
-    ghost invariant = { λ t. t.limit ≤ 2 ^ 31 };
+    ghost invariant = { λ t. (t.limit ≤ 2 ^ 31) × (length t.sources.items ≤ t.interests.room) };
 }
 
 impl Table {
@@ -99,7 +103,7 @@ impl Table {
     {
         Table {
             sources: Vec::new(alloc),
-            interests: Vec::new(alloc),
+            interests: Interests::new(alloc),
             limit: DESCRIPTORS,
         }
     }
@@ -111,7 +115,7 @@ impl Table {
     {
         Table {
             sources: Vec::new(alloc),
-            interests: Vec::new(alloc),
+            interests: Interests::new(alloc),
             limit,
         }
     }
@@ -122,6 +126,10 @@ impl Table {
         let number = self.sources.len();
         if number >= self.limit {
             return Err(Errno::EMFILE);
+        }
+        // With the room for its interest an `Add` takes no memory.
+        if self.interests.make_room(number).is_err() {
+            return Err(Errno::ENOMEM);
         }
         match self.sources.push(source) {
             Ok(()) => Ok(number as RawFd),
@@ -156,9 +164,9 @@ impl Table {
     ///
     /// `EBADF`: `fd` was never opened. `EINVAL`: `Add` or `Modify` of an event with one of the four
     /// modes. `EEXIST`: `Add` where `fd` has an interest. `ENOENT`: `Modify` or `Delete` where it
-    /// has none. `ENOMEM`: memory was refused to an `Add`.
+    /// has none. No memory is requested.
     pub fn ctl(&mut self, op: ControlOperation, fd: RawFd, event: EpollEvent) -> Result<(), Errno>
-        ensures answer { ChangeAnswers op (ctl_of self.old op fd event) self.old result self.new }
+        ensures answer { Answers (ctl_of self.old op fd event) self.old result self.new }
         ensures forward { MovesForward self.old (Ctl op fd event) self.new }
     {
         let Some(descriptor) = self.descriptor(fd) else {
@@ -167,8 +175,7 @@ impl Table {
         if has_mode(op, event) {
             return Err(Errno::EINVAL);
         }
-        let place = self.place_of(descriptor);
-        self.change(op, Interest { descriptor, event }, place)
+        self.change(op, Interest { descriptor, event })
     }
 
     /// Reports the first ready interests, as many as the buffer has room for, and moves them to the
@@ -246,7 +253,7 @@ impl Table {
             buffer.new ≡ entries ++ drop result buffer.old }
         ensures moved { self.new ≡ moved_back self.old (length buffer.old) }
     {
-        report(&self.sources, self.interests.as_mut_slice(), buffer)
+        report(&self.sources, &mut self.interests, buffer)
     }
 
     // The number of an open descriptor.
@@ -283,38 +290,17 @@ impl Table {
         }
     }
 
-    // The place of a descriptor's interest in the list.
-    fn place_of(&self, descriptor: usize) -> Option<usize>
-        ensures first { result ≡ place_in self.now descriptor }
-        ensures bound { IfSome result (λ k. k < length self.now.interests) }
+    fn change(&mut self, op: ControlOperation, interest: Interest) -> Result<(), Errno>
+        requires { interest.descriptor < length self.old.sources }
+        ensures { Answers (changed self.old op interest (place_in self.old interest.descriptor)) self.old result self.new }
     {
-        self.interests
-            .iter()
-            .position(|i| i.descriptor == descriptor)
-    }
-
-    fn change(
-        &mut self,
-        op: ControlOperation,
-        interest: Interest,
-        place: Option<usize>,
-    ) -> Result<(), Errno>
-        requires { IfSome place (λ k. k < length self.old.interests) }
-        ensures { ChangeAnswers op (changed self.old op interest place) self.old result self.new }
-    {
-        match (op, place) {
-            (ControlOperation::Add, None) => {
-                if self.interests.push(interest).is_err() {
-                    return Err(Errno::ENOMEM);
-                }
-            }
-            (ControlOperation::Add, Some(_)) => return Err(Errno::EEXIST),
-            (ControlOperation::Modify, Some(at)) => self.interests[at] = interest,
-            (ControlOperation::Delete, Some(at)) => {
-                let _gone = self.interests.remove(at);
-            }
-            (ControlOperation::Modify, None) => return Err(Errno::ENOENT),
-            (ControlOperation::Delete, None) => return Err(Errno::ENOENT),
+        match (op, self.interests.has(interest.descriptor)) {
+            (ControlOperation::Add, false) => self.interests.push_back(interest),
+            (ControlOperation::Add, true) => return Err(Errno::EEXIST),
+            (ControlOperation::Modify, true) => self.interests.replace(interest),
+            (ControlOperation::Delete, true) => self.interests.remove(interest.descriptor),
+            (ControlOperation::Modify, false) => return Err(Errno::ENOENT),
+            (ControlOperation::Delete, false) => return Err(Errno::ENOENT),
         }
         Ok(())
     }
@@ -370,35 +356,44 @@ fn entry_of(sources: &[Source], interest: Interest) -> EpollEvent
     EpollEvent::new(wanted.intersection(state), interest.event.data())
 }
 
-// Moves the interest at a place to the back.
-fn move_to_back(interests: &mut [Interest], at: usize)
-    requires { at < length interests.old }
-    ensures { interests.new ≡ put_last interests.old at }
+// The interest to look at after one: none after the descriptor of the last.
+fn following(interests: &Interests, interest: Interest, last: Option<usize>) -> Option<Interest>
+    requires { (ms ns : List Interest) × (interests.now.list ≡ ms ++ interest ∷ ns) }
+    ensures stop { last ≡ Some interest.descriptor → result ≡ None }
+    ensures on { (ms ns : List Interest) → last ≢ Some interest.descriptor → interests.now.list ≡ ms ++ interest ∷ ns → result ≡ slice_get ns 0 }
 {
-    interests[at..].rotate_left(1);
+    match last {
+        Some(descriptor) if descriptor == interest.descriptor => None,
+        _ => interests.after(interest),
+    }
 }
 
 // Writes the entries of the first ready interests, as many as there is room for, and moves these to
-// the back.
-fn report(sources: &[Source], interests: &mut [Interest], buffer: &mut [EpollEvent]) -> usize
-    ensures count { result ≡ length (first_ready sources.now interests.old (length buffer.old)) }
-    ensures interests { interests.new ≡ first_ready_last sources.now interests.old (length buffer.old) }
-    ensures buffer { let entries = map (entry_in sources.now) (first_ready sources.now interests.old (length buffer.old)) in
+// the back. The walk ends at the interest that is the last when it begins.
+fn report(sources: &[Source], interests: &mut Interests, buffer: &mut [EpollEvent]) -> usize
+    ensures count { result ≡ length (first_ready sources.now interests.old.list (length buffer.old)) }
+    ensures room { interests.new.room ≡ interests.old.room }
+    ensures interests { interests.new.list ≡ first_ready_last sources.now interests.old.list (length buffer.old) }
+    ensures buffer { let entries = map (entry_in sources.now) (first_ready sources.now interests.old.list (length buffer.old)) in
         buffer.new ≡ entries ++ drop result buffer.old }
 {
-    let mut at = 0;
+    let last = interests.last();
+    let mut next = interests.first();
     let mut count = 0;
-    for k in 0..interests.len() {
+    // The range only says that the walk ends: there are no more interests than it has numbers.
+    for k in 0..interests.room() {
+        let Some(interest) = next else {
+            break;
+        };
         if count == buffer.len() {
             break;
         }
-        let entry = entry_of(sources, interests[at]);
-        if entry.event_set().is_empty() {
-            at += 1;
-        } else {
+        next = following(interests, interest, last);
+        let entry = entry_of(sources, interest);
+        if !entry.event_set().is_empty() {
             buffer[count] = entry;
             count += 1;
-            move_to_back(interests, at);
+            interests.move_to_back(interest);
         }
     }
     count

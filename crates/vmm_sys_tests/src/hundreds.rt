@@ -1,8 +1,9 @@
-//! A thousand of each thing: no call is refused for want of memory, and none is lost.
+//! A thousand of each thing and more: no call is refused for want of memory, and none is lost.
 
 use crate::fixture::want;
 use crate::host::Host;
 use crate::waiter::no_event;
+use std::alloc::Global;
 use std::process::Abort;
 use std::test::Fail;
 use vmm_sys::epoll::{ControlOperation, Epoll, EpollEvent, EventSet, RawFd};
@@ -37,6 +38,52 @@ fn open_ready(table: &mut Table, number: u64) -> Result<RawFd, Errno> {
     let fd = table.add_line()?;
     table.set_line(fd, EventSet::IN)?;
     Ok(fd)
+}
+
+const INTERESTS: u64 = 4096;
+
+#[test]
+fn each_of_4096_interests_is_reported_in_turn(rt: HostRuntime) -> Result<(), Fail> {
+    let mut table = ready_table(rt.alloc())?;
+    expect_one_a_wait(&rt, &mut table)?;
+    // Round again, from the first.
+    expect_one_a_wait(&rt, &mut table)
+}
+
+// The words are the descriptors.
+fn ready_table(alloc: Global) -> Result<Table, Errno> {
+    let mut table = Table::new(alloc);
+    for word in 0..INTERESTS {
+        let fd = open_ready(&mut table, word)?;
+        table.ctl(ControlOperation::Add, fd, input(word))?;
+    }
+    Ok(table)
+}
+
+// Waits with room for one report the interests in the order of their words.
+fn expect_one_a_wait<R: Abort>(rt: &R, table: &mut Table) -> Result<(), Fail> {
+    for word in 0..INTERESTS {
+        let mut buffer = [no_event()];
+        assert_eq!(rt; table.wait(&mut buffer), Ok(1));
+        assert_eq!(rt; buffer, [input(word)]);
+    }
+    Ok(())
+}
+
+#[test]
+fn half_of_4096_interests_are_taken_out(rt: HostRuntime) -> Result<(), Fail> {
+    let mut table = ready_table(rt.alloc())?;
+    for fd in 0..INTERESTS as RawFd {
+        if fd % 2 > 0 {
+            table.ctl(ControlOperation::Delete, fd, no_event())?;
+        }
+    }
+    for word in 0..INTERESTS {
+        let mut buffer = [no_event()];
+        assert_eq!(rt; table.wait(&mut buffer), Ok(1));
+        assert_eq!(rt; buffer, [input(word.wrapping_mul(2) % INTERESTS)]);
+    }
+    Ok(())
 }
 
 #[test]

@@ -1,5 +1,5 @@
 //! Each call that requests memory. With one request refused (`rt try --test --fail-alloc N`) the
-//! same call made again answers what a first one would have.
+//! same call made again answers what a first one would have; a `ctl` requests none.
 
 use std::test::Fail;
 use vmm_sys::epoll::{AsRawFd, ControlOperation, Epoll, EpollEvent, EventSet};
@@ -32,7 +32,7 @@ fn requests_of_a_table(rt: HostRuntime) -> Result<(), Fail> {
         } else {
             assert_eq!(rt; with_memory!(table.add_line()), Ok(fd));
         }
-        let added = with_memory!(table.ctl(ControlOperation::Add, fd, event(0)));
+        let added = table.ctl(ControlOperation::Add, fd, event(0));
         assert_eq!(rt; added, Ok(()));
         let modified = table.ctl(ControlOperation::Modify, fd, event(fd as u64));
         assert_eq!(rt; modified, Ok(()));
@@ -76,7 +76,7 @@ fn requests_of_a_shared_table(rt: HostRuntime) -> Result<(), Fail> {
     assert_eq!(rt; counter.as_raw_fd(), 0);
     let line = with_memory!(Line::new(&epoll, &rt))?;
     assert_eq!(rt; line.as_raw_fd(), 1);
-    let added = with_memory!(epoll.ctl(ControlOperation::Add, 0, event(4)));
+    let added = epoll.ctl(ControlOperation::Add, 0, event(4));
     assert_eq!(rt; added, Ok(()));
     let mut buffer = [event(0)];
     assert_eq!(rt; other.wait(0, &mut buffer), Ok(1));

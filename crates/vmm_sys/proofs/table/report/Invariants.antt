@@ -1,6 +1,8 @@
+use Rattle.std.specs.Prelude.{◌≡◌}
 use Rattle.vmm_sys.specs.Table.{is_ready, entry_of}
 use Rattle.vmm_sys.proofs.Picks.{Picked}
 use Rattle.vmm_sys.proofs.table.report.Given as goal
 
 abbrev pub invariant-loop-k : goal.invariant-loop-k
-invariant-loop-k l = Picked (is_ready l.sources) (entry_of l.sources) l.initial.interests l.initial.buffer l.interests l.buffer l.k l.at l.count
+invariant-loop-k l =
+    (l.interests.room ≡ l.initial.interests.room) × Picked (is_ready l.sources) (entry_of l.sources) l.initial.interests.list l.initial.buffer l.interests.list l.buffer l.k l.count l.next
