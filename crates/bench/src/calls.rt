@@ -61,6 +61,20 @@ fn call_often<L: Ledger, T: Ledger, R: Wait + Clock>(
     Ok(())
 }
 
+/// Sends the jobs of all repeats, and then stops the loop.
+fn call_and_stop<L: Ledger, T: Ledger, R: Wait + Clock>(
+    endpoint: &RemoteEndpoint<Counter, CountOne, L, T>,
+    id: SubscriberId,
+    rounds: u32,
+    stopped: &AtomicBool,
+    rt: &R,
+) -> Result<Times, Fault> {
+    let times = Times::of(|| call_often(endpoint, id, rounds, rt), rt);
+    stopped.store(true, Ordering::SeqCst);
+    let _ = endpoint.kick(rt);
+    times
+}
+
 /// Sends the jobs of all repeats beside the loop's thread. Whatever ends the loop, it is closed, so that nobody waits for a
 /// reply any more. Answers the times, and how many jobs were taken.
 fn call_beside<L: Ledger + Send + Sync, T: Ledger + Send + Sync, R: Host>(
@@ -73,12 +87,7 @@ fn call_beside<L: Ledger + Send + Sync, T: Ledger + Send + Sync, R: Host>(
     let stopped = AtomicBool::new(false);
     let (called, (ran, closed)) = thread::join(
         rt,
-        || {
-            let times = Times::of(|| call_often(&endpoint, id, rounds, rt), rt);
-            stopped.store(true, Ordering::SeqCst);
-            let _ = endpoint.kick(rt);
-            times
-        },
+        || call_and_stop(&endpoint, id, rounds, &stopped, rt),
         || {
             let ran = run_until(&mut manager, &stopped, rt);
             (ran, manager.close(rt))

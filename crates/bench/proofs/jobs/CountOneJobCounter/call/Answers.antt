@@ -1,4 +1,4 @@
-use Rattle.std.proofs.Common.{refl, ap, [], ◌∷◌, inl, inr}
+use Rattle.std.proofs.Common.{rules, refl, ap, [], ◌∷◌, inl, inr}
 use Rattle.event_manager.specs.Registry.{Replaced, NotReplaced}
 use Rattle.event_manager.proofs.OneStep.{replaced_step, not_replaced_step}
 use Rattle.bench.proofs.jobs.CountOneJobCounter.call.Goals as goal
@@ -15,6 +15,6 @@ returns-in-Ok-clause-stepped g c =
 pub returns-in-Err-clause-stepped : goal.returns-in-Err-clause-stepped
 returns-in-Err-clause-stepped g c = (
   NotReplaced c.args.self.0 ∷ [],
-  inr (refl, refl),
+  inr (refl, search rules),
   not_replaced_step _ _ c.args.self.0 c.in-Err.ensures.lost.1 (rw c.in-Err.is at c.subscriber_mut.follows.holds-at-none),
 )
