@@ -1,0 +1,20 @@
+use Rattle.std.proofs.Common.{rules, refl, ap, [], ◌∷◌, inl, inr}
+use Rattle.event_manager.specs.Registry.{Replaced, NotReplaced}
+use Rattle.event_manager.proofs.OneStep.{replaced_step, not_replaced_step}
+use Rattle.bench.proofs.jobs.CountOneJobCounter.call.Goals as goal
+
+pub returns-in-Ok-clause-stepped : goal.returns-in-Ok-clause-stepped
+returns-in-Ok-clause-stepped g c =
+    let old = c.in-Ok.counter.now in
+    let new = c.count_one.new.self in (
+      Replaced c.args.self.0 old new ∷ [],
+      inl (old, ap (λ counter. Replaced c.args.self.0 old counter ∷ []) c.count_one.ensures),
+      replaced_step _ _ c.args.self.0 old new c.in-Ok.ensures.found (c.subscriber_mut.follows.holds new (rw c.in-Ok.is refl)),
+    )
+
+pub returns-in-Err-clause-stepped : goal.returns-in-Err-clause-stepped
+returns-in-Err-clause-stepped g c = (
+  NotReplaced c.args.self.0 ∷ [],
+  inr (refl, search rules),
+  not_replaced_step _ _ c.args.self.0 c.in-Err.ensures.lost.1 (rw c.in-Err.is at c.subscriber_mut.follows.holds-at-none),
+)

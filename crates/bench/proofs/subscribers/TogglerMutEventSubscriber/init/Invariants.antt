@@ -1,0 +1,8 @@
+use Rattle.std.proofs.Common.{◌≡◌, List}
+use Rattle.event_manager.specs.Exchange.{Exchanges}
+use Rattle.event_manager.specs.PollerCall.{PollerCall}
+use Rattle.event_manager.specs.Requests.{AreMadeThrough}
+use Rattle.bench.proofs.subscribers.TogglerMutEventSubscriber.init.Given as goal
+
+abbrev pub invariant-loop-k : goal.invariant-loop-k
+invariant-loop-k g l = (exchanges : Exchanges) × (calls : List PollerCall) × (l.self.count ≡ l.initial.self.count) × AreMadeThrough g.P.EventPoller.controls g.P.EventPoller.waits l.initial.ops l.ops exchanges calls

@@ -1,0 +1,133 @@
+//! What a job costs that another thread sends to the loop's, and waits for.
+
+ghost use Rattle.std.specs.Prelude.{◌≡◌};
+
+use crate::arguments::Family;
+use crate::bench::{Bench, Host, Measured};
+use crate::fault::{Fault, expect};
+use crate::jobs::CountOne;
+use crate::subscribers::{Counter, FIRST};
+use crate::timing::{REPEATS, Times};
+use event_manager::{EventManager, PlainPoller, RemoteEndpoint, SubscriberId, SubscriberOps};
+use std::marker::Brand;
+use std::sync::Wait;
+use std::sync::atomic::{AtomicBool, Ordering};
+use std::sync::ledger::{Blank, Ledger};
+use std::thread;
+use std::time::Clock;
+use vmm_sys::epoll::Epoll;
+use vmm_sys::eventfd::EventFd;
+
+/// A loop with one counter, over the in-process table.
+type Loop<L, T, R> = EventManager<Counter, CountOne, L, T, PlainPoller<Epoll<R>>>;
+
+/// How many parts the ledger of a manager's tickets has.
+const TICKET_PARTS: u64 = 9223372036854775808;
+
+/// How many jobs a repeat sends.
+const JOBS: u32 = 2000;
+
+/// How often the loop waits at most.
+const MAX_WAITS: u32 = 1000000;
+
+/// For how many milliseconds the loop waits at most each time.
+const MAX_WAIT: i32 = 100;
+
+/// Runs the loop until the flag is set, or it has waited `MAX_WAITS` times.
+fn run_until<L: Ledger, T: Ledger, R: Wait + Clock + Clone + Send + Drop>(
+    manager: &mut Loop<L, T, R>,
+    stopped: &AtomicBool,
+    rt: &R,
+) -> Result<(), Fault> {
+    for _ in 0..MAX_WAITS {
+        manager.run_with_timeout(MAX_WAIT, rt)?;
+        if stopped.load(Ordering::SeqCst) {
+            break;
+        }
+    }
+    Ok(())
+}
+
+/// Sends so many jobs, and waits for the reply of each.
+fn call_often<L: Ledger, T: Ledger, R: Wait + Clock>(
+    endpoint: &RemoteEndpoint<Counter, CountOne, L, T>,
+    id: SubscriberId,
+    rounds: u32,
+    rt: &R,
+) -> Result<(), Fault> {
+    for _ in 0..rounds {
+        let _ = endpoint.call_blocking(CountOne(id), rt)??;
+    }
+    Ok(())
+}
+
+/// Sends the jobs of all repeats, and then stops the loop.
+fn call_and_stop<L: Ledger, T: Ledger, R: Wait + Clock>(
+    endpoint: &RemoteEndpoint<Counter, CountOne, L, T>,
+    id: SubscriberId,
+    rounds: u32,
+    stopped: &AtomicBool,
+    rt: &R,
+) -> Result<Times, Fault> {
+    let times = Times::of(|| call_often(endpoint, id, rounds, rt), rt);
+    stopped.store(true, Ordering::SeqCst);
+    let _ = endpoint.kick(rt);
+    times
+}
+
+/// Sends the jobs of all repeats beside the loop's thread. Whatever ends the loop, it is closed, so that nobody waits for a
+/// reply any more. Answers the times, and how many jobs were taken.
+fn call_beside<L: Ledger + Send + Sync, T: Ledger + Send + Sync, R: Host>(
+    mut manager: Loop<L, T, R>,
+    id: SubscriberId,
+    rounds: u32,
+    rt: &R,
+) -> Result<(Times, u64), Fault> {
+    let endpoint = manager.remote_endpoint()?;
+    let stopped = AtomicBool::new(false);
+    let (called, (ran, closed)) = thread::join(
+        rt,
+        || call_and_stop(&endpoint, id, rounds, &stopped, rt),
+        || {
+            let ran = run_until(&mut manager, &stopped, rt);
+            (ran, manager.close(rt))
+        },
+    );
+    ran?;
+    Ok((called?, closed.taken()))
+}
+
+/// Makes the loop, and measures a call over it.
+fn measure<L: Ledger + Send + Sync, T: Ledger + Send + Sync, R: Host>(
+    bench: &Bench<R>,
+    tickets: Blank,
+    taken: Blank,
+) -> Result<Measured, Fault>
+    requires tickets_name { tickets.name ≡ L.name }
+    requires tickets_parts { (tickets.parts ≡ L.parts) × (tickets.parts ≡ 9223372036854775808) }
+    requires taken_name { taken.name ≡ T.name }
+    requires taken_parts { (taken.parts ≡ T.parts) × (taken.parts ≡ 1) }
+{
+    let (alloc, rt, rounds) = (bench.alloc, &bench.rt, bench.rounds(JOBS));
+    let epoll = Epoll::new(*rt, alloc)?;
+    let event_fd = EventFd::new(&epoll, 0, rt)?;
+    let poller = PlainPoller(epoll);
+    let mut manager = Loop::<L, T, R>::new(alloc, poller, event_fd, tickets, taken)?;
+    let id = manager.add_subscriber(Counter::new(FIRST as i32, 0))?;
+    let (times, jobs) = call_beside(manager, id, rounds, rt)?;
+    Ok(Measured {
+        times,
+        operations: rounds as u64,
+        count: expect(jobs, REPEATS as u64 * rounds as u64)?,
+    })
+}
+
+/// Measures a `call_blocking` from another thread than the loop's, where it is wanted.
+pub fn measure_calls<R: Host>(bench: &Bench<R>) -> Result<(), Fault> {
+    if !bench.wanted.has_family(Family::Call) {
+        return Ok(());
+    }
+    let (tickets, taken) = (Blank::new(TICKET_PARTS), Blank::new(1));
+    let measured = measure::<Brand, Brand, R>(bench, tickets, taken)?;
+    bench.print("call_blocking between two threads", measured)
+}

@@ -1,0 +1,104 @@
+//! What a join and a leave cost.
+
+use crate::arguments::{Family, Share, Size};
+use crate::bench::{Bench, Host, Measured};
+use crate::fault::{Fault, expect};
+use crate::fixed::{BATCH, Fixed};
+use crate::over_fixed::{Manager, ManagerMeasure, measure};
+use crate::subscribers::{Counter, FIRST};
+use crate::timing::{REPEATS, Times};
+use event_manager::{EventPoller, SubscriberOps};
+use std::alloc::Global;
+use std::sync::Wait;
+use std::sync::ledger::Ledger;
+use std::time::Clock;
+
+/// The lowest descriptor of the subscriber that joins and leaves.
+const FIRST_OF_GUEST: i32 = 1000000;
+
+/// Joins and leaves of a subscriber with so many descriptors, beside others with one each.
+#[derive(Clone, Copy)]
+struct JoinAndLeave {
+    others: u16,
+    descriptors: u16,
+    rounds: u32,
+}
+
+impl ManagerMeasure for JoinAndLeave {
+    type Subscriber = Counter;
+
+    fn name(&self, alloc: Global) -> Result<String, Fault> {
+        let (others, descriptors) = (self.others, self.descriptors);
+        Ok(format!(in alloc; "join and leave, {others} others, {descriptors} fds")?)
+    }
+
+    fn poller(&self, alloc: Global) -> Result<Fixed, Fault> {
+        Fixed::first(0, alloc)
+    }
+
+    fn capacity(&self) -> usize {
+        BATCH as usize
+    }
+
+    fn take<L: Ledger, T: Ledger, P: EventPoller, R: Wait + Clock>(
+        &self,
+        manager: &mut Manager<Counter, L, T, P>,
+        _alloc: Global,
+        rt: &R,
+    ) -> Result<Measured, Fault> {
+        for k in 0..self.others {
+            let _ = manager.add_subscriber(Counter::new(FIRST as i32 + k as i32, 1))?;
+        }
+        let (descriptors, rounds) = (self.descriptors, self.rounds);
+        let mut count = 0u64;
+        let times = Times::of(
+            || {
+                let left = join_and_leave(manager, descriptors, rounds)?;
+                count = count.saturating_add(left);
+                Ok(())
+            },
+            rt,
+        )?;
+        Ok(Measured {
+            times,
+            operations: rounds as u64,
+            count: expect(count, REPEATS as u64 * rounds as u64)?,
+        })
+    }
+}
+
+// Answers how many left; each must have counted nothing.
+fn join_and_leave<L: Ledger, T: Ledger, P: EventPoller>(
+    manager: &mut Manager<Counter, L, T, P>,
+    descriptors: u16,
+    rounds: u32,
+) -> Result<u64, Fault> {
+    let mut left = 0u64;
+    for _ in 0..rounds {
+        let id = manager.add_subscriber(Counter::new(FIRST_OF_GUEST, descriptors))?;
+        expect(manager.remove_subscriber(id)?.counted()?, 0)?;
+        left = left.saturating_add(1);
+    }
+    Ok(left)
+}
+
+/// Measures a join and a leave at each wanted size, with each wanted number of descriptors.
+pub fn measure_joins<R: Host>(bench: &Bench<R>) -> Result<(), Fault> {
+    if !bench.wanted.has_family(Family::Leave) {
+        return Ok(());
+    }
+    let rounds = bench.rounds(50000);
+    for (size, others) in [(Size::Small, 0), (Size::Middle, 256), (Size::Large, 4096)] {
+        for (share, descriptors) in [(Share::Single, 1), (Share::Several, 16)] {
+            if bench.wanted.has_size(size) && bench.wanted.has_share(share) {
+                let join_and_leave = JoinAndLeave {
+                    others,
+                    descriptors,
+                    rounds,
+                };
+                measure(bench, &join_and_leave)?;
+            }
+        }
+    }
+    Ok(())
+}

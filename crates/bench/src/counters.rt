@@ -1,0 +1,131 @@
+//! What a write costs that the loop delivers, over the in-process table.
+
+use crate::arguments::{Family, Size};
+use crate::bench::{Bench, Host, Measured};
+use crate::fault::{Fault, expect};
+use crate::over_fixed::Manager;
+use crate::subscribers::Reader;
+use crate::timing::{REPEATS, Times};
+use event_manager::{EventPoller, PlainPoller, SubscriberOps, WithLedgers, with_ledgers};
+use std::alloc::Global;
+use std::sync::Wait;
+use std::sync::ledger::{Blank, Ledger};
+use std::time::Clock;
+use vmm_sys::epoll::Epoll;
+use vmm_sys::eventfd::EventFd;
+
+/// How many writes a repeat makes.
+const WRITES: u32 = 4096;
+
+/// So many counters with a reader each: all that the measure needs but the manager, which is made over ledgers.
+struct WrittenCounters<'a, R> {
+    epoll: Epoll<R>,
+    endpoint: EventFd,
+    counters: Vec<EventFd>,
+    rounds: u32,
+    alloc: Global,
+    rt: &'a R,
+}
+
+impl<R: Wait + Clock + Copy + Send + Drop> WithLedgers for WrittenCounters<'_, R> {
+    type Output = Result<Measured, Fault>;
+
+    fn run<L: Ledger + Send + Sync, T: Ledger + Send + Sync>(
+        self,
+        tickets: Blank,
+        taken: Blank,
+    ) -> Result<Measured, Fault> {
+        let WrittenCounters {
+            epoll,
+            endpoint,
+            counters,
+            rounds,
+            alloc,
+            rt,
+        } = self;
+        let poller = PlainPoller(epoll);
+        let mut manager = Manager::<Reader<R>, L, T, _>::new(
+            alloc, poller, endpoint, tickets, taken,
+        )?;
+        let mut ids = Vec::new(alloc);
+        for counter in &counters {
+            let reader = Reader {
+                counter: counter.try_clone()?,
+                sum: 0,
+                rt: *rt,
+            };
+            ids.push(manager.add_subscriber(reader)?)?;
+        }
+        let times = Times::of(
+            || write_and_run(&mut manager, counters.as_slice(), rounds, rt),
+            rt,
+        )?;
+        let mut count = 0u64;
+        for id in ids {
+            count = count.saturating_add(manager.remove_subscriber(id)?.sum);
+        }
+        Ok(Measured {
+            times,
+            operations: rounds as u64,
+            count: expect(count, REPEATS as u64 * rounds as u64)?,
+        })
+    }
+}
+
+// Writes 1 to one counter after the other, so often in all, and runs the manager each time.
+fn write_and_run<L: Ledger, T: Ledger, P: EventPoller, R: Wait + Clock>(
+    manager: &mut Manager<Reader<R>, L, T, P>,
+    counters: &[EventFd],
+    rounds: u32,
+    rt: &R,
+) -> Result<(), Fault> {
+    let mut next = counters.iter();
+    for _ in 0..rounds {
+        if next.len() == 0 {
+            next = counters.iter();
+        }
+        if let Some(counter) = next.next() {
+            counter.write(1, rt)?;
+        }
+        expect(manager.run(rt)? as u64, 1)?;
+    }
+    Ok(())
+}
+
+fn measure<R: Host>(bench: &Bench<R>, count: u16) -> Result<(), Fault> {
+    let (alloc, rt) = (bench.alloc, &bench.rt);
+    let epoll = Epoll::new(*rt, alloc)?;
+    let endpoint = EventFd::new(&epoll, 0, rt)?;
+    let mut counters = Vec::new(alloc);
+    for _ in 0..count {
+        counters.push(EventFd::new(&epoll, 0, rt)?)?;
+    }
+    let measured = with_ledgers(WrittenCounters {
+        epoll,
+        endpoint,
+        counters,
+        rounds: bench.rounds(WRITES),
+        alloc,
+        rt,
+    })?;
+    let name = format!(in alloc; "a write, a run and a read, {count} counters")?;
+    bench.print(name.as_str(), measured)
+}
+
+/// Measures a write, the run that delivers it and its read at each wanted size.
+pub fn measure_counters<R: Host>(bench: &Bench<R>) -> Result<(), Fault> {
+    if !bench.wanted.has_family(Family::Counters) {
+        return Ok(());
+    }
+    for (size, count) in [
+        (Size::Small, 1),
+        (Size::Small, 16),
+        (Size::Middle, 256),
+        (Size::Large, 4096),
+    ] {
+        if bench.wanted.has_size(size) {
+            measure(bench, count)?;
+        }
+    }
+    Ok(())
+}

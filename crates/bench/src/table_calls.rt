@@ -1,0 +1,230 @@
+//! What the calls of the in-process table cost.
+
+use crate::arguments::{Family, Size};
+use crate::bench::{Bench, Host, Measured};
+use crate::fault::{Fault, expect};
+use crate::fixed::BATCH;
+use crate::timing::{REPEATS, Times};
+use std::alloc::Global;
+use vmm_sys::epoll::{ControlOperation, EpollEvent, EventSet, RawFd};
+use vmm_sys::table::Table;
+
+/// How often a call of `ctl` is made in a repeat.
+const CONTROLS: u32 = 10000;
+
+/// How often a repeat waits where one interest is ready.
+const WAITS_FOR_ONE: u32 = 2000;
+
+/// A table with so many counters of this value, and no interest. `Descriptor`.
+fn open_counters(count: u16, value: u64, alloc: Global) -> Result<Table, Fault> {
+    let mut table = Table::new(alloc);
+    for _ in 0..count {
+        let _ = table.add_counter(value)?;
+    }
+    Ok(table)
+}
+
+/// Asks for `IN` of the descriptors from 0 up, so many, with the descriptor as word. `Descriptor`.
+fn add_interests(table: &mut Table, count: u16) -> Result<(), Fault> {
+    for fd in 0..count {
+        let event = EpollEvent::new(EventSet::IN, fd as u64);
+        table.ctl(ControlOperation::Add, fd as RawFd, event)?;
+    }
+    Ok(())
+}
+
+/// A table with so many counters of this value, and an interest in each. `Descriptor`.
+fn filled(count: u16, value: u64, alloc: Global) -> Result<Table, Fault> {
+    let mut table = open_counters(count, value, alloc)?;
+    add_interests(&mut table, count)?;
+    Ok(table)
+}
+
+/// A buffer with room for so many entries. `Memory`.
+fn buffer(room: usize, alloc: Global) -> Result<Vec<EpollEvent>, Fault> {
+    Ok(vec![in alloc; EpollEvent::new(EventSet::empty(), 0); room]?)
+}
+
+/// Waits so often, each of which must report `count` entries; answers how many were reported in all.
+fn wait(
+    table: &mut Table,
+    buffer: &mut [EpollEvent],
+    count: u64,
+    rounds: u32,
+) -> Result<u64, Fault> {
+    let mut reported = 0u64;
+    for _ in 0..rounds {
+        reported = reported.saturating_add(expect(table.wait(buffer)? as u64, count)?);
+    }
+    Ok(reported)
+}
+
+/// The measures of a table of one size.
+#[derive(Drop)]
+struct TableCalls<'a, R> {
+    bench: &'a Bench<R>,
+    interests: u16,
+    /// How often a repeat waits where all are ready.
+    waits: u32,
+}
+
+impl<R: Host> TableCalls<'_, R> {
+    fn measure(&self) -> Result<(), Fault> {
+        self.measure_filling()?;
+        self.measure_modify()?;
+        self.measure_add_and_delete()?;
+        self.measure_report()?;
+        self.measure_one_ready()
+    }
+
+    /// Counts the interests that are then reported.
+    fn measure_filling(&self) -> Result<(), Fault> {
+        let (alloc, interests) = (self.bench.alloc, self.interests);
+        let mut buffer = buffer(interests as usize + 1, alloc)?;
+        let mut tables = Vec::new(alloc);
+        for _ in 0..REPEATS {
+            tables.push(open_counters(interests, 1, alloc)?)?;
+        }
+        let mut next = tables.iter_mut();
+        let times = Times::of(
+            || match next.next() {
+                Some(table) => add_interests(table, interests),
+                None => Ok(()),
+            },
+            &self.bench.rt,
+        )?;
+        let mut count = 0u64;
+        for table in &mut tables {
+            count = count.saturating_add(table.wait(buffer.as_mut_slice())? as u64);
+        }
+        let name = format!(in alloc; "Add while filling to {interests} interests")?;
+        let operations = interests as u64;
+        self.print(name, times, operations, count)
+    }
+
+    /// Counts the modifications, each of which has its number as word; the last is then reported with it.
+    fn measure_modify(&self) -> Result<(), Fault> {
+        let (alloc, interests) = (self.bench.alloc, self.interests);
+        let mut table = filled(interests, 1, alloc)?;
+        let (rounds, last) = (self.bench.rounds(CONTROLS), interests.saturating_sub(1));
+        let mut count = 0u64;
+        let times = Times::of(
+            || {
+                for _ in 0..rounds {
+                    count = count.saturating_add(1);
+                    let event = EpollEvent::new(EventSet::IN, count);
+                    table.ctl(ControlOperation::Modify, last as RawFd, event)?;
+                }
+                Ok(())
+            },
+            &self.bench.rt,
+        )?;
+        let mut buffer = buffer(interests as usize + 1, alloc)?;
+        expect(table.wait(buffer.as_mut_slice())? as u64, interests as u64)?;
+        let reported = match buffer.get(last as usize) {
+            Some(entry) => entry.data(),
+            None => 0,
+        };
+        let name = format!(in alloc; "Modify the last of {interests} interests")?;
+        self.print(name, times, rounds as u64, reported)
+    }
+
+    /// Counts the pairs; the others are then reported.
+    fn measure_add_and_delete(&self) -> Result<(), Fault> {
+        let (alloc, interests) = (self.bench.alloc, self.interests);
+        let mut table = filled(interests, 1, alloc)?;
+        let fd = table.add_counter(1)?;
+        let rounds = self.bench.rounds(CONTROLS);
+        let mut count = 0u64;
+        let times = Times::of(
+            || {
+                for _ in 0..rounds {
+                    let event = EpollEvent::new(EventSet::IN, count);
+                    table.ctl(ControlOperation::Add, fd, event)?;
+                    table.ctl(ControlOperation::Delete, fd, event)?;
+                    count = count.saturating_add(1);
+                }
+                Ok(())
+            },
+            &self.bench.rt,
+        )?;
+        let mut buffer = buffer(interests as usize + 1, alloc)?;
+        expect(table.wait(buffer.as_mut_slice())? as u64, interests as u64)?;
+        let name = format!(in alloc; "Add and Delete one beside {interests}")?;
+        self.print(name, times, rounds as u64, count)
+    }
+
+    /// Counts the entries that are reported.
+    fn measure_report(&self) -> Result<(), Fault> {
+        let (alloc, interests) = (self.bench.alloc, self.interests);
+        let mut table = filled(interests, 1, alloc)?;
+        let mut buffer = buffer(BATCH as usize, alloc)?;
+        let (rounds, reported) = (self.bench.rounds(self.waits), (interests as u64).min(256));
+        let mut count = 0u64;
+        let times = Times::of(
+            || {
+                let entries = wait(&mut table, buffer.as_mut_slice(), reported, rounds)?;
+                count = count.saturating_add(entries);
+                Ok(())
+            },
+            &self.bench.rt,
+        )?;
+        let name = format!(in alloc; "an entry of a wait, all of {interests} ready")?;
+        self.print(name, times, rounds as u64 * reported, count)
+    }
+
+    /// Counts the waits, each of which must report one entry.
+    fn measure_one_ready(&self) -> Result<(), Fault> {
+        let (alloc, interests) = (self.bench.alloc, self.interests);
+        let mut table = filled(interests, 0, alloc)?;
+        table.write(interests.saturating_sub(1) as RawFd, 1)?;
+        let mut buffer = buffer(BATCH as usize, alloc)?;
+        let rounds = self.bench.rounds(WAITS_FOR_ONE);
+        let mut count = 0u64;
+        let times = Times::of(
+            || {
+                let entries = wait(&mut table, buffer.as_mut_slice(), 1, rounds)?;
+                count = count.saturating_add(entries);
+                Ok(())
+            },
+            &self.bench.rt,
+        )?;
+        let name = format!(in alloc; "a wait, 1 of {interests} ready")?;
+        self.print(name, times, rounds as u64, count)
+    }
+
+    /// Prints a line, where the repeats counted 5 times their operations; else `Answer`.
+    fn print(&self, name: String, times: Times, operations: u64, count: u64) -> Result<(), Fault> {
+        let count = expect(count, operations.saturating_mul(REPEATS as u64))?;
+        self.bench.print(
+            name.as_str(),
+            Measured {
+                times,
+                operations,
+                count,
+            },
+        )
+    }
+}
+
+/// Measures the calls of a table at each wanted size.
+pub fn measure_tables<R: Host>(bench: &Bench<R>) -> Result<(), Fault> {
+    if !bench.wanted.has_family(Family::Table) {
+        return Ok(());
+    }
+    for (size, interests, waits) in [
+        (Size::Small, 16, 20000),
+        (Size::Middle, 256, 1000),
+        (Size::Large, 4096, 20),
+    ] {
+        if bench.wanted.has_size(size) {
+            let calls = TableCalls {
+                bench,
+                interests,
+                waits,
+            };
+            calls.measure()?;
+        }
+    }
+    Ok(())
+}

@@ -1,0 +1,62 @@
+//! How long repeats take.
+
+use crate::fault::Fault;
+use std::time::{Clock, Instant};
+
+/// How often each measure is repeated.
+pub const REPEATS: u32 = 5;
+
+/// How long the repeats of a measure took, in nanoseconds.
+#[derive(Clone, Copy)]
+pub struct Times {
+    nanoseconds: [u128; 5],
+}
+
+impl Times {
+    /// Does the work 5 times, and looks at the clock before and after each. A fault of the work is passed on; `System`
+    /// where the clock can't be read.
+    pub fn of<F, R>(mut work: F, rt: &R) -> Result<Times, Fault>
+    where
+        F: FnMut() -> Result<(), Fault>,
+        R: Clock,
+        requires { F.IsAlwaysCallable work }
+    {
+        let mut nanoseconds = [0; 5];
+        for k in 0..5usize {
+            let start = Instant::now(rt)?;
+            work()?;
+            nanoseconds[k] = start.elapsed(rt)?.as_nanos();
+        }
+        nanoseconds.sort_unstable();
+        Ok(Times { nanoseconds })
+    }
+
+    /// The least time, by so many operations in a repeat.
+    pub fn least(&self, operations: u64) -> Tenths {
+        Tenths::of(self.nanoseconds[0], operations)
+    }
+
+    /// The middle time, by so many operations in a repeat.
+    pub fn middle(&self, operations: u64) -> Tenths {
+        Tenths::of(self.nanoseconds[2], operations)
+    }
+}
+
+/// Nanoseconds and their tenths.
+#[derive(Clone, Copy)]
+pub struct Tenths {
+    /// The nanoseconds.
+    pub whole: u128,
+    /// The tenths beside them, below 10.
+    pub tenths: u128,
+}
+
+impl Tenths {
+    fn of(nanoseconds: u128, operations: u64) -> Tenths {
+        let tenths = nanoseconds.saturating_mul(10) / (operations.max(1) as u128);
+        Tenths {
+            whole: tenths / 10,
+            tenths: tenths % 10,
+        }
+    }
+}
