@@ -1,10 +1,13 @@
 //! Many removals at one event, and descriptors at the ends of what a table by descriptor holds.
 
-use crate::runs::{run_alone, silent_parts};
+use crate::parts::counter_at;
+use crate::runs::{Parts, run_alone};
 use event_manager::{EventOps, EventPoller, Events, MutEventSubscriber, PlainPoller, Request};
 use std::alloc::Global;
+use std::sync::Wait;
 use std::test::Fail;
-use vmm_sys::epoll::{EpollEvent, EventSet, RawFd};
+use std::time::Clock;
+use vmm_sys::epoll::{Epoll, EpollEvent, EventSet, RawFd};
 use vmm_sys::script_poller::ScriptPoller;
 
 /// Makes requests in `init`, and others at one of its events, which it counts.
@@ -38,7 +41,7 @@ impl MutEventSubscriber for Requesting {
 }
 
 /// Adds the descriptors, and later takes each out, and perhaps adds it again after that.
-fn requesting(
+fn make_requesting(
     alloc: Global,
     fds: &[RawFd],
     turning_point: u64,
@@ -76,12 +79,27 @@ fn reports_of(alloc: Global, fds: &[RawFd], reports: u32) -> Result<ScriptPoller
     Ok(script)
 }
 
+/// Parts over a script, with a silent endpoint on descriptor 201.
+fn parts_beside<R: Wait + Clock + Clone + Send + Drop>(
+    rt: R,
+    alloc: Global,
+    script: ScriptPoller,
+) -> Result<Parts<PlainPoller<ScriptPoller>>, Fail> {
+    let epoll = Epoll::new(rt.clone()?, alloc)?;
+    Ok(Parts {
+        alloc,
+        poller: PlainPoller(script),
+        event_fd: counter_at(&epoll, 201, 0, &rt)?,
+        capacity: None,
+    })
+}
+
 #[test]
 fn descriptors_at_the_ends_are_removed_and_added_again(rt: HostRuntime) -> Result<(), Fail> {
     let fds = [0, 65535, 65536, 2147483647];
     let script = reports_of(rt.alloc(), &fds, 3)?;
-    let parts = silent_parts(rt, rt.alloc(), PlainPoller(script))?;
-    let subscriber = requesting(rt.alloc(), &fds, 5, true)?;
+    let parts = parts_beside(rt, rt.alloc(), script)?;
+    let subscriber = make_requesting(rt.alloc(), &fds, 5, true)?;
     // The first event of the second report cancels the three behind it.
     let runs = [(None, Ok(4)), (None, Ok(4)), (None, Ok(4))];
     let left = run_alone(&rt, parts, subscriber, &runs)?;
@@ -97,8 +115,8 @@ fn two_hundred_removals_at_one_event(rt: HostRuntime) -> Result<(), Fail> {
         fds.push(fd)?;
     }
     let script = reports_of(rt.alloc(), &fds, 2)?;
-    let parts = silent_parts(rt, rt.alloc(), PlainPoller(script))?;
-    let subscriber = requesting(rt.alloc(), &fds, 1, false)?;
+    let parts = parts_beside(rt, rt.alloc(), script)?;
+    let subscriber = make_requesting(rt.alloc(), &fds, 1, false)?;
     let runs = [(None, Ok(200)), (None, Ok(200))];
     let left = run_alone(&rt, parts, subscriber, &runs)?;
     assert_eq!(rt; left.count, 1);
