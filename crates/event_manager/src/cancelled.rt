@@ -8,7 +8,7 @@ use vmm_sys::epoll::RawFd;
 /// Where a search ended: whether it found the descriptor, at which place it stands or would stand, and after how many
 /// probes.
 #[derive(Clone, Copy)]
-struct Place {
+struct SearchEnd {
     found: bool,
     at: usize,
     probes: usize,
@@ -43,7 +43,7 @@ pub(crate) fn enter(list: &mut Vec<RawFd>, fd: RawFd)
     let _ = list.insert(search.at, fd);
 }
 
-fn search(list: &[RawFd], fd: RawFd) -> Place
+fn search(list: &[RawFd], fd: RawFd) -> SearchEnd
     requires { IsAscending list.now }
     ensures place { IsPlaceOf list.now fd result.found result.at }
     ensures probes { (digits : ℕ) → length list.now < 2 ^ digits → result.probes ≤ digits }
@@ -56,7 +56,7 @@ fn search(list: &[RawFd], fd: RawFd) -> Place
         let entry = list[middle];
         probes += 1;
         if entry == fd {
-            return Place {
+            return SearchEnd {
                 found: true,
                 at: middle,
                 probes,
@@ -68,7 +68,7 @@ fn search(list: &[RawFd], fd: RawFd) -> Place
             high = middle;
         }
     }
-    Place {
+    SearchEnd {
         found: false,
         at: low,
         probes,

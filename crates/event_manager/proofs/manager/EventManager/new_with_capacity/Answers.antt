@@ -20,7 +20,7 @@ returns-in-Ok-ctl g c =
       after,
       rw (sym led.2) at led.1,
       ap state c.ctl.ensures.registrations
-      ∙ ap (λ t. record (state registry.ops.epoll.registrations) { taken = t }) c.in-Ok-new.ensures
-      ∙ ap (λ (s : LoopState _ _). record s { poller = after }) made
-      ∙ ap (λ e. new_loop e after c.args.capacity) (c.number.ensures.value ∙ ap (λ (e : Event). e.fd) c.new-events.ensures),
+          ∙ ap (λ t. record (state registry.ops.epoll.registrations) { taken = t }) c.in-Ok-new.ensures
+          ∙ ap (λ (s : LoopState _ _). record s { poller = after }) made
+          ∙ ap (λ e. new_loop e after c.args.capacity) (c.number.ensures.value ∙ ap (λ (e : Event). e.fd) c.new-events.ensures),
     )
