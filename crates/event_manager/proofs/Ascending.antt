@@ -1,5 +1,5 @@
 -- Ascending lists of descriptors, searched by halving.
-use Rattle.std.proofs.Common.{◌≡◌, ◌≢◌, ℕ, zero, suc, ◌+◌, ◌-◌, ◌*◌, ◌^◌, ◌==◌, ◌<◌, ◌≤◌, ◌||◌, refl, sym, ap, subst, ◌∙◌, List, [], ◌∷◌, ◌++◌, Bool, true, false, arith, length, get_or, take, drop, AllPairs, All, inl, inr, ◌⊎◌, Decides, SFits, w32, to_z, of_z, pos, insert}
+use Rattle.std.proofs.Common.{◌≡◌, ℕ, ◌+◌, ◌-◌, ◌*◌, ◌^◌, ◌<◌, ◌≤◌, ◌||◌, refl, sym, ap, subst, ◌∙◌, List, ◌∷◌, Bool, true, false, arith, length, get_or, take, drop, inl, inr, ◌⊎◌, SFits, w32, to_z, of_z, pos, insert}
 use Rattle.std.specs.Prelude.{ℤ, ◌<ℤ◌}
 use Rattle.std.specs.List.{list_any}
 use Rattle.std.proofs.lemmas.Bool.{cases_lt}

@@ -1,5 +1,5 @@
 -- What keeps owners, watch lists and cancelled descriptors consistent.
-use Rattle.std.proofs.Common.{◌≡◌, ℕ, ℤ, ◌+◌, ◌-◌, ◌<◌, ◌≤◌, ◌^◌, refl, sym, ap, subst, ◌∙◌, List, [], length, get_or, Some, None, is_some, IsSome, arith, nat_cmp, cond, Bool}
+use Rattle.std.proofs.Common.{◌≡◌, ℕ, ℤ, ◌+◌, ◌-◌, ◌<◌, ◌≤◌, ◌^◌, sym, ap, subst, ◌∙◌, List, [], length, get_or, Some, None, is_some, IsSome, arith, nat_cmp, cond, Bool}
 use Rattle.std.proofs.lemmas.Bool.{false≢true}
 use Rattle.std.specs.FinMap.{FinMap, get, insert, remove, empty, len, get-empty, len-empty}
 use Rattle.event_manager.specs.Consistency.{AreConsistent}

@@ -1,8 +1,8 @@
 -- How many owners there are, once one is put in or taken out.
-use Rattle.std.proofs.Common.{◌≡◌, ℕ, zero, suc, ◌+◌, ◌-◌, ◌<◌, ◌≤◌, refl, sym, ap, subst, ◌∙◌, Bool, true, false, cond, Option, Some, None, arith, is_some, IsSome, nat_cmp}
+use Rattle.std.proofs.Common.{◌≡◌, ℕ, zero, suc, ◌+◌, ◌-◌, ◌≤◌, refl, sym, ap, ◌∙◌, Bool, true, false, cond, Option, Some, None, arith, is_some, nat_cmp}
 use Rattle.std.proofs.lemmas.Bool.{false≢true}
 use Rattle.std.specs.Cmp.{nat_cmp_total}
-use Rattle.std.specs.FinMap.{FinMap, get, insert, remove, empty, len, len-insert, len-remove, empty_of_len, get-empty}
+use Rattle.std.specs.FinMap.{FinMap, get, insert, remove, len, len-insert, len-remove, empty_of_len, get-empty}
 use Rattle.event_manager.specs.Owners.{id_of}
 use Rattle.event_manager.specs.declared.owners.Owner.{Owner}
 

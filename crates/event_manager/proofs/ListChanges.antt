@@ -2,7 +2,7 @@
 use Rattle.std.proofs.Common.{◌≡◌, ℕ, ◌+◌, ◌==◌, refl, sym, ap, subst, ◌∙◌, List, Bool, true, false, cond, Option, Vec, arith, inl, inr}
 use Rattle.std.specs.HashMap.{get}
 use Rattle.std.specs.List.Sorted.{IsNonDecreasing}
-use Rattle.std.proofs.lemmas.Bool.Decides.{nat_tests, eqb_tells}
+use Rattle.std.proofs.lemmas.Bool.Decides.{eqb_tells}
 use Rattle.std.specs.declared.alloc.Global.{Global}
 use Rattle.event_manager.specs.WatchLists.{items_or_none, watch_list, times_in, AreSorted, IsOneMore, HasOneMore, HasList, HasSameLists}
 use Rattle.event_manager.specs.declared.watch_lists.WatchLists.{WatchLists}

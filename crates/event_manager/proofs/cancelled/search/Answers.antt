@@ -1,5 +1,5 @@
-use Rattle.std.proofs.Common.{◌≡◌, ℕ, ◌<◌, ◌≤◌, ◌+◌, ◌-◌, ◌/◌, arith, sym, length, get_or, rules, SFits, w32, pos, refl}
-use Rattle.std.proofs.lemmas.Int.{to_z-of_z, ints}
+use Rattle.std.proofs.Common.{◌+◌, ◌-◌, ◌/◌, arith, length, get_or, rules, SFits, w32, pos}
+use Rattle.std.proofs.lemmas.Int.{to_z-of_z}
 use Rattle.event_manager.proofs.Ascending.{below_more, above_more, halved_more, few_more, less_than, more_than}
 use Rattle.event_manager.proofs.cancelled.search.Goals as goal
 

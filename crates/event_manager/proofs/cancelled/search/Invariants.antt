@@ -1,4 +1,4 @@
-use Rattle.std.proofs.Common.{◌≡◌, ℕ, ◌<◌, ◌≤◌, ◌+◌, ◌-◌, ◌*◌, ◌^◌, length, get_or}
+use Rattle.std.proofs.Common.{ℕ, ◌<◌, ◌≤◌, ◌-◌, ◌*◌, ◌^◌, length, get_or}
 use Rattle.std.specs.Prelude.{◌<ℤ◌}
 use Rattle.event_manager.proofs.cancelled.search.Given as goal
 

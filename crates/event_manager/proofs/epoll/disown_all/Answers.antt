@@ -1,4 +1,4 @@
-use Rattle.std.proofs.Common.{refl, ap, subst, ◌∙◌, arith, take, ◌+◌, sym}
+use Rattle.std.proofs.Common.{subst, arith, take, ◌+◌, sym}
 use Rattle.event_manager.specs.Releasing.{IsWithout}
 use Rattle.event_manager.proofs.Watching.{without_more}
 use Rattle.event_manager.proofs.epoll.disown_all.Goals as goal

@@ -1,4 +1,4 @@
-use Rattle.std.proofs.Common.{refl, arith, ap, ◌+◌, vec_len}
+use Rattle.std.proofs.Common.{refl, arith, ap, vec_len}
 use Rattle.event_manager.proofs.Consistent.{consistent_registered, consistent_restored, same_owners, same_state}
 use Rattle.event_manager.specs.ReadyList.{ready_of}
 use Rattle.event_manager.proofs.epoll.Registrations.register.Goals as goal

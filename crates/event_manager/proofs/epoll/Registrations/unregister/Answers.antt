@@ -1,4 +1,4 @@
-use Rattle.std.proofs.Common.{refl, arith, ap, ◌+◌, vec_len}
+use Rattle.std.proofs.Common.{arith, vec_len}
 use Rattle.event_manager.proofs.Consistent.{consistent_removed}
 use Rattle.event_manager.proofs.Watching.{listed_once}
 use Rattle.event_manager.proofs.epoll.Registrations.unregister.Goals as goal

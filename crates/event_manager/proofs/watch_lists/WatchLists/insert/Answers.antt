@@ -1,6 +1,6 @@
 use Rattle.std.proofs.Common.{Some, refl, sym, ap, subst, ◌∙◌, IsSome, rules}
 use Rattle.std.specs.List.Sorted.{IsNonDecreasing}
-use Rattle.event_manager.specs.WatchLists.{items_or_none, watch_list, IsOneMore}
+use Rattle.event_manager.specs.WatchLists.{items_or_none, IsOneMore}
 use Rattle.event_manager.specs.declared.watch_lists.WatchLists.{WatchLists}
 use Rattle.event_manager.proofs.ListChanges.{has_list, still_sorted, one_more, same_lists}
 use Rattle.event_manager.proofs.watch_lists.WatchLists.insert.Goals as goal

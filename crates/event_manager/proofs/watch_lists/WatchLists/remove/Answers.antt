@@ -1,4 +1,4 @@
-use Rattle.std.proofs.Common.{Some, refl, sym, ap, subst, IsSome}
+use Rattle.std.proofs.Common.{Some, refl, ap, subst, IsSome}
 use Rattle.event_manager.specs.WatchLists.{items_or_none, IsOneMore}
 use Rattle.event_manager.specs.declared.watch_lists.WatchLists.{WatchLists}
 use Rattle.event_manager.proofs.ListChanges.{has_list, still_sorted, one_less}
