@@ -12,7 +12,7 @@ use Rattle.event_manager.specs.WatchLists.{watch_list, times_in, AreSorted, AreW
 use Rattle.event_manager.specs.ReadyList.{AreDescriptors}
 use Rattle.event_manager.specs.declared.watch_lists.WatchLists.{WatchLists}
 use Rattle.event_manager.proofs.Counting.{held_one, one_fewer, one_more_owner}
-use Rattle.event_manager.proofs.TreeMaps.{remove_insert}
+use Rattle.event_manager.proofs.MapEntries.{remove_insert}
 use Rattle.event_manager.proofs.Watching.{watched_pushed, watched_removed, watched_same, watched_taken, descriptors_pushed, descriptors_removed, descriptors_taken}
 
 -- the same owners and the same positions are the same state

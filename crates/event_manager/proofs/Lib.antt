@@ -15,7 +15,7 @@ pub mod ProjectedTrace
 pub mod ProjectionKept
 pub mod Releasing
 pub mod Soundness
-pub mod TreeMaps
+pub mod MapEntries
 pub mod StepExchangeLemmas
 pub mod OwnerMaps
 pub mod Ascending

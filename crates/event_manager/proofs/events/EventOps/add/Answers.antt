@@ -4,7 +4,7 @@ use Rattle.event_manager.specs.Exchange.{by_manager, by_poller, by_agreement}
 use Rattle.event_manager.specs.PollerCall.{Control}
 use Rattle.event_manager.specs.declared.events.Request.TheVariants.{Add}
 use Rattle.std.specs.FinMap.{remove, get}
-use Rattle.event_manager.proofs.TreeMaps.{remove_insert, with_owner, get_same}
+use Rattle.event_manager.proofs.MapEntries.{remove_insert, with_owner, get_same}
 use Rattle.event_manager.proofs.ExchangeLemmas.{one_made_through, kept, refused_by_manager, cancel_removed_other}
 use Rattle.event_manager.specs.RegistrationState.{RegistrationState, registrations_of}
 use Rattle.event_manager.proofs.events.EventOps.add.Goals as goal
