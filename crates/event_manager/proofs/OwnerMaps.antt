@@ -8,6 +8,7 @@ use Rattle.std.specs.Map.{lookup}
 use Rattle.event_manager.specs.Owners.{id_of, id_at, id_in, low_entries, high_entries, owners_in, AreApart, HasOwnerAt}
 use Rattle.event_manager.specs.declared.owners.Owner.{Owner}
 use Rattle.event_manager.proofs.FiniteMaps.{same_tests}
+use Rattle.event_manager.proofs.Watching.{flipped}
 
 -- the first of two ids that is there
 abbrev first_id : Option ℕ → Option ℕ → Option ℕ
@@ -89,13 +90,6 @@ pub high_owner : (low : List (Option Owner)) (high : List (ℕ × Owner)) (q : �
 high_owner low high q apart above = owner_is low high q ∙ ap (λ o. first_id o (id_in high q)) (past_end low q (omega (arith, apart.low_alone, above)))
 
 -- another owner at one descriptor, in the one or the other
-flipped : (a b : ℕ) → (a == b) ≡ (b == a)
-flipped a b = grind (arith, nat_tests)
-
-first_changed : (b : Bool) (id : ℕ) (o p : Option ℕ) → first_id (cond b (Some id) o) p ≡ cond b (Some id) (first_id o p)
-first_changed true id o p = refl
-first_changed false id o p = refl
-
 first_taken : (b : Bool) (o p : Option ℕ) → (b ≡ true → p ≡ None) → first_id (cond b None o) p ≡ cond b None (first_id o p)
 first_taken true o p none = none refl
 first_taken false o p none = refl
@@ -115,7 +109,7 @@ module _ (low lows : List (Option Owner)) (high highs : List (ℕ × Owner)) (fd
   put_low id below has = same_map nat_cmp_total nat_cmp-IsAntisymmetric _ _ (λ q.
       owner_is lows high q
       ∙ ap (λ o. first_id o (id_in high q)) (has q)
-      ∙ first_changed (fd == q) id (id_at low q) (id_in high q)
+      ∙ first_of_cond (fd == q) id (id_at low q) (id_in high q)
       ∙ ap (λ b. cond b (Some id) (first_id (id_at low q) (id_in high q))) (flipped fd q ∙ sym (same_tests q fd))
       ∙ sym (get-insert nat_cmp_total (owners_in low high) fd id q ∙ ap (λ o. cond (eq_by_cmp nat_cmp q fd) (Some id) o) (owner_is low high q)))
 
