@@ -2,11 +2,11 @@
 
 ghost use Rattle.std.specs.Prelude.{◌≡◌};
 
-use crate::making::{Idle, make, on_table};
+use crate::expecting::expect_same;
+use crate::making::{Idle, OnTable, make, on_table};
 use crate::threads::{Host, LIMIT};
 use crate::work::{Number, Work};
 use event_manager::{Error, EventManager, PlainPoller, RemoteEndpoint};
-use std::alloc::Global;
 use std::marker::Brand;
 use std::sync::ledger::{Blank, Ledger};
 use std::sync::{Arc, Mutex, Wait};
@@ -36,26 +36,76 @@ fn run_until<L: Ledger, T: Ledger, R: Wait + Clock + Clone + Send + Drop>(
     (closed.issued(), closed.taken())
 }
 
+/// The reply of a job that sets the number: the old one.
+fn call_set<L: Ledger, T: Ledger, R: Wait + Clock>(
+    rt: &R,
+    endpoint: &Sender<L, T>,
+    number: &Number,
+    to: u64,
+) -> Result<u64, Error> {
+    endpoint.call_blocking(Work::Set(number.clone()?, to), rt)
+}
+
+/// The reply of a job that reads the number.
+fn call_read<L: Ledger, T: Ledger, R: Wait + Clock>(
+    rt: &R,
+    endpoint: &Sender<L, T>,
+    number: &Number,
+) -> Result<u64, Error> {
+    endpoint.call_blocking(Work::Read(number.clone()?), rt)
+}
+
 /// Sets the value, reads it, and sets the flag, each by a job: the first two replies.
 fn call_thrice<L: Ledger, T: Ledger, R: Wait + Clock>(
     rt: &R,
     endpoint: &Sender<L, T>,
-    value: Number,
-    again: Number,
-    flag: Number,
+    value: &Number,
+    flag: &Number,
 ) -> Result<(u64, u64), Error> {
-    let old = endpoint.call_blocking(Work::Set(value, 7), rt)?;
-    let new = endpoint.call_blocking(Work::Read(again), rt)?;
-    endpoint.call_blocking(Work::Set(flag, 1), rt)?;
+    let old = call_set(rt, endpoint, value, 7)?;
+    let new = call_read(rt, endpoint, value)?;
+    call_set(rt, endpoint, flag, 1)?;
     Ok((old, new))
 }
 
+/// As [`call_thrice`]; where a call is refused, the flag is set all the same.
+fn call_and_flag<L: Ledger, T: Ledger, R: Wait + Clock>(
+    rt: &R,
+    endpoint: &Sender<L, T>,
+    value: &Number,
+    flag: &Number,
+) -> Result<(u64, u64), Error> {
+    let replies = call_thrice(rt, endpoint, value, flag);
+    if replies.is_err() {
+        *flag.lock(rt) = 1;
+    }
+    replies
+}
+
+/// What the calls reply, and how many tickets were issued and jobs taken.
+type Seen = (Result<(u64, u64), Error>, (u64, u64));
+
 /// A thread that calls three times, and the loop.
+fn call_beside_loop<L: Ledger + Send + Sync, T: Ledger + Send + Sync, R: Host>(
+    rt: &R,
+    manager: Loop<L, T, R>,
+    endpoint: &Sender<L, T>,
+    value: &Number,
+    flag: &Number,
+) -> Seen {
+    thread::join(
+        rt,
+        || call_and_flag(rt, endpoint, value, flag),
+        || run_until(rt, manager, flag),
+    )
+}
+
+/// Three calls by an endpoint of a manager of these parts.
 fn calls<L: Ledger + Send + Sync, T: Ledger + Send + Sync, R: Host>(
     rt: &R,
-    alloc: Global,
-    value: Number,
-    flag: Number,
+    parts: OnTable<R>,
+    value: &Number,
+    flag: &Number,
     tickets: Blank,
     taken: Blank,
 ) -> Result<(), Fail>
@@ -64,31 +114,18 @@ fn calls<L: Ledger + Send + Sync, T: Ledger + Send + Sync, R: Host>(
     requires taken_name { taken.name ≡ T.name }
     requires taken_parts { (taken.parts ≡ T.parts) × (taken.parts ≡ 1) }
 {
-    let again = value.clone()?;
-    let theirs = flag.clone()?;
-    let manager = make::<Idle, Work, L, T, _>(on_table(*rt, alloc, 0)?, tickets, taken)?;
+    let manager = make::<Idle, Work, L, T, _>(parts, tickets, taken)?;
     let endpoint = manager.remote_endpoint()?.try_clone()?;
-    let (replies, counts) = thread::join(
-        rt,
-        || {
-            let replies = call_thrice(rt, &endpoint, value, again, theirs);
-            if replies.is_err() {
-                *flag.lock(rt) = 1;
-            }
-            replies
-        },
-        || run_until(rt, manager, &flag),
-    );
-    assert_eq!(rt; replies, Ok((0, 7)));
-    assert_eq!(rt; counts, (3, 3));
+    let seen = call_beside_loop(rt, manager, &endpoint, value, flag);
+    expect_same(rt, &seen, &(Ok((0, 7)), (3, 3)));
     Ok(())
 }
 
 #[test]
 fn callers_get_their_replies(rt: HostRuntime) -> Result<(), Fail> {
-    let alloc = rt.alloc();
-    let value = Arc::new(alloc, Mutex::new(0))?;
-    let flag = Arc::new(alloc, Mutex::new(0))?;
+    let value = Arc::new(rt.alloc(), Mutex::new(0))?;
+    let flag = Arc::new(rt.alloc(), Mutex::new(0))?;
+    let parts = on_table(rt, rt.alloc(), 0)?;
     let tickets = Blank::new(9223372036854775808);
-    calls::<Brand, Brand, HostRuntime>(&rt, alloc, value, flag, tickets, Blank::new(1))
+    calls::<Brand, Brand, HostRuntime>(&rt, parts, &value, &flag, tickets, Blank::new(1))
 }

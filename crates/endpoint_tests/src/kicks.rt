@@ -1,12 +1,15 @@
 //! What ends a wait without a job.
 
-use crate::making::{OnTable, Parts, make};
+use crate::expecting::{expect_noted, expect_run, expect_run_within, new_notes};
+use crate::making::{Parts, WithEndpoint, with_endpoint};
 use crate::noting::Noting;
 use crate::work::{Notes, Work};
-use event_manager::{EventSet, Events, PlainPoller, SubscriberOps, WithLedgers, with_ledgers};
+use event_manager::{
+    EventManager, EventPoller, EventSet, Events, PlainPoller, RemoteEndpoint, SubscriberOps,
+};
 use std::process::Abort;
-use std::sync::ledger::{Blank, Ledger};
-use std::sync::{Arc, Mutex, Wait};
+use std::sync::Wait;
+use std::sync::ledger::Ledger;
 use std::test::Fail;
 use std::time::Clock;
 use vmm_sys::epoll::Epoll;
@@ -16,34 +19,32 @@ use vmm_sys::eventfd::EventFd;
 #[derive(Drop)]
 struct Kicked<'a, R> {
     rt: &'a R,
-    parts: OnTable<R>,
     subscriber: Noting<R>,
-    notes: Notes,
+    notes: &'a Notes,
 }
 
-impl<R: Wait + Clock + Abort + Copy + Send + Drop> WithLedgers for Kicked<'_, R> {
-    type Output = Result<(), Fail>;
+impl<R: Wait + Clock + Abort + Drop> WithEndpoint for Kicked<'_, R> {
+    type Subscriber = Noting<R>;
 
-    fn run<L: Ledger + Send + Sync, T: Ledger + Send + Sync>(
+    type Job = Work;
+
+    fn run<L: Ledger, T: Ledger, P: EventPoller>(
         self,
-        tickets: Blank,
-        taken: Blank,
+        manager: &mut EventManager<Noting<R>, Work, L, T, P>,
+        endpoint: &RemoteEndpoint<Noting<R>, Work, L, T>,
     ) -> Result<(), Fail> {
         let Kicked {
             rt,
-            parts,
             subscriber,
             notes,
         } = self;
-        let mut manager = make::<Noting<R>, Work, L, T, _>(parts, tickets, taken)?;
         manager.add_subscriber(subscriber)?;
-        let endpoint = manager.remote_endpoint()?;
         endpoint.kick(rt)?;
-        assert_eq!(rt; manager.run_with_timeout(5000, rt), Ok(1));
-        assert_eq!(rt; manager.run_with_timeout(0, rt), Ok(0));
+        expect_run_within(rt, manager, 5000, Ok(1));
+        expect_run_within(rt, manager, 0, Ok(0));
         endpoint.kick(rt)?;
-        assert_eq!(rt; manager.run(rt), Ok(1));
-        assert_eq!(rt; notes.lock(rt).len(), 0);
+        expect_run(rt, manager, Ok(1));
+        expect_noted(rt, notes, &[]);
         Ok(())
     }
 }
@@ -51,7 +52,7 @@ impl<R: Wait + Clock + Abort + Copy + Send + Drop> WithLedgers for Kicked<'_, R>
 #[test]
 fn a_kick_ends_a_wait(rt: HostRuntime) -> Result<(), Fail> {
     let alloc = rt.alloc();
-    let notes = Arc::new(alloc, Mutex::new(Vec::new(alloc)))?;
+    let notes = new_notes(alloc)?;
     let epoll = Epoll::new(rt, alloc)?;
     let event_fd = EventFd::new(&epoll, 0, &rt)?;
     let silent = EventFd::new(&epoll, 0, &rt)?;
@@ -66,10 +67,10 @@ fn a_kick_ends_a_wait(rt: HostRuntime) -> Result<(), Fail> {
         poller: PlainPoller(epoll),
         event_fd,
     };
-    with_ledgers(Kicked {
+    let body = Kicked {
         rt: &rt,
-        parts,
         subscriber,
-        notes,
-    })
+        notes: &notes,
+    };
+    with_endpoint(parts, body)
 }

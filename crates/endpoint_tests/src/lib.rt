@@ -4,6 +4,8 @@
 #[cfg(test)]
 mod calls;
 #[cfg(test)]
+mod expecting;
+#[cfg(test)]
 mod gated;
 #[cfg(test)]
 mod kicks;

@@ -3,11 +3,13 @@
 ghost use Rattle.std.specs.Prelude.{◌≡◌};
 
 use event_manager::{
-    EventManager, EventOps, EventPoller, Events, Job, MutEventSubscriber, PlainPoller, Result,
+    EventManager, EventOps, EventPoller, Events, Job, MutEventSubscriber, PlainPoller,
+    RemoteEndpoint, Result, WithLedgers, with_ledgers,
 };
 use std::alloc::Global;
 use std::sync::Wait;
 use std::sync::ledger::{Blank, Ledger};
+use std::test::Fail;
 use std::time::Clock;
 use vmm_sys::epoll::Epoll;
 use vmm_sys::errno::Errno;
@@ -72,4 +74,49 @@ pub fn make<S: MutEventSubscriber + Drop, J: Job<S>, L: Ledger, T: Ledger, P: Ev
         event_fd,
     } = parts;
     EventManager::new(alloc, poller, event_fd, tickets, taken)
+}
+
+/// What a test does with a manager and an endpoint of it, whatever its ledgers and its poller.
+pub trait WithEndpoint: Drop {
+    /// The type of the manager's subscribers.
+    type Subscriber: MutEventSubscriber + Drop;
+
+    /// The type of its jobs.
+    type Job: Job<Self::Subscriber>;
+
+    /// Does it.
+    fn run<L: Ledger, T: Ledger, P: EventPoller>(
+        self,
+        manager: &mut EventManager<Self::Subscriber, Self::Job, L, T, P>,
+        endpoint: &RemoteEndpoint<Self::Subscriber, Self::Job, L, T>,
+    ) -> std::result::Result<(), Fail>;
+}
+
+/// A body, and the parts of its manager.
+struct Made<B, P> {
+    parts: Parts<P>,
+    body: B,
+}
+
+impl<B: WithEndpoint, P: EventPoller + Drop> WithLedgers for Made<B, P> {
+    type Output = std::result::Result<(), Fail>;
+
+    fn run<L: Ledger + Send + Sync, T: Ledger + Send + Sync>(
+        self,
+        tickets: Blank,
+        taken: Blank,
+    ) -> std::result::Result<(), Fail> {
+        let Made { parts, body } = self;
+        let mut manager = make::<B::Subscriber, B::Job, L, T, P>(parts, tickets, taken)?;
+        let endpoint = manager.remote_endpoint()?;
+        body.run(&mut manager, &endpoint)
+    }
+}
+
+/// Runs the body over a manager of these parts, which is then dropped.
+pub fn with_endpoint<B: WithEndpoint, P: EventPoller + Drop>(
+    parts: Parts<P>,
+    body: B,
+) -> std::result::Result<(), Fail> {
+    with_ledgers(Made { parts, body })
 }

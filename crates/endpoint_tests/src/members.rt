@@ -1,16 +1,17 @@
 //! Jobs that change which subscribers there are.
 
-use crate::making::{OnTable, Parts, make};
+use crate::expecting::{expect_noted, expect_run, expect_run_within, new_notes};
+use crate::making::{OnTable, Parts, WithEndpoint, with_endpoint};
 use crate::noting::Noting;
 use crate::work::Notes;
 use event_manager::{
-    EventPoller, EventSet, Events, Job, PlainPoller, Registry, Result, SubscriberId, SubscriberOps,
-    WithLedgers, with_ledgers,
+    EventManager, EventPoller, EventSet, Events, Job, PlainPoller, Registry, RemoteEndpoint,
+    Result, SubscriberId, SubscriberOps,
 };
 use std::alloc::Global;
 use std::process::Abort;
-use std::sync::ledger::{Blank, Ledger};
-use std::sync::{Arc, Mutex, Wait};
+use std::sync::Wait;
+use std::sync::ledger::Ledger;
 use std::test::Fail;
 use std::time::Clock;
 use vmm_sys::epoll::Epoll;
@@ -114,7 +115,7 @@ fn make_member<R: Wait + Clock + Copy + Send + Drop>(
     rt: R,
     alloc: Global,
 ) -> std::result::Result<Member<R>, Fail> {
-    let notes = Arc::new(alloc, Mutex::new(Vec::new(alloc)))?;
+    let notes = new_notes(alloc)?;
     let epoll = Epoll::new(rt, alloc)?;
     let event_fd = EventFd::new(&epoll, 0, &rt)?;
     let writable = EventFd::new(&epoll, 0, &rt)?;
@@ -140,112 +141,141 @@ fn make_member<R: Wait + Clock + Copy + Send + Drop>(
 #[derive(Drop)]
 struct Joining<'a, R> {
     rt: &'a R,
-    member: Member<R>,
+    subscriber: Noting<R>,
+    notes: &'a Notes,
 }
 
-impl<R: Wait + Clock + Abort + Copy + Send + Drop> WithLedgers for Joining<'_, R> {
-    type Output = std::result::Result<(), Fail>;
+impl<R: Wait + Clock + Abort + Drop> WithEndpoint for Joining<'_, R> {
+    type Subscriber = Noting<R>;
 
-    fn run<L: Ledger + Send + Sync, T: Ledger + Send + Sync>(
+    type Job = Join<R>;
+
+    fn run<L: Ledger, T: Ledger, P: EventPoller>(
         self,
-        tickets: Blank,
-        taken: Blank,
+        manager: &mut EventManager<Noting<R>, Join<R>, L, T, P>,
+        endpoint: &RemoteEndpoint<Noting<R>, Join<R>, L, T>,
     ) -> std::result::Result<(), Fail> {
-        let Joining { rt, member } = self;
-        let Member {
-            parts,
+        let Joining {
+            rt,
             subscriber,
             notes,
-        } = member;
-        let mut manager = make::<Noting<R>, Join<R>, L, T, _>(parts, tickets, taken)?;
-        assert_eq!(rt; manager.run_with_timeout(0, rt), Ok(0));
-        manager.remote_endpoint()?.fire(Join(subscriber), rt)?;
-        assert_eq!(rt; manager.run(rt), Ok(1));
-        assert_eq!(rt; notes.lock(rt).len(), 0);
-        assert_eq!(rt; manager.run_with_timeout(0, rt), Ok(1));
-        assert_eq!(rt; notes.lock(rt).as_slice(), [DELIVERED].as_slice());
+        } = self;
+        expect_run_within(rt, manager, 0, Ok(0));
+        endpoint.fire(Join(subscriber), rt)?;
+        expect_run(rt, manager, Ok(1));
+        expect_noted(rt, notes, &[]);
+        expect_run_within(rt, manager, 0, Ok(1));
+        expect_noted(rt, notes, &[DELIVERED]);
         Ok(())
     }
 }
 
 #[test]
 fn a_job_joins_a_subscriber(rt: HostRuntime) -> std::result::Result<(), Fail> {
-    let member = make_member(rt, rt.alloc())?;
-    with_ledgers(Joining { rt: &rt, member })
+    let Member {
+        parts,
+        subscriber,
+        notes,
+    } = make_member(rt, rt.alloc())?;
+    let body = Joining {
+        rt: &rt,
+        subscriber,
+        notes: &notes,
+    };
+    with_endpoint(parts, body)
 }
 
 /// A job lets the subscriber leave.
 #[derive(Drop)]
 struct Leaving<'a, R> {
     rt: &'a R,
-    member: Member<R>,
+    subscriber: Noting<R>,
+    notes: &'a Notes,
 }
 
-impl<R: Wait + Clock + Abort + Copy + Send + Drop> WithLedgers for Leaving<'_, R> {
-    type Output = std::result::Result<(), Fail>;
+impl<R: Wait + Clock + Abort + Drop> WithEndpoint for Leaving<'_, R> {
+    type Subscriber = Noting<R>;
 
-    fn run<L: Ledger + Send + Sync, T: Ledger + Send + Sync>(
+    type Job = Leave;
+
+    fn run<L: Ledger, T: Ledger, P: EventPoller>(
         self,
-        tickets: Blank,
-        taken: Blank,
+        manager: &mut EventManager<Noting<R>, Leave, L, T, P>,
+        endpoint: &RemoteEndpoint<Noting<R>, Leave, L, T>,
     ) -> std::result::Result<(), Fail> {
-        let Leaving { rt, member } = self;
-        let Member {
-            parts,
+        let Leaving {
+            rt,
             subscriber,
             notes,
-        } = member;
-        let mut manager = make::<Noting<R>, Leave, L, T, _>(parts, tickets, taken)?;
+        } = self;
         let id = manager.add_subscriber(subscriber)?;
-        manager.remote_endpoint()?.fire(Leave(id), rt)?;
-        assert_eq!(rt; manager.run(rt), Ok(2));
-        assert_eq!(rt; notes.lock(rt).as_slice(), [DELIVERED].as_slice());
-        assert_eq!(rt; manager.run_with_timeout(0, rt), Ok(0));
-        assert_eq!(rt; notes.lock(rt).len(), 1);
+        endpoint.fire(Leave(id), rt)?;
+        expect_run(rt, manager, Ok(2));
+        expect_noted(rt, notes, &[DELIVERED]);
+        expect_run_within(rt, manager, 0, Ok(0));
+        expect_noted(rt, notes, &[DELIVERED]);
         Ok(())
     }
 }
 
 #[test]
 fn a_job_lets_a_subscriber_leave(rt: HostRuntime) -> std::result::Result<(), Fail> {
-    let member = make_member(rt, rt.alloc())?;
-    with_ledgers(Leaving { rt: &rt, member })
+    let Member {
+        parts,
+        subscriber,
+        notes,
+    } = make_member(rt, rt.alloc())?;
+    let body = Leaving {
+        rt: &rt,
+        subscriber,
+        notes: &notes,
+    };
+    with_endpoint(parts, body)
 }
 
 /// A job gives the subscriber another number.
 #[derive(Drop)]
 struct Renumbering<'a, R> {
     rt: &'a R,
-    member: Member<R>,
+    subscriber: Noting<R>,
+    notes: &'a Notes,
 }
 
-impl<R: Wait + Clock + Abort + Copy + Send + Drop> WithLedgers for Renumbering<'_, R> {
-    type Output = std::result::Result<(), Fail>;
+impl<R: Wait + Clock + Abort + Drop> WithEndpoint for Renumbering<'_, R> {
+    type Subscriber = Noting<R>;
 
-    fn run<L: Ledger + Send + Sync, T: Ledger + Send + Sync>(
+    type Job = Renumber;
+
+    fn run<L: Ledger, T: Ledger, P: EventPoller>(
         self,
-        tickets: Blank,
-        taken: Blank,
+        manager: &mut EventManager<Noting<R>, Renumber, L, T, P>,
+        endpoint: &RemoteEndpoint<Noting<R>, Renumber, L, T>,
     ) -> std::result::Result<(), Fail> {
-        let Renumbering { rt, member } = self;
-        let Member {
-            parts,
+        let Renumbering {
+            rt,
             subscriber,
             notes,
-        } = member;
-        let mut manager = make::<Noting<R>, Renumber, L, T, _>(parts, tickets, taken)?;
+        } = self;
         let id = manager.add_subscriber(subscriber)?;
-        let job = Renumber { id, number: 2 };
-        manager.remote_endpoint()?.fire(job, rt)?;
-        assert_eq!(rt; manager.run(rt), Ok(2));
-        assert_eq!(rt; manager.run_with_timeout(0, rt), Ok(1));
-        assert_eq!(rt; notes.lock(rt).as_slice(), [DELIVERED, 2].as_slice());
+        endpoint.fire(Renumber { id, number: 2 }, rt)?;
+        expect_run(rt, manager, Ok(2));
+        expect_run_within(rt, manager, 0, Ok(1));
+        expect_noted(rt, notes, &[DELIVERED, 2]);
         Ok(())
     }
 }
 
 #[test]
 fn a_job_changes_a_subscriber(rt: HostRuntime) -> std::result::Result<(), Fail> {
-    let member = make_member(rt, rt.alloc())?;
-    with_ledgers(Renumbering { rt: &rt, member })
+    let Member {
+        parts,
+        subscriber,
+        notes,
+    } = make_member(rt, rt.alloc())?;
+    let body = Renumbering {
+        rt: &rt,
+        subscriber,
+        notes: &notes,
+    };
+    with_endpoint(parts, body)
 }

@@ -1,5 +1,6 @@
 //! A job that notes who sent it.
 
+use crate::expecting::expect_same;
 use event_manager::{EventPoller, Job, MutEventSubscriber, Registry};
 use std::process::Abort;
 use std::sync::{Arc, Mutex, Wait};
@@ -35,20 +36,25 @@ impl<S: MutEventSubscriber> Job<S> for Note {
     }
 }
 
+/// Expects that this sender noted 0, 1, 2 and so on, so many numbers.
+fn expect_of_sender<R: Abort>(rt: &R, seen: &[(usize, u64)], sender: usize, count: u64) {
+    let mut next = 0u64;
+    for note in seen {
+        if note.0 == sender {
+            expect_same(rt, &note.1, &next);
+            next = next.wrapping_add(1);
+        }
+    }
+    expect_same(rt, &next, &count);
+}
+
 /// Expects that each of so many senders noted 0, 1, 2 and so on, so many numbers, and nobody else noted one.
 pub fn expect_in_order<R: Wait + Abort>(rt: &R, notes: &Notes, senders: usize, count: u64) {
     let seen = notes.lock(rt);
     let mut total = 0u64;
     for sender in 0..senders {
-        let mut next = 0u64;
-        for note in seen.iter() {
-            if note.0 == sender {
-                assert_eq!(rt; note.1, next);
-                next = next.wrapping_add(1);
-            }
-        }
-        assert_eq!(rt; next, count);
-        total = total.wrapping_add(next);
+        expect_of_sender(rt, seen.as_slice(), sender, count);
+        total = total.wrapping_add(count);
     }
-    assert_eq!(rt; seen.len() as u64, total);
+    expect_same(rt, &(seen.len() as u64), &total);
 }

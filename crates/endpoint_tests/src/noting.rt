@@ -1,6 +1,6 @@
 //! A subscriber that notes its events among what jobs note.
 
-use crate::work::Notes;
+use crate::work::{Notes, note};
 use event_manager::{EventOps, EventPoller, Events, MutEventSubscriber};
 use std::sync::Wait;
 
@@ -23,7 +23,7 @@ impl<R: Wait> MutEventSubscriber for Noting<R> {
     ghost serves = { λ v event exchanges w. exchanges ≡ [] };
 
     fn process<P: EventPoller>(&mut self, _events: Events, _ops: &mut EventOps<P>) {
-        let _ = self.notes.lock(&self.rt).push(self.number);
+        note(&self.notes, self.number, &self.rt);
     }
 
     fn init<P: EventPoller>(&mut self, ops: &mut EventOps<P>) {

@@ -2,11 +2,11 @@
 
 ghost use Rattle.std.specs.Prelude.{◌≡◌};
 
-use crate::making::{Idle, make, on_table};
+use crate::expecting::expect_same;
+use crate::making::{Idle, OnTable, make, on_table};
 use crate::threads::{Host, wait_until_pending};
 use crate::work::Work;
 use event_manager::{Error, EventManager, PlainPoller, RemoteEndpoint, Result};
-use std::alloc::Global;
 use std::marker::Brand;
 use std::sync::Wait;
 use std::sync::ledger::{Blank, Ledger};
@@ -67,9 +67,22 @@ fn call_both<L: Ledger + Send + Sync, T: Ledger + Send + Sync, R: Host>(
 }
 
 /// Two callers, and the loop.
+fn call_both_beside_loop<L: Ledger + Send + Sync, T: Ledger + Send + Sync, R: Host>(
+    rt: &R,
+    manager: Loop<L, T, R>,
+    endpoint: &Sender<L, T>,
+) -> (Seen, (Result<u64>, Result<u64>)) {
+    thread::join(
+        rt,
+        || run_for_two(rt, manager, endpoint),
+        || call_both(rt, endpoint),
+    )
+}
+
+/// Two callers by an endpoint of a manager of these parts.
 fn callers<L: Ledger + Send + Sync, T: Ledger + Send + Sync, R: Host>(
     rt: &R,
-    alloc: Global,
+    parts: OnTable<R>,
     tickets: Blank,
     taken: Blank,
 ) -> std::result::Result<(), Fail>
@@ -78,22 +91,23 @@ fn callers<L: Ledger + Send + Sync, T: Ledger + Send + Sync, R: Host>(
     requires taken_name { taken.name ≡ T.name }
     requires taken_parts { (taken.parts ≡ T.parts) × (taken.parts ≡ 1) }
 {
-    let manager = make::<Idle, Work, L, T, _>(on_table(*rt, alloc, 0)?, tickets, taken)?;
+    let manager = make::<Idle, Work, L, T, _>(parts, tickets, taken)?;
     let endpoint = manager.remote_endpoint()?;
-    let (seen, replies) = thread::join(
+    let (seen, replies) = call_both_beside_loop(rt, manager, &endpoint);
+    expect_same(
         rt,
-        || run_for_two(rt, manager, &endpoint),
-        || call_both(rt, &endpoint),
+        &(seen.waited, seen.run, seen.counts),
+        &(true, Ok(1), (2, 2)),
     );
-    assert_eq!(rt; (seen.waited, seen.run, seen.counts), (true, Ok(1), (2, 2)));
-    assert_eq!(rt; replies, (Ok(5), Ok(6)));
+    expect_same(rt, &replies, &(Ok(5), Ok(6)));
     Ok(())
 }
 
 #[test]
 fn two_callers_get_their_own_replies(rt: HostRuntime) -> std::result::Result<(), Fail> {
     let tickets = Blank::new(9223372036854775808);
-    callers::<Brand, Brand, HostRuntime>(&rt, rt.alloc(), tickets, Blank::new(1))
+    let parts = on_table(rt, rt.alloc(), 0)?;
+    callers::<Brand, Brand, HostRuntime>(&rt, parts, tickets, Blank::new(1))
 }
 
 /// Closes when a job waits.
@@ -107,10 +121,23 @@ fn close_on_one<L: Ledger, T: Ledger, R: Wait + Clock + Clone + Send + Drop>(
     (waited, closed.issued(), closed.taken())
 }
 
-/// A caller whose manager is closed.
+/// A caller, and who closes the manager.
+fn call_beside_close<L: Ledger + Send + Sync, T: Ledger + Send + Sync, R: Host>(
+    rt: &R,
+    manager: Loop<L, T, R>,
+    endpoint: &Sender<L, T>,
+) -> ((bool, u64, u64), Result<u64>) {
+    thread::join(
+        rt,
+        || close_on_one(rt, manager, endpoint),
+        || call_own(rt, endpoint, 5),
+    )
+}
+
+/// A caller by an endpoint of a manager of these parts, which is closed.
 fn closed_caller<L: Ledger + Send + Sync, T: Ledger + Send + Sync, R: Host>(
     rt: &R,
-    alloc: Global,
+    parts: OnTable<R>,
     tickets: Blank,
     taken: Blank,
 ) -> std::result::Result<(), Fail>
@@ -119,20 +146,16 @@ fn closed_caller<L: Ledger + Send + Sync, T: Ledger + Send + Sync, R: Host>(
     requires taken_name { taken.name ≡ T.name }
     requires taken_parts { (taken.parts ≡ T.parts) × (taken.parts ≡ 1) }
 {
-    let manager = make::<Idle, Work, L, T, _>(on_table(*rt, alloc, 0)?, tickets, taken)?;
+    let manager = make::<Idle, Work, L, T, _>(parts, tickets, taken)?;
     let endpoint = manager.remote_endpoint()?;
-    let (seen, reply) = thread::join(
-        rt,
-        || close_on_one(rt, manager, &endpoint),
-        || call_own(rt, &endpoint, 5),
-    );
-    assert_eq!(rt; seen, (true, 1, 0));
-    assert_eq!(rt; reply, Err(Error::ChannelRecv));
+    let seen = call_beside_close(rt, manager, &endpoint);
+    expect_same(rt, &seen, &((true, 1, 0), Err(Error::ChannelRecv)));
     Ok(())
 }
 
 #[test]
 fn a_closed_caller_is_answered(rt: HostRuntime) -> std::result::Result<(), Fail> {
     let tickets = Blank::new(9223372036854775808);
-    closed_caller::<Brand, Brand, HostRuntime>(&rt, rt.alloc(), tickets, Blank::new(1))
+    let parts = on_table(rt, rt.alloc(), 0)?;
+    closed_caller::<Brand, Brand, HostRuntime>(&rt, parts, tickets, Blank::new(1))
 }

@@ -1,25 +1,31 @@
 //! Many jobs, several endpoints, and an endpoint that is dropped.
 
-use crate::making::{Idle, OnTable, make, on_table};
+use crate::expecting::{
+    expect_counted, expect_noted, expect_pending, expect_run, expect_run_within, expect_same,
+    fire_note, new_notes,
+};
+use crate::making::{Idle, OnTable, WithEndpoint, make, on_table, with_endpoint};
 use crate::work::{Notes, Work};
-use event_manager::{RemoteEndpoint, WithLedgers, with_ledgers};
+use event_manager::{EventManager, EventPoller, RemoteEndpoint, WithLedgers, with_ledgers};
 use std::process::Abort;
+use std::sync::Wait;
 use std::sync::ledger::{Blank, Ledger};
-use std::sync::{Arc, Mutex, Wait};
 use std::test::Fail;
 use std::time::Clock;
 
 type Sender<L, T> = RemoteEndpoint<Idle, Work, L, T>;
 
-/// Sends a job that notes this: the number of its ticket.
-fn fire_note<L: Ledger, T: Ledger, R: Wait + Clock>(
+/// Sends jobs that note 1, 2, 3 and so on, so many: each must have the ticket of its number.
+fn fire_counting<L: Ledger, T: Ledger, R: Wait + Clock + Abort>(
     rt: &R,
     endpoint: &Sender<L, T>,
     notes: &Notes,
-    number: u64,
-) -> Result<u64, Fail> {
-    let ticket = endpoint.fire(Work::Note(notes.clone()?, number), rt)?;
-    Ok(ticket.number())
+    count: u64,
+) -> Result<(), Fail> {
+    for number in 1..=count {
+        expect_same(rt, &fire_note(rt, endpoint, notes, number)?, &number);
+    }
+    Ok(())
 }
 
 /// Sends five hundred jobs, and runs once.
@@ -27,7 +33,7 @@ fn fire_note<L: Ledger, T: Ledger, R: Wait + Clock>(
 struct Hundreds<'a, R> {
     rt: &'a R,
     parts: OnTable<R>,
-    notes: Notes,
+    notes: &'a Notes,
 }
 
 impl<R: Wait + Clock + Abort + Copy + Send + Drop> WithLedgers for Hundreds<'_, R> {
@@ -41,34 +47,23 @@ impl<R: Wait + Clock + Abort + Copy + Send + Drop> WithLedgers for Hundreds<'_, 
         let Hundreds { rt, parts, notes } = self;
         let mut manager = make::<Idle, Work, L, T, _>(parts, tickets, taken)?;
         let endpoint = manager.remote_endpoint()?;
-        for number in 1..=500 {
-            assert_eq!(rt; fire_note(rt, &endpoint, &notes, number)?, number);
-        }
-        assert_eq!(rt; manager.run(rt), Ok(1));
-        expect_counted(rt, &notes, 500);
-        assert_eq!(rt; manager.run_with_timeout(0, rt), Ok(0));
-        assert_eq!(rt; manager.close(rt).taken(), 500);
+        fire_counting(rt, &endpoint, notes, 500)?;
+        expect_run(rt, &mut manager, Ok(1));
+        expect_counted(rt, notes, 500);
+        expect_run_within(rt, &mut manager, 0, Ok(0));
+        expect_same(rt, &manager.close(rt).taken(), &500);
         Ok(())
-    }
-}
-
-/// Expects that 1, 2, 3 and so on were noted, so many numbers.
-fn expect_counted<R: Wait + Abort>(rt: &R, notes: &Notes, count: usize) {
-    let seen = notes.lock(rt);
-    assert_eq!(rt; seen.len(), count);
-    for (number, noted) in (1u64..).zip(seen.iter()) {
-        assert_eq!(rt; *noted, number);
     }
 }
 
 #[test]
 fn hundreds_of_jobs_are_run(rt: HostRuntime) -> Result<(), Fail> {
-    let notes = Arc::new(rt.alloc(), Mutex::new(Vec::new(rt.alloc())))?;
+    let notes = new_notes(rt.alloc())?;
     let parts = on_table(rt, rt.alloc(), 0)?;
     with_ledgers(Hundreds {
         rt: &rt,
         parts,
-        notes,
+        notes: &notes,
     })
 }
 
@@ -77,7 +72,7 @@ fn hundreds_of_jobs_are_run(rt: HostRuntime) -> Result<(), Fail> {
 struct Dropped<'a, R> {
     rt: &'a R,
     parts: OnTable<R>,
-    notes: Notes,
+    notes: &'a Notes,
 }
 
 impl<R: Wait + Clock + Abort + Copy + Send + Drop> WithLedgers for Dropped<'_, R> {
@@ -91,67 +86,85 @@ impl<R: Wait + Clock + Abort + Copy + Send + Drop> WithLedgers for Dropped<'_, R
         let Dropped { rt, parts, notes } = self;
         let mut manager = make::<Idle, Work, L, T, _>(parts, tickets, taken)?;
         let endpoint = manager.remote_endpoint()?;
-        for number in 1..=2 {
-            fire_note(rt, &endpoint, &notes, number)?;
-        }
+        fire_counting(rt, &endpoint, notes, 2)?;
         drop(endpoint);
-        assert_eq!(rt; manager.run(rt), Ok(1));
-        assert_eq!(rt; notes.lock(rt).as_slice(), [1, 2].as_slice());
+        expect_run(rt, &mut manager, Ok(1));
+        expect_noted(rt, notes, &[1, 2]);
         Ok(())
     }
 }
 
 #[test]
 fn jobs_outlive_their_endpoint(rt: HostRuntime) -> Result<(), Fail> {
-    let notes = Arc::new(rt.alloc(), Mutex::new(Vec::new(rt.alloc())))?;
+    let notes = new_notes(rt.alloc())?;
     let parts = on_table(rt, rt.alloc(), 0)?;
     with_ledgers(Dropped {
         rt: &rt,
         parts,
-        notes,
+        notes: &notes,
     })
+}
+
+/// Expects of two endpoints how many jobs wait.
+fn expect_both_pending<L: Ledger, T: Ledger, E: Ledger, F: Ledger, R: Abort>(
+    rt: &R,
+    endpoints: (&Sender<L, T>, &Sender<E, F>),
+    counts: (usize, usize),
+) {
+    expect_pending(rt, endpoints.0, counts.0);
+    expect_pending(rt, endpoints.1, counts.1);
+}
+
+/// Sends by the two in turn, three jobs.
+fn fire_in_turn<L: Ledger, T: Ledger, R: Wait + Clock + Abort>(
+    rt: &R,
+    first: &Sender<L, T>,
+    second: &Sender<L, T>,
+    notes: &Notes,
+) -> Result<(), Fail> {
+    for (number, endpoint) in [(1, first), (2, second), (3, first)] {
+        expect_same(rt, &fire_note(rt, endpoint, notes, number)?, &number);
+    }
+    Ok(())
 }
 
 /// Sends by two endpoints of one manager.
 #[derive(Drop)]
 struct Cloned<'a, R> {
     rt: &'a R,
-    parts: OnTable<R>,
-    notes: Notes,
+    notes: &'a Notes,
 }
 
-impl<R: Wait + Clock + Abort + Copy + Send + Drop> WithLedgers for Cloned<'_, R> {
-    type Output = Result<(), Fail>;
+impl<R: Wait + Clock + Abort> WithEndpoint for Cloned<'_, R> {
+    type Subscriber = Idle;
 
-    fn run<L: Ledger + Send + Sync, T: Ledger + Send + Sync>(
+    type Job = Work;
+
+    fn run<L: Ledger, T: Ledger, P: EventPoller>(
         self,
-        tickets: Blank,
-        taken: Blank,
+        manager: &mut EventManager<Idle, Work, L, T, P>,
+        endpoint: &RemoteEndpoint<Idle, Work, L, T>,
     ) -> Result<(), Fail> {
-        let Cloned { rt, parts, notes } = self;
-        let mut manager = make::<Idle, Work, L, T, _>(parts, tickets, taken)?;
-        let first = manager.remote_endpoint()?;
-        let second = first.try_clone()?;
-        for (number, endpoint) in [(1, &first), (2, &second), (3, &first)] {
-            assert_eq!(rt; fire_note(rt, endpoint, &notes, number)?, number);
-        }
-        assert_eq!(rt; (first.pending(), second.pending()), (Some(3), Some(3)));
-        assert_eq!(rt; manager.run(rt), Ok(1));
-        expect_counted(rt, &notes, 3);
-        assert_eq!(rt; (first.pending(), second.pending()), (Some(0), Some(0)));
+        let Cloned { rt, notes } = self;
+        let second = endpoint.try_clone()?;
+        fire_in_turn(rt, endpoint, &second, notes)?;
+        expect_both_pending(rt, (endpoint, &second), (3, 3));
+        expect_run(rt, manager, Ok(1));
+        expect_counted(rt, notes, 3);
+        expect_both_pending(rt, (endpoint, &second), (0, 0));
         Ok(())
     }
 }
 
 #[test]
 fn an_endpoint_is_of_its_manager(rt: HostRuntime) -> Result<(), Fail> {
-    let notes = Arc::new(rt.alloc(), Mutex::new(Vec::new(rt.alloc())))?;
+    let notes = new_notes(rt.alloc())?;
     let parts = on_table(rt, rt.alloc(), 0)?;
-    with_ledgers(Cloned {
+    let body = Cloned {
         rt: &rt,
-        parts,
-        notes,
-    })
+        notes: &notes,
+    };
+    with_endpoint(parts, body)
 }
 
 /// Sends to a manager over these parts, beside an endpoint of another.
@@ -159,32 +172,25 @@ fn an_endpoint_is_of_its_manager(rt: HostRuntime) -> Result<(), Fail> {
 struct Beside<'a, R, E: Ledger, F: Ledger> {
     rt: &'a R,
     other: &'a Sender<E, F>,
-    parts: OnTable<R>,
-    notes: Notes,
+    notes: &'a Notes,
 }
 
-impl<R: Wait + Clock + Abort + Copy + Send + Drop, E: Ledger, F: Ledger> WithLedgers
-    for Beside<'_, R, E, F> {
-    type Output = Result<(), Fail>;
+impl<R: Wait + Clock + Abort, E: Ledger, F: Ledger> WithEndpoint for Beside<'_, R, E, F> {
+    type Subscriber = Idle;
 
-    fn run<L: Ledger + Send + Sync, T: Ledger + Send + Sync>(
+    type Job = Work;
+
+    fn run<L: Ledger, T: Ledger, P: EventPoller>(
         self,
-        tickets: Blank,
-        taken: Blank,
+        manager: &mut EventManager<Idle, Work, L, T, P>,
+        endpoint: &RemoteEndpoint<Idle, Work, L, T>,
     ) -> Result<(), Fail> {
-        let Beside {
-            rt,
-            other,
-            parts,
-            notes,
-        } = self;
-        let mut manager = make::<Idle, Work, L, T, _>(parts, tickets, taken)?;
-        let endpoint = manager.remote_endpoint()?;
-        assert_eq!(rt; fire_note(rt, &endpoint, &notes, 1)?, 1);
-        assert_eq!(rt; (endpoint.pending(), other.pending()), (Some(1), Some(2)));
-        assert_eq!(rt; manager.run(rt), Ok(1));
-        assert_eq!(rt; (endpoint.pending(), other.pending()), (Some(0), Some(2)));
-        expect_counted(rt, &notes, 1);
+        let Beside { rt, other, notes } = self;
+        fire_counting(rt, endpoint, notes, 1)?;
+        expect_both_pending(rt, (endpoint, other), (1, 2));
+        expect_run(rt, manager, Ok(1));
+        expect_both_pending(rt, (endpoint, other), (0, 2));
+        expect_counted(rt, notes, 1);
         Ok(())
     }
 }
@@ -193,40 +199,36 @@ impl<R: Wait + Clock + Abort + Copy + Send + Drop, E: Ledger, F: Ledger> WithLed
 #[derive(Drop)]
 struct TwoManagers<'a, R> {
     rt: &'a R,
-    parts: OnTable<R>,
-    notes: Notes,
+    notes: &'a Notes,
     others: OnTable<R>,
-    other_notes: Notes,
+    other_notes: &'a Notes,
 }
 
-impl<R: Wait + Clock + Abort + Copy + Send + Drop> WithLedgers for TwoManagers<'_, R> {
-    type Output = Result<(), Fail>;
+impl<R: Wait + Clock + Abort + Copy + Send + Drop> WithEndpoint for TwoManagers<'_, R> {
+    type Subscriber = Idle;
 
-    fn run<L: Ledger + Send + Sync, T: Ledger + Send + Sync>(
+    type Job = Work;
+
+    fn run<L: Ledger, T: Ledger, P: EventPoller>(
         self,
-        tickets: Blank,
-        taken: Blank,
+        manager: &mut EventManager<Idle, Work, L, T, P>,
+        endpoint: &RemoteEndpoint<Idle, Work, L, T>,
     ) -> Result<(), Fail> {
         let TwoManagers {
             rt,
-            parts,
             notes,
             others,
             other_notes,
         } = self;
-        let mut manager = make::<Idle, Work, L, T, _>(parts, tickets, taken)?;
-        let endpoint = manager.remote_endpoint()?;
-        for number in 1..=2 {
-            fire_note(rt, &endpoint, &notes, number)?;
-        }
-        with_ledgers(Beside {
+        fire_counting(rt, endpoint, notes, 2)?;
+        let beside = Beside {
             rt,
-            other: &endpoint,
-            parts: others,
+            other: endpoint,
             notes: other_notes,
-        })?;
-        assert_eq!(rt; manager.run(rt), Ok(1));
-        expect_counted(rt, &notes, 2);
+        };
+        with_endpoint(others, beside)?;
+        expect_run(rt, manager, Ok(1));
+        expect_counted(rt, notes, 2);
         Ok(())
     }
 }
@@ -234,12 +236,12 @@ impl<R: Wait + Clock + Abort + Copy + Send + Drop> WithLedgers for TwoManagers<'
 #[test]
 fn endpoints_of_two_managers_are_apart(rt: HostRuntime) -> Result<(), Fail> {
     let alloc = rt.alloc();
-    let two = TwoManagers {
+    let (notes, other_notes) = (new_notes(alloc)?, new_notes(alloc)?);
+    let body = TwoManagers {
         rt: &rt,
-        parts: on_table(rt, alloc, 0)?,
-        notes: Arc::new(alloc, Mutex::new(Vec::new(alloc)))?,
+        notes: &notes,
         others: on_table(rt, alloc, 0)?,
-        other_notes: Arc::new(alloc, Mutex::new(Vec::new(alloc)))?,
+        other_notes: &other_notes,
     };
-    with_ledgers(two)
+    with_endpoint(on_table(rt, alloc, 0)?, body)
 }

@@ -1,8 +1,11 @@
 //! Sends that are refused.
 
-use crate::making::{Idle, OnTable, make, on_table};
+use crate::expecting::{expect_pending, expect_run, expect_same};
+use crate::making::{Idle, OnTable, WithEndpoint, make, on_table, with_endpoint};
 use crate::work::Work;
-use event_manager::{Error, RemoteEndpoint, Result, WithLedgers, with_ledgers};
+use event_manager::{
+    Error, EventManager, EventPoller, RemoteEndpoint, Result, Ticket, WithLedgers, with_ledgers,
+};
 use std::process::Abort;
 use std::sync::Wait;
 use std::sync::ledger::{Blank, Ledger};
@@ -17,9 +20,18 @@ type Sender<L, T> = RemoteEndpoint<Idle, Work, L, T>;
 
 /// The number of the ticket that a job gets.
 fn fire_one<L: Ledger, T: Ledger, R: Wait + Clock>(rt: &R, endpoint: &Sender<L, T>) -> Result<u64> {
-    endpoint
-        .fire(Work::Own(1), rt)
-        .map(|ticket| ticket.number())
+    let ticket = endpoint.fire(Work::Own(1), rt)?;
+    Ok(ticket.number())
+}
+
+/// The number of the ticket that a job gets after the shown one.
+fn fire_one_after<L: Ledger, T: Ledger, R: Wait + Clock>(
+    rt: &R,
+    endpoint: &Sender<L, T>,
+    shown: &Ticket<L>,
+) -> Result<u64> {
+    let ticket = endpoint.fire_after(shown, Work::Own(2), rt)?;
+    Ok(ticket.number())
 }
 
 /// Expects that a job and a call are refused with this, and that so many jobs wait then.
@@ -29,9 +41,21 @@ fn expect_refusals<L: Ledger, T: Ledger, R: Wait + Clock + Abort>(
     refusal: Error,
     pending: usize,
 ) {
-    assert_eq!(rt; fire_one(rt, endpoint), Err(refusal));
-    assert_eq!(rt; endpoint.call_blocking(Work::Own(1), rt), Err(refusal));
-    assert_eq!(rt; endpoint.pending(), Some(pending));
+    expect_same(rt, &fire_one(rt, endpoint), &Err(refusal));
+    expect_same(rt, &endpoint.call_blocking(Work::Own(1), rt), &Err(refusal));
+    expect_pending(rt, endpoint, pending);
+}
+
+/// Expects this answer of a job after the shown ticket, and that so many jobs wait then.
+fn expect_after<L: Ledger, T: Ledger, R: Wait + Clock + Abort>(
+    rt: &R,
+    endpoint: &Sender<L, T>,
+    shown: &Ticket<L>,
+    answer: Result<u64>,
+    pending: usize,
+) {
+    expect_same(rt, &fire_one_after(rt, endpoint, shown), &answer);
+    expect_pending(rt, endpoint, pending);
 }
 
 /// A manager whose endpoint's counter is full.
@@ -54,12 +78,12 @@ impl<R: Wait + Clock + Abort + Copy + Send + Drop> WithLedgers for Full<'_, R> {
         let endpoint = manager.remote_endpoint()?.try_clone()?;
         let refusal = Error::EventFd(Errno::EAGAIN);
         expect_refusals(rt, &endpoint, refusal, 0);
-        assert_eq!(rt; endpoint.kick(rt), Err(refusal));
-        assert_eq!(rt; manager.run(rt), Ok(1));
-        assert_eq!(rt; fire_one(rt, &endpoint), Ok(1));
+        expect_same(rt, &endpoint.kick(rt), &Err(refusal));
+        expect_run(rt, &mut manager, Ok(1));
+        expect_same(rt, &fire_one(rt, &endpoint), &Ok(1));
         let closed = manager.close(rt);
         expect_refusals(rt, &endpoint, Error::ChannelSend, 0);
-        assert_eq!(rt; (closed.issued(), closed.taken()), (1, 0));
+        expect_same(rt, &(closed.issued(), closed.taken()), &(1, 0));
         Ok(())
     }
 }
@@ -74,31 +98,24 @@ fn a_full_counter_refuses_the_send(rt: HostRuntime) -> std::result::Result<(), F
 #[derive(Drop)]
 struct NearlyFull<'a, R> {
     rt: &'a R,
-    parts: OnTable<R>,
 }
 
-impl<R: Wait + Clock + Abort + Copy + Send + Drop> WithLedgers for NearlyFull<'_, R> {
-    type Output = std::result::Result<(), Fail>;
+impl<R: Wait + Clock + Abort> WithEndpoint for NearlyFull<'_, R> {
+    type Subscriber = Idle;
 
-    fn run<L: Ledger + Send + Sync, T: Ledger + Send + Sync>(
+    type Job = Work;
+
+    fn run<L: Ledger, T: Ledger, P: EventPoller>(
         self,
-        tickets: Blank,
-        taken: Blank,
+        manager: &mut EventManager<Idle, Work, L, T, P>,
+        endpoint: &RemoteEndpoint<Idle, Work, L, T>,
     ) -> std::result::Result<(), Fail> {
-        let NearlyFull { rt, parts } = self;
-        let mut manager = make::<Idle, Work, L, T, _>(parts, tickets, taken)?;
-        let endpoint = manager.remote_endpoint()?;
+        let NearlyFull { rt } = self;
         let shown = endpoint.fire(Work::Own(1), rt)?;
-        let refused = endpoint
-            .fire_after(&shown, Work::Own(2), rt)
-            .map(|ticket| ticket.number());
-        assert_eq!(rt; refused, Err(Error::EventFd(Errno::EAGAIN)));
-        assert_eq!(rt; endpoint.pending(), Some(1));
-        assert_eq!(rt; manager.run(rt), Ok(1));
-        let sent = endpoint
-            .fire_after(&shown, Work::Own(2), rt)
-            .map(|ticket| ticket.number());
-        assert_eq!(rt; (sent, endpoint.pending()), (Ok(2), Some(1)));
+        let refusal = Err(Error::EventFd(Errno::EAGAIN));
+        expect_after(rt, endpoint, &shown, refusal, 1);
+        expect_run(rt, manager, Ok(1));
+        expect_after(rt, endpoint, &shown, Ok(2), 1);
         Ok(())
     }
 }
@@ -106,7 +123,7 @@ impl<R: Wait + Clock + Abort + Copy + Send + Drop> WithLedgers for NearlyFull<'_
 #[test]
 fn a_full_counter_refuses_the_send_after_another(rt: HostRuntime) -> std::result::Result<(), Fail> {
     let parts = on_table(rt, rt.alloc(), FULL - 1)?;
-    with_ledgers(NearlyFull { rt: &rt, parts })
+    with_endpoint(parts, NearlyFull { rt: &rt })
 }
 
 /// Two endpoints of a manager that is closed.
@@ -132,10 +149,7 @@ impl<R: Wait + Clock + Abort + Copy + Send + Drop> WithLedgers for TwoEndpoints<
         let _closed = manager.close(rt);
         for endpoint in &endpoints {
             expect_refusals(rt, endpoint, Error::ChannelSend, 0);
-            let refused = endpoint
-                .fire_after(&shown, Work::Own(2), rt)
-                .map(|ticket| ticket.number());
-            assert_eq!(rt; refused, Err(Error::ChannelSend));
+            expect_after(rt, endpoint, &shown, Err(Error::ChannelSend), 0);
         }
         Ok(())
     }

@@ -1,15 +1,17 @@
 //! When a report runs the jobs that wait.
 
-use crate::making::{Parts, make, on_table};
+use crate::expecting::{expect_noted, expect_pending, expect_run, fire_note, new_notes};
+use crate::making::{Parts, WithEndpoint, on_table, with_endpoint};
 use crate::noting::Noting;
 use crate::work::{Notes, Work};
 use event_manager::{
-    Error, EventSet, Events, PlainPoller, Result, SubscriberOps, WithLedgers, with_ledgers,
+    Error, EventManager, EventPoller, EventSet, Events, PlainPoller, RemoteEndpoint, Result,
+    SubscriberOps,
 };
 use std::alloc::Global;
 use std::process::Abort;
-use std::sync::ledger::{Blank, Ledger};
-use std::sync::{Arc, Mutex, Wait};
+use std::sync::Wait;
+use std::sync::ledger::Ledger;
 use std::test::Fail;
 use std::time::Clock;
 use vmm_sys::epoll::EpollEvent;
@@ -26,52 +28,50 @@ const RAN: u64 = 100;
 #[derive(Drop)]
 struct OneRun<'a, R> {
     rt: &'a R,
-    parts: Parts<PlainPoller<ScriptPoller>>,
     subscriber: Noting<R>,
-    notes: Notes,
+    notes: &'a Notes,
     answer: Result<usize>,
     noted: &'a [u64],
     left: usize,
 }
 
-impl<R: Wait + Clock + Abort + Copy + Send + Drop> WithLedgers for OneRun<'_, R> {
-    type Output = std::result::Result<(), Fail>;
+impl<R: Wait + Clock + Abort + Drop> WithEndpoint for OneRun<'_, R> {
+    type Subscriber = Noting<R>;
 
-    fn run<L: Ledger + Send + Sync, T: Ledger + Send + Sync>(
+    type Job = Work;
+
+    fn run<L: Ledger, T: Ledger, P: EventPoller>(
         self,
-        tickets: Blank,
-        taken: Blank,
+        manager: &mut EventManager<Noting<R>, Work, L, T, P>,
+        endpoint: &RemoteEndpoint<Noting<R>, Work, L, T>,
     ) -> std::result::Result<(), Fail> {
         let OneRun {
             rt,
-            parts,
             subscriber,
             notes,
             answer,
             noted,
             left,
         } = self;
-        let mut manager = make::<Noting<R>, Work, L, T, _>(parts, tickets, taken)?;
         manager.add_subscriber(subscriber)?;
-        let endpoint = manager.remote_endpoint()?;
-        endpoint.fire(Work::Note(notes.clone()?, RAN), rt)?;
-        assert_eq!(rt; manager.run(rt), answer);
-        assert_eq!(rt; notes.lock(rt).as_slice(), noted);
-        assert_eq!(rt; endpoint.pending(), Some(left));
+        fire_note(rt, endpoint, notes, RAN)?;
+        expect_run(rt, manager, answer);
+        expect_noted(rt, notes, noted);
+        expect_pending(rt, endpoint, left);
         Ok(())
     }
 }
 
 /// Expects this of a run over this script: the answer, what was noted, and how many jobs are left. The endpoint has
 /// descriptor 0, and the subscriber 3.
-fn expect_run<R: Wait + Clock + Abort + Copy + Send + Drop>(
+fn expect_one_run<R: Wait + Clock + Abort + Copy + Send + Drop>(
     rt: &R,
     alloc: Global,
     script: ScriptPoller,
     expected: (Result<usize>, &[u64], usize),
 ) -> std::result::Result<(), Fail> {
     let (answer, noted, left) = expected;
-    let notes = Arc::new(alloc, Mutex::new(Vec::new(alloc)))?;
+    let notes = new_notes(alloc)?;
     let subscriber = Noting {
         own: Events::new_raw(3, EventSet::IN),
         number: DELIVERED,
@@ -84,15 +84,15 @@ fn expect_run<R: Wait + Clock + Abort + Copy + Send + Drop>(
         poller: PlainPoller(script),
         event_fd,
     };
-    with_ledgers(OneRun {
+    let body = OneRun {
         rt,
-        parts,
         subscriber,
-        notes,
+        notes: &notes,
         answer,
         noted,
         left,
-    })
+    };
+    with_endpoint(parts, body)
 }
 
 /// A script of one report: of these words and sets.
@@ -123,7 +123,7 @@ fn reports_of_an_endpoint_event_of_any_set(rt: HostRuntime) -> std::result::Resu
     ];
     for (report, noted) in reports {
         let script = script_of(rt.alloc(), report)?;
-        expect_run(&rt, rt.alloc(), script, (Ok(report.len()), noted, 0))?;
+        expect_one_run(&rt, rt.alloc(), script, (Ok(report.len()), noted, 0))?;
     }
     Ok(())
 }
@@ -133,7 +133,7 @@ fn a_report_without_the_endpoint_runs_no_job(rt: HostRuntime) -> std::result::Re
     let reports: [(&[(u64, EventSet)], &[u64]); 2] = [(&[OTHERS], &[DELIVERED]), (&[], &[])];
     for (report, noted) in reports {
         let script = script_of(rt.alloc(), report)?;
-        expect_run(&rt, rt.alloc(), script, (Ok(report.len()), noted, 1))?;
+        expect_one_run(&rt, rt.alloc(), script, (Ok(report.len()), noted, 1))?;
     }
     Ok(())
 }
@@ -147,7 +147,7 @@ fn a_run_that_fails_runs_no_job(rt: HostRuntime) -> std::result::Result<(), Fail
     for (errno, answer) in answers {
         let mut script = ScriptPoller::new(rt.alloc());
         script.push_fault(errno)?;
-        expect_run(&rt, rt.alloc(), script, (answer, &[], 1))?;
+        expect_one_run(&rt, rt.alloc(), script, (answer, &[], 1))?;
     }
     Ok(())
 }

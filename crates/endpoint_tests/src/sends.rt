@@ -1,11 +1,14 @@
 //! What is sent, and when it is run.
 
-use crate::making::{Idle, OnTable, make, on_table};
+use crate::expecting::{
+    expect_noted, expect_pending, expect_run, expect_run_within, expect_same, fire_note, new_notes,
+};
+use crate::making::{Idle, WithEndpoint, on_table, with_endpoint};
 use crate::work::{Notes, Work};
-use event_manager::{WithLedgers, with_ledgers};
+use event_manager::{EventManager, EventPoller, RemoteEndpoint};
 use std::process::Abort;
-use std::sync::ledger::{Blank, Ledger};
-use std::sync::{Arc, Mutex, Wait};
+use std::sync::Wait;
+use std::sync::ledger::Ledger;
 use std::test::Fail;
 use std::time::Clock;
 
@@ -13,41 +16,39 @@ use std::time::Clock;
 #[derive(Drop)]
 struct Two<'a, R> {
     rt: &'a R,
-    parts: OnTable<R>,
-    notes: Notes,
+    notes: &'a Notes,
 }
 
-impl<R: Wait + Clock + Abort + Copy + Send + Drop> WithLedgers for Two<'_, R> {
-    type Output = Result<(), Fail>;
+impl<R: Wait + Clock + Abort> WithEndpoint for Two<'_, R> {
+    type Subscriber = Idle;
 
-    fn run<L: Ledger + Send + Sync, T: Ledger + Send + Sync>(
+    type Job = Work;
+
+    fn run<L: Ledger, T: Ledger, P: EventPoller>(
         self,
-        tickets: Blank,
-        taken: Blank,
+        manager: &mut EventManager<Idle, Work, L, T, P>,
+        endpoint: &RemoteEndpoint<Idle, Work, L, T>,
     ) -> Result<(), Fail> {
-        let Two { rt, parts, notes } = self;
-        let mut manager = make::<Idle, Work, L, T, _>(parts, tickets, taken)?;
-        let endpoint = manager.remote_endpoint()?;
-        let first = endpoint.fire(Work::Note(notes.clone()?, 1), rt)?;
-        let second = endpoint.fire(Work::Note(notes.clone()?, 2), rt)?;
-        assert_eq!(rt; (first.number(), second.number()), (1, 2));
-        assert_eq!(rt; endpoint.pending(), Some(2));
-        assert_eq!(rt; manager.run(rt), Ok(1));
-        assert_eq!(rt; notes.lock(rt).as_slice(), [1, 2].as_slice());
-        assert_eq!(rt; manager.run_with_timeout(0, rt), Ok(0));
-        assert_eq!(rt; endpoint.pending(), Some(0));
+        let Two { rt, notes } = self;
+        let first = fire_note(rt, endpoint, notes, 1)?;
+        let second = fire_note(rt, endpoint, notes, 2)?;
+        expect_same(rt, &(first, second), &(1, 2));
+        expect_pending(rt, endpoint, 2);
+        expect_run(rt, manager, Ok(1));
+        expect_noted(rt, notes, &[1, 2]);
+        expect_run_within(rt, manager, 0, Ok(0));
+        expect_pending(rt, endpoint, 0);
         Ok(())
     }
 }
 
 #[test]
 fn two_fired_jobs_run_in_order(rt: HostRuntime) -> Result<(), Fail> {
-    let alloc = rt.alloc();
-    let notes = Arc::new(alloc, Mutex::new(Vec::new(alloc)))?;
-    let parts = on_table(rt, alloc, 0)?;
-    with_ledgers(Two {
+    let notes = new_notes(rt.alloc())?;
+    let parts = on_table(rt, rt.alloc(), 0)?;
+    let body = Two {
         rt: &rt,
-        parts,
-        notes,
-    })
+        notes: &notes,
+    };
+    with_endpoint(parts, body)
 }

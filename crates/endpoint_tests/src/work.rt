@@ -55,6 +55,18 @@ impl Gate {
         }
         false
     }
+
+    /// Opens the gate, and waits until it may go on: 1 where it might, else 0.
+    pub fn pass<R: Wait + Clock>(&self, rt: &R) -> u64 {
+        self.set(1, rt);
+        u64::from(self.wait_for(2, rt))
+    }
+}
+
+/// Notes this, and answers it.
+pub fn note<R: Wait>(notes: &Notes, number: u64, rt: &R) -> u64 {
+    let _ = notes.lock(rt).push(number);
+    number
 }
 
 /// A job on what it shares with others; its reply is a number.
@@ -86,16 +98,8 @@ impl<S: MutEventSubscriber> Job<S> for Work {
             Work::Set(number, value) => mem::replace(&mut *number.lock(rt), value),
             Work::Read(number) => *number.lock(rt),
             Work::Own(number) => number,
-            Work::Note(notes, number) => {
-                let _ = notes.lock(rt).push(number);
-                number
-            }
-            Work::Pass(gate, notes) => {
-                gate.set(1, rt);
-                let passed = gate.wait_for(2, rt) as u64;
-                let _ = notes.lock(rt).push(passed);
-                passed
-            }
+            Work::Note(notes, number) => note(&notes, number, rt),
+            Work::Pass(gate, notes) => note(&notes, gate.pass(rt), rt),
         }
     }
 }

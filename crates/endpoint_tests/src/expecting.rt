@@ -1,0 +1,90 @@
+//! What the bodies of tests do again and again, each time with a word on what must come of it.
+
+use crate::work::{Notes, Work};
+use event_manager::{EventManager, EventPoller, Job, MutEventSubscriber, RemoteEndpoint, Result};
+use std::alloc::Global;
+use std::fmt::Debug;
+use std::process::Abort;
+use std::sync::ledger::Ledger;
+use std::sync::{Arc, Mutex, Wait};
+use std::test::Fail;
+use std::time::Clock;
+
+/// Expects that the two are equal.
+pub fn expect_same<A: PartialEq + Debug, R: Abort>(rt: &R, found: &A, expected: &A) {
+    assert_eq!(rt; found, expected);
+}
+
+/// No note yet.
+pub fn new_notes(alloc: Global) -> std::result::Result<Notes, Fail> {
+    Ok(Arc::new(alloc, Mutex::new(Vec::new(alloc)))?)
+}
+
+/// Sends a job that notes this: the number of its ticket.
+pub fn fire_note<S: MutEventSubscriber, L: Ledger, T: Ledger, R: Wait + Clock>(
+    rt: &R,
+    endpoint: &RemoteEndpoint<S, Work, L, T>,
+    notes: &Notes,
+    number: u64,
+) -> std::result::Result<u64, Fail> {
+    let ticket = endpoint.fire(Work::Note(notes.clone()?, number), rt)?;
+    Ok(ticket.number())
+}
+
+/// Expects this answer of a run without a limit.
+pub fn expect_run<S, J, L, T, P, R>(
+    rt: &R,
+    manager: &mut EventManager<S, J, L, T, P>,
+    answer: Result<usize>,
+)
+where
+    S: MutEventSubscriber,
+    J: Job<S>,
+    L: Ledger,
+    T: Ledger,
+    P: EventPoller,
+    R: Wait + Clock + Abort,
+{
+    expect_same(rt, &manager.run(rt), &answer);
+}
+
+/// Expects this answer of a run of at most so many milliseconds.
+pub fn expect_run_within<S, J, L, T, P, R>(
+    rt: &R,
+    manager: &mut EventManager<S, J, L, T, P>,
+    ms: i32,
+    answer: Result<usize>,
+)
+where
+    S: MutEventSubscriber,
+    J: Job<S>,
+    L: Ledger,
+    T: Ledger,
+    P: EventPoller,
+    R: Wait + Clock + Abort,
+{
+    expect_same(rt, &manager.run_with_timeout(ms, rt), &answer);
+}
+
+/// Expects that so many jobs wait.
+pub fn expect_pending<S: MutEventSubscriber, J: Job<S>, L: Ledger, T: Ledger, R: Abort>(
+    rt: &R,
+    endpoint: &RemoteEndpoint<S, J, L, T>,
+    count: usize,
+) {
+    expect_same(rt, &endpoint.pending(), &Some(count));
+}
+
+/// Expects that this was noted.
+pub fn expect_noted<R: Wait + Abort>(rt: &R, notes: &Notes, expected: &[u64]) {
+    expect_same(rt, &notes.lock(rt).as_slice(), &expected);
+}
+
+/// Expects that 1, 2, 3 and so on were noted, so many numbers.
+pub fn expect_counted<R: Wait + Abort>(rt: &R, notes: &Notes, count: usize) {
+    let seen = notes.lock(rt);
+    expect_same(rt, &seen.len(), &count);
+    for (number, noted) in (1u64..).zip(seen.iter()) {
+        expect_same(rt, noted, &number);
+    }
+}
