@@ -2,7 +2,11 @@
 #![tactic(auto)]
 
 #[cfg(test)]
+mod bells;
+#[cfg(test)]
 mod calls;
+#[cfg(test)]
+mod closes;
 #[cfg(test)]
 mod expecting;
 #[cfg(test)]

@@ -1,0 +1,136 @@
+//! A manager that closes beside a thread that sends, and an endpoint after it.
+
+ghost use Rattle.std.specs.Prelude.{◌≡◌};
+
+use crate::expecting::{expect_noted, expect_same, new_notes};
+use crate::making::{Idle, OnTable, make, on_table};
+use crate::threads::{Host, wait_until_pending};
+use crate::work::{Notes, Work};
+use event_manager::{
+    Error, EventManager, PlainPoller, RemoteEndpoint, Result, WithLedgers, with_ledgers,
+};
+use std::marker::Brand;
+use std::process::Abort;
+use std::sync::Wait;
+use std::sync::ledger::{Blank, Ledger};
+use std::test::Fail;
+use std::thread;
+use std::time::Clock;
+use vmm_sys::epoll::Epoll;
+use vmm_sys::eventfd::EventFd;
+
+type Loop<L, T, R> = EventManager<Idle, Work, L, T, PlainPoller<Epoll<R>>>;
+
+type Sender<L, T> = RemoteEndpoint<Idle, Work, L, T>;
+
+/// Closes when two jobs wait: whether they did, what was issued and what was taken.
+fn close_on_two<L: Ledger, T: Ledger, R: Wait + Clock + Clone + Send + Drop>(
+    rt: &R,
+    manager: Loop<L, T, R>,
+    endpoint: &Sender<L, T>,
+) -> (bool, u64, u64) {
+    let waited = wait_until_pending(rt, endpoint, 2);
+    let closed = manager.close(rt);
+    (waited, closed.issued(), closed.taken())
+}
+
+/// Sends a job that notes this: the number of its ticket.
+fn send<L: Ledger, T: Ledger, R: Wait + Clock>(
+    rt: &R,
+    endpoint: &Sender<L, T>,
+    notes: &Notes,
+    number: u64,
+) -> Result<u64> {
+    let ticket = endpoint.fire(Work::Note(notes.clone()?, number), rt)?;
+    Ok(ticket.number())
+}
+
+/// Sends two jobs, and a third once none waits any more: whether that came, and the tickets.
+fn send_round_a_close<L: Ledger, T: Ledger, R: Wait + Clock>(
+    rt: &R,
+    endpoint: &Sender<L, T>,
+    notes: &Notes,
+) -> (bool, [Result<u64>; 3]) {
+    let first = send(rt, endpoint, notes, 1);
+    let second = send(rt, endpoint, notes, 2);
+    let closed = wait_until_pending(rt, endpoint, 0);
+    (closed, [first, second, send(rt, endpoint, notes, 3)])
+}
+
+/// A sender by an endpoint of a manager of these parts, which is closed meanwhile.
+fn sender_beside_close<L: Ledger + Send + Sync, T: Ledger + Send + Sync, R: Host>(
+    rt: &R,
+    parts: OnTable<R>,
+    notes: &Notes,
+    tickets: Blank,
+    taken: Blank,
+) -> std::result::Result<(), Fail>
+    requires tickets_name { tickets.name ≡ L.name }
+    requires tickets_parts { (tickets.parts ≡ L.parts) × (tickets.parts ≡ 9223372036854775808) }
+    requires taken_name { taken.name ≡ T.name }
+    requires taken_parts { (taken.parts ≡ T.parts) × (taken.parts ≡ 1) }
+{
+    let manager = make::<Idle, Work, L, T, _>(parts, tickets, taken)?;
+    let endpoint = manager.remote_endpoint()?;
+    let (closer, sender) = thread::join(
+        rt,
+        || close_on_two(rt, manager, &endpoint),
+        || send_round_a_close(rt, &endpoint, notes),
+    );
+    expect_same(rt, &closer, &(true, 2, 0));
+    expect_same(
+        rt,
+        &sender,
+        &(true, [Ok(1), Ok(2), Err(Error::ChannelSend)]),
+    );
+    Ok(())
+}
+
+#[test]
+fn a_sender_is_refused_after_a_close(rt: HostRuntime) -> std::result::Result<(), Fail> {
+    let notes = new_notes(rt.alloc())?;
+    let parts = on_table(rt, rt.alloc(), 0)?;
+    let tickets = Blank::new(9223372036854775808);
+    sender_beside_close::<Brand, Brand, HostRuntime>(&rt, parts, &notes, tickets, Blank::new(1))?;
+    expect_noted(&rt, &notes, &[]);
+    Ok(())
+}
+
+/// Kicks after a close.
+#[derive(Drop)]
+struct KickAfterClose<'a, R> {
+    rt: &'a R,
+    parts: OnTable<R>,
+    counter: EventFd,
+}
+
+impl<R: Wait + Clock + Abort + Copy + Send + Drop> WithLedgers for KickAfterClose<'_, R> {
+    type Output = std::result::Result<(), Fail>;
+
+    fn run<L: Ledger + Send + Sync, T: Ledger + Send + Sync>(
+        self,
+        tickets: Blank,
+        taken: Blank,
+    ) -> std::result::Result<(), Fail> {
+        let KickAfterClose { rt, parts, counter } = self;
+        let manager = make::<Idle, Work, L, T, _>(parts, tickets, taken)?;
+        let endpoint = manager.remote_endpoint()?;
+        expect_same(rt, &manager.close(rt).issued(), &0);
+        expect_same(rt, &endpoint.kick(rt), &Ok(()));
+        expect_same(rt, &counter.read(rt), &Ok(1));
+        Ok(())
+    }
+}
+
+#[test]
+fn a_kick_after_a_close_is_agreed_and_read_by_nobody(
+    rt: HostRuntime,
+) -> std::result::Result<(), Fail> {
+    let parts = on_table(rt, rt.alloc(), 0)?;
+    let counter = parts.event_fd.try_clone()?;
+    with_ledgers(KickAfterClose {
+        rt: &rt,
+        parts,
+        counter,
+    })
+}
