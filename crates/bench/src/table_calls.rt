@@ -102,18 +102,24 @@ impl<R: Host> TableCalls<'_, R> {
         self.print(name, times, operations, count)
     }
 
-    /// Counts the modifications, each of which has its number as word; the last is then reported with it.
+    /// Counts the modifications, each of which has its number as word; the interest of the last is then reported with it.
     fn measure_modify(&self) -> Result<(), Fault> {
         let (alloc, interests) = (self.bench.alloc, self.interests);
         let mut table = filled(interests, 1, alloc)?;
-        let (rounds, last) = (self.bench.rounds(CONTROLS), interests.saturating_sub(1));
-        let mut count = 0u64;
+        let (rounds, highest) = (self.bench.rounds(CONTROLS), interests.saturating_sub(1));
+        let (mut count, mut last, mut next) = (0u64, 0u16, 0u16);
         let times = Times::of(
             || {
                 for _ in 0..rounds {
                     count = count.saturating_add(1);
+                    last = next;
                     let event = EpollEvent::new(EventSet::IN, count);
                     table.ctl(ControlOperation::Modify, last as RawFd, event)?;
+                    next = if last == highest {
+                        0
+                    } else {
+                        last.wrapping_add(1)
+                    };
                 }
                 Ok(())
             },
@@ -125,7 +131,7 @@ impl<R: Host> TableCalls<'_, R> {
             Some(entry) => entry.data(),
             None => 0,
         };
-        let name = format!(in alloc; "Modify the last of {interests} interests")?;
+        let name = format!(in alloc; "Modify each of {interests} interests in turn")?;
         self.print(name, times, rounds as u64, reported)
     }
 

@@ -3,10 +3,10 @@ use Rattle.std.proofs.Common.{◌≡◌, ℕ, zero, suc, ◌+◌, ◌-◌, ◌�
 use Rattle.std.proofs.lemmas.Bool.{false≢true}
 use Rattle.std.specs.Cmp.{nat_cmp_total}
 use Rattle.std.specs.FinMap.{FinMap, get, insert, remove, len, len-insert, len-remove, empty_of_len, get-empty}
-use Rattle.event_manager.specs.Owners.{id_of}
+use Rattle.event_manager.specs.Owners.{owner_id}
 use Rattle.event_manager.specs.declared.owners.Owner.{Owner}
 
-same_some : (o : Option Owner) → is_some (id_of o) ≡ is_some o
+same_some : (o : Option Owner) → is_some (owner_id o) ≡ is_some o
 same_some None = refl
 same_some (Some owner) = refl
 
@@ -28,5 +28,5 @@ module _ (owners : FinMap nat_cmp ℕ) (fd : ℕ) where
   one_more_owner id free = len-insert nat_cmp_total owners fd id ∙ ap (λ o. cond (is_some o) (len owners) (len owners + 1)) free
 
   -- what a removal answers says whether there was one
-  pub answered : (o : Option Owner) (b : Bool) → id_of o ≡ get owners fd → is_some o ≡ b → is_some (get owners fd) ≡ b
+  pub answered : (o : Option Owner) (b : Bool) → owner_id o ≡ get owners fd → is_some o ≡ b → is_some (get owners fd) ≡ b
   answered o b is e = ap is_some (sym is) ∙ same_some o ∙ e

@@ -45,8 +45,8 @@ iterated = record { registry = record { values = insert (insert empty 1 0) 1 1; 
 held : get joined.registry.registrations.owner 3 ≡ Some 1
 held = get-insert nat_cmp_total empty 3 1 3
 
-unregister_descriptor : get removed.owner 3 ≡ None
-unregister_descriptor = get-remove nat_cmp_total joined.registry.registrations.owner 3 3
+three_is_free : get removed.owner 3 ≡ None
+three_is_free = get-remove nat_cmp_total joined.registry.registrations.owner 3 3
 
 pub example_iterations : HasEffect any_begins any_serves any_may joined iterates iterated
 example_iterations = (
@@ -66,7 +66,7 @@ example_iterations = (
           removed,
           refl,
           by_agreement held refl refl refl,
-          (call_for (Add three) (Ok tt) ∷ [], [], added, refl, by_agreement (unregister_descriptor, not_end) refl refl refl, (refl, refl)),
+          (call_for (Add three) (Ok tt) ∷ [], [], added, refl, by_agreement (three_is_free, not_end) refl refl refl, (refl, refl)),
         ),
         refl,
       ),

@@ -42,14 +42,14 @@ owned_by-insert_own i owner fd = same_map nat_cmp_total nat_cmp-IsAntisymmetric 
 
 -- a neighbour adds a free one
 free_answer : (i j : ℕ) (o : Option ℕ) (b : Bool) → j ≢ i → (b ≡ true → o ≡ None) → cond (is_id i (cond b (Some j) o)) (cond b (Some j) o) None ≡ cond (is_id i o) o None
-free_answer i j o true differ unregister_descriptor = rw (unregister_descriptor refl) (grind (arith, nat_tests))
-free_answer i j o false differ unregister_descriptor = refl
+free_answer i j o true differ is_free = rw (is_free refl) (grind (arith, nat_tests))
+free_answer i j o false differ is_free = refl
 
 pub owned_by-insert_other : (i j : ℕ) (owner : FinMap nat_cmp ℕ) (fd : ℕ) → j ≢ i → get owner fd ≡ None → owned_by i (insert owner fd j) ≡ owned_by i owner
-owned_by-insert_other i j owner fd differ unregister_descriptor = same_map nat_cmp_total nat_cmp-IsAntisymmetric _ _ (λ q.
+owned_by-insert_other i j owner fd differ is_free = same_map nat_cmp_total nat_cmp-IsAntisymmetric _ _ (λ q.
     get-owned_by i (insert owner fd j) q
     ∙ ap (λ o. cond (is_id i o) o None) (get-insert nat_cmp_total owner fd j q)
-    ∙ free_answer i j (get owner q) (eq_by_cmp nat_cmp q fd) differ (λ e. ap (get owner) (nat_tied q fd e) ∙ unregister_descriptor)
+    ∙ free_answer i j (get owner q) (eq_by_cmp nat_cmp q fd) differ (λ e. ap (get owner) (nat_tied q fd e) ∙ is_free)
     ∙ sym (get-owned_by i owner q))
 
 -- removing one's own descriptor

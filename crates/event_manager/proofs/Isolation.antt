@@ -62,10 +62,10 @@ filter_not_on p fd (e ∷ events) apart = elim (fd_tells e.fd fd) [
 ]
 
 insert_unseen : (i j : ℕ) (owner : FinMap nat_cmp ℕ) (fd : ℕ) → j ≢ i → get owner fd ≡ None → (q : ℕ) → is_id j (get (insert owner fd i) q) ≡ is_id j (get owner q)
-insert_unseen i j owner fd differ unregister_descriptor q = elim (fd_tells q fd) [
+insert_unseen i j owner fd differ is_free q = elim (fd_tells q fd) [
   | inl t ↦
       let e : get (insert owner fd i) q ≡ Some i = get-insert nat_cmp_total owner fd i q ∙ ap (λ b. cond b (Some i) (get owner q)) t.0 in
-      let f : get owner q ≡ None = ap (get owner) t.1 ∙ unregister_descriptor in
+      let f : get owner q ≡ None = ap (get owner) t.1 ∙ is_free in
       ap (is_id j) e ∙ elim (eqb_tells i j) [ inl p ↦ absurd (differ (sym p.1)) | inr p ↦ p.0 ] ∙ sym (ap (is_id j) f)
   | inr t ↦ ap (is_id j) (get-insert nat_cmp_total owner fd i q ∙ ap (λ b. cond b (Some i) (get owner q)) t.0)
 ]

@@ -5,7 +5,7 @@ use Rattle.std.specs.Ordering.{eq_by_cmp}
 use Rattle.std.specs.Cmp.{nat_cmp_total}
 use Rattle.std.specs.FinMap.{get, insert, remove, find, get-from_entries, get-insert, get-remove, same_map, nat_cmp-IsAntisymmetric}
 use Rattle.std.specs.Map.{lookup}
-use Rattle.event_manager.specs.Owners.{id_of, id_at, id_in, low_entries, high_entries, owners_in, AreApart, HasOwnerAt}
+use Rattle.event_manager.specs.Owners.{owner_id, id_at, id_in, low_entries, high_entries, owners_in, AreApart, HasOwnerAt}
 use Rattle.event_manager.specs.declared.owners.Owner.{Owner}
 use Rattle.event_manager.proofs.FiniteMaps.{same_tests}
 use Rattle.event_manager.proofs.Watching.{flipped}
@@ -58,7 +58,7 @@ find_low_from_0 : (low : List (Option Owner)) (q : ℕ) → find nat_cmp q (low_
 find_low_from_0 low q = ap (λ n. find nat_cmp n (low_entries 0 low)) (from_0 q) ∙ find_low q 0 low
 
 -- the map's part
-id_of_cond : (b : Bool) (owner : Owner) (o : Option Owner) → id_of (cond b (Some owner) o) ≡ cond b (Some owner.id) (id_of o)
+id_of_cond : (b : Bool) (owner : Owner) (o : Option Owner) → owner_id (cond b (Some owner) o) ≡ cond b (Some owner.id) (owner_id o)
 id_of_cond true owner o = refl
 id_of_cond false owner o = refl
 
@@ -122,34 +122,34 @@ module _ (low lows : List (Option Owner)) (high highs : List (ℕ × Owner)) (fd
       ∙ sym (get-remove nat_cmp_total (owners_in low high) fd q ∙ ap (λ o. cond (eq_by_cmp nat_cmp q fd) None o) (owner_is low high q)))
 
   module _ (new : Option Owner) (above : 65536 ≤ fd) (has : (q : ℕ) → lookup (λ k. q == k) highs ≡ cond (fd == q) new (lookup (λ k. q == k) high)) where
-    id_cond : (b : Bool) (o : Option Owner) → id_of (cond b new o) ≡ cond b (id_of new) (id_of o)
+    id_cond : (b : Bool) (o : Option Owner) → owner_id (cond b new o) ≡ cond b (owner_id new) (owner_id o)
     id_cond true o = refl
     id_cond false o = refl
 
     other_below : (q : ℕ) → q < 65536 → (fd == q) ≡ false
     other_below q below = grind (arith, nat_tests, above, below)
 
-    has_id : (q : ℕ) → id_in highs q ≡ cond (fd == q) (id_of new) (id_in high q)
-    has_id q = ap id_of (has q) ∙ id_cond (fd == q) (lookup (λ k. q == k) high)
+    has_id : (q : ℕ) → id_in highs q ≡ cond (fd == q) (owner_id new) (id_in high q)
+    has_id q = ap owner_id (has q) ∙ id_cond (fd == q) (lookup (λ k. q == k) high)
 
-    changed_high : (q : ℕ) → get (owners_in low highs) q ≡ cond (eq_by_cmp nat_cmp q fd) (id_of new) (get (owners_in low high) q)
+    changed_high : (q : ℕ) → get (owners_in low highs) q ≡ cond (eq_by_cmp nat_cmp q fd) (owner_id new) (get (owners_in low high) q)
     changed_high q =
         owner_is low highs q
         ∙ ap (λ o. first_id (id_at low q) o) (has_id q)
-        ∙ second_changed (fd == q) (id_of new) (id_at low q) (id_in high q) (none_in_low above q)
-        ∙ ap (λ b. cond b (id_of new) (first_id (id_at low q) (id_in high q))) (flipped fd q ∙ sym (same_tests q fd))
-        ∙ ap (λ o. cond (eq_by_cmp nat_cmp q fd) (id_of new) o) (sym (owner_is low high q))
+        ∙ second_changed (fd == q) (owner_id new) (id_at low q) (id_in high q) (none_in_low above q)
+        ∙ ap (λ b. cond b (owner_id new) (first_id (id_at low q) (id_in high q))) (flipped fd q ∙ sym (same_tests q fd))
+        ∙ ap (λ o. cond (eq_by_cmp nat_cmp q fd) (owner_id new) o) (sym (owner_is low high q))
 
     pub still_apart : AreApart low highs
     still_apart = record {
       low_alone = apart.low_alone;
-      none_low = λ q below. has_id q ∙ ap (λ b. cond b (id_of new) (id_in high q)) (other_below q below) ∙ apart.none_low q below;
+      none_low = λ q below. has_id q ∙ ap (λ b. cond b (owner_id new) (id_in high q)) (other_below q below) ∙ apart.none_low q below;
     }
 
-    pub put_high : (id : ℕ) → id_of new ≡ Some id → owners_in low highs ≡ insert (owners_in low high) fd id
+    pub put_high : (id : ℕ) → owner_id new ≡ Some id → owners_in low highs ≡ insert (owners_in low high) fd id
     put_high id is = same_map nat_cmp_total nat_cmp-IsAntisymmetric _ _ (λ q.
         changed_high q ∙ ap (λ o. cond (eq_by_cmp nat_cmp q fd) o (get (owners_in low high) q)) is ∙ sym (get-insert nat_cmp_total (owners_in low high) fd id q))
 
-    pub take_high : id_of new ≡ None → owners_in low highs ≡ remove (owners_in low high) fd
+    pub take_high : owner_id new ≡ None → owners_in low highs ≡ remove (owners_in low high) fd
     take_high is = same_map nat_cmp_total nat_cmp-IsAntisymmetric _ _ (λ q.
         changed_high q ∙ ap (λ o. cond (eq_by_cmp nat_cmp q fd) o (get (owners_in low high) q)) is ∙ sym (get-remove nat_cmp_total (owners_in low high) fd q))

@@ -9,18 +9,18 @@ use Rattle.std.specs.Ordering.{eq_by_cmp, is_eq}
 use Rattle.std.specs.FinMap.{FinMap, find, get, insert, remove, same_map, get-insert, get-remove, get-from_entries, nat_cmp-IsAntisymmetric}
 use Rattle.event_manager.specs.declared.places.Place.{Place}
 use Rattle.event_manager.specs.declared.places.Place.TheVariants.{Held, Vacant}
-use Rattle.event_manager.specs.Places.{id_of, subscriber_of, with_subscriber, id_at, subscriber_at, entries_of, values_of, AreIndexed, AreLinked, AreSound, HaveSameHolders}
+use Rattle.event_manager.specs.Places.{held_id, subscriber_of, with_subscriber, id_at, subscriber_at, entries_of, values_of, AreIndexed, AreLinked, AreSound, HaveSameHolders}
 use Rattle.event_manager.proofs.FiniteMaps.{nat_tied, fd_tells}
 use Rattle.event_manager.proofs.VacantPlaces.{none_some, same_some, linked_fill, linked_vacate, linked_rewrite}
 
 module _ {S : Type 0} where
   -- who stands at a place after a write
-  pub id_at-set_same : (places : List (Place S)) (place : ℕ) (e : Place S) → place < length places → id_at (set places place e) place ≡ id_of e
+  pub id_at-set_same : (places : List (Place S)) (place : ℕ) (e : Place S) → place < length places → id_at (set places place e) place ≡ held_id e
   id_at-set_same places place e within =
-      ap (λ l. get_or l place None) (map-set id_of places place e) ∙ get_or-set_same (map id_of places) place (id_of e) None (omega (arith, length-map places id_of))
+      ap (λ l. get_or l place None) (map-set held_id places place e) ∙ get_or-set_same (map held_id places) place (held_id e) None (omega (arith, length-map places held_id))
 
   id_at-set_other : (places : List (Place S)) (place other : ℕ) (e : Place S) → other ≢ place → id_at (set places place e) other ≡ id_at places other
-  id_at-set_other places place other e apart = ap (λ l. get_or l other None) (map-set id_of places place e) ∙ get_or-set_other (map id_of places) place other (id_of e) None apart
+  id_at-set_other places place other e apart = ap (λ l. get_or l other None) (map-set held_id places place e) ∙ get_or-set_other (map held_id places) place other (held_id e) None apart
 
   subscriber_at-set_same : (places : List (Place S)) (place : ℕ) (e : Place S) → place < length places → subscriber_at (set places place e) place ≡ subscriber_of e
   subscriber_at-set_same places place e within =
@@ -35,7 +35,7 @@ module _ {S : Type 0} where
   held_within places place id held =
       elim (cases_lt place (length places)) [
         | inl within ↦ within
-        | inr past ↦ absurd (none_some id (sym (get_or_past (map id_of places) place None (omega (arith, length-map places id_of))) ∙ held))
+        | inr past ↦ absurd (none_some id (sym (get_or_past (map held_id places) place None (omega (arith, length-map places held_id))) ∙ held))
       ]
 
   -- the id is held nowhere and found nowhere, or found where it is held
@@ -44,11 +44,11 @@ module _ {S : Type 0} where
       ((find nat_cmp id (entries_of places) ≡ None) × ((place : ℕ) → id_at places place ≡ Some id → ⊥))
       ⊎ ((place : ℕ) × (id_at places place ≡ Some id) × (find nat_cmp id (entries_of places) ≡ subscriber_at places place))
 
-  not_in : (e : Place S) (places : List (Place S)) (id : ℕ) → (id_of e ≡ Some id → ⊥) → ((place : ℕ) → id_at places place ≡ Some id → ⊥) → (place : ℕ) → id_at (e ∷ places) place ≡ Some id → ⊥
+  not_in : (e : Place S) (places : List (Place S)) (id : ℕ) → (held_id e ≡ Some id → ⊥) → ((place : ℕ) → id_at places place ≡ Some id → ⊥) → (place : ℕ) → id_at (e ∷ places) place ≡ Some id → ⊥
   not_in e places id apart none zero held = apart held
   not_in e places id apart none (suc k) held = none k held
 
-  finds_later : (e : Place S) (places : List (Place S)) (id : ℕ) → (id_of e ≡ Some id → ⊥) → find nat_cmp id (entries_of (e ∷ places)) ≡ find nat_cmp id (entries_of places) → Finds places id → Finds (e ∷ places) id
+  finds_later : (e : Place S) (places : List (Place S)) (id : ℕ) → (held_id e ≡ Some id → ⊥) → find nat_cmp id (entries_of (e ∷ places)) ≡ find nat_cmp id (entries_of places) → Finds places id → Finds (e ∷ places) id
   finds_later e places id apart same (inl none) = inl (same ∙ none.0, not_in e places id apart none.1)
   finds_later e places id apart same (inr some) = inr (suc some.0, some.1, same ∙ some.2)
 
@@ -86,11 +86,11 @@ module _ {S : Type 0} where
   place_if_held (Held id subscriber) place = Some place
   place_if_held (Vacant next) place = None
 
-  held_there : (e : Place S) (place other id : ℕ) → id_of e ≡ Some id → (place_if_held e place ≡ Some other) ↔ (place ≡ other)
+  held_there : (e : Place S) (place other id : ℕ) → held_id e ≡ Some id → (place_if_held e place ≡ Some other) ↔ (place ≡ other)
   held_there (Held holder subscriber) place other id is = (same_some place other, ap Some)
   held_there (Vacant next) place other id is = absurd (none_some id is)
 
-  held_nowhere : (e : Place S) (place other : ℕ) → place_if_held e place ≡ Some other → (place ≡ other) × ((id : ℕ) → ((j : ℕ) → id_of e ≡ Some j → j ≡ id) → id_of e ≡ Some id)
+  held_nowhere : (e : Place S) (place other : ℕ) → place_if_held e place ≡ Some other → (place ≡ other) × ((id : ℕ) → ((j : ℕ) → held_id e ≡ Some j → j ≡ id) → held_id e ≡ Some id)
   held_nowhere (Held holder subscriber) place other is = (same_some place other is, λ id own. ap Some (own holder refl))
   held_nowhere (Vacant next) place other is = absurd (none_some other is)
 
@@ -100,7 +100,7 @@ module _ {S : Type 0} where
 
   -- A place that holds the id or nobody now has e, which holds the id or nobody; and the id is held at no other place.
   module _ (places : List (Place S)) (index later : ℕ → Option ℕ) (id place : ℕ) (e : Place S) (indexed : AreIndexed places index) (within : place < length places)
-      (was : (j : ℕ) → id_at places place ≡ Some j → j ≡ id) (now : (j : ℕ) → id_of e ≡ Some j → j ≡ id) (only : (k : ℕ) → index id ≡ Some k → k ≡ place)
+      (was : (j : ℕ) → id_at places place ≡ Some j → j ≡ id) (now : (j : ℕ) → held_id e ≡ Some j → j ≡ id) (only : (k : ℕ) → index id ≡ Some k → k ≡ place)
       (changed : (j : ℕ) → later j ≡ cond (nat_eq id j) (place_if_held e place) (index j)) where
     later_own : later id ≡ place_if_held e place
     later_own = elim (eqb_tells id id) [ inl p ↦ changed id ∙ ap (λ b. cond b (place_if_held e place) (index id)) p.0 | inr p ↦ absurd (p.1 refl) ]
@@ -180,9 +180,9 @@ module _ {S : Type 0} where
   held_entry : (places : List (Place S)) (place id : ℕ) → id_at places place ≡ Some id → (subscriber : S) × (slice_get places place ≡ Some (Held id subscriber))
   held_entry places place id held =
       let within = held_within places place id held in
-      by_entry (get_or places place (Vacant None)) (slice_get-get_or places place (Vacant None) within) (sym (get_or-map id_of places place (Vacant None) None within) ∙ held)
+      by_entry (get_or places place (Vacant None)) (slice_get-get_or places place (Vacant None) within) (sym (get_or-map held_id places place (Vacant None) None within) ∙ held)
     where
-      by_entry : (e : Place S) → slice_get places place ≡ Some e → id_of e ≡ Some id → (subscriber : S) × (slice_get places place ≡ Some (Held id subscriber))
+      by_entry : (e : Place S) → slice_get places place ≡ Some e → held_id e ≡ Some id → (subscriber : S) × (slice_get places place ≡ Some (Held id subscriber))
       by_entry (Held holder subscriber) found is = (subscriber, found ∙ ap (λ i. Some (Held i subscriber)) (same_some holder id is))
       by_entry (Vacant next) found is = absurd (none_some id is)
 
@@ -192,8 +192,8 @@ module _ {S : Type 0} where
       let there = held_entry places place id held in
       (there.0, read ∙ get_or_from_slice_get places place _ e there.1)
 
-  pub read_id : (places : List (Place S)) (place id : ℕ) (e : Place S) → id_at places place ≡ Some id → e ≡ get_or places place e → IsSome (id_of e)
-  read_id places place id e held read = subst (λ x. IsSome (id_of x)) (sym (read_held places place id e held read).1) refl
+  pub read_id : (places : List (Place S)) (place id : ℕ) (e : Place S) → id_at places place ≡ Some id → e ≡ get_or places place e → IsSome (held_id e)
+  read_id places place id e held read = subst (λ x. IsSome (held_id x)) (sym (read_held places place id e held read).1) refl
 
   pub read_subscriber : (places : List (Place S)) (index : ℕ → Option ℕ) (place id : ℕ) (e : Place S) → AreIndexed places index → id_at places place ≡ Some id → e ≡ get_or places place e → get (values_of places) id ≡ subscriber_of e
   read_subscriber places index place id e indexed held read =
@@ -250,7 +250,7 @@ module _ {S : Type 0} where
   module _ (places : List (Place S)) (index later : ℕ → Option ℕ) (id place : ℕ) (next : Option ℕ) (subscriber : S) (indexed : AreIndexed places index) (linked : AreLinked places (Some place)) (found : slice_get places place ≡ Some (Vacant next))
       (none : get (values_of places) id ≡ None) (changed : (j : ℕ) → later j ≡ cond (nat_eq id j) (Some place) (index j)) where
     nobody : (j : ℕ) → id_at places place ≡ Some j → j ≡ id
-    nobody j is = absurd (none_some j (sym (get_or-map id_of places place (Vacant next) None (slice_get_within places place _ found) ∙ ap id_of (get_or_from_slice_get places place _ (Vacant next) found)) ∙ is))
+    nobody j is = absurd (none_some j (sym (get_or-map held_id places place (Vacant next) None (slice_get_within places place _ found) ∙ ap held_id (get_or_from_slice_get places place _ (Vacant next) found)) ∙ is))
 
     nowhere : (k : ℕ) → index id ≡ Some k → k ≡ place
     nowhere k is = absurd (none_some k (sym (no_subscriber places index id indexed none) ∙ is))

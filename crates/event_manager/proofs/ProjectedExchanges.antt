@@ -89,7 +89,7 @@ own_unasked : (i : ℕ) (mine : ℕ → Bool) (pending : List Event) (registrati
 own_unasked i mine pending registrations (Add e) answer m claimed h =
     let same = same_at_mine i mine registrations.owner e.fd m (claimed e.fd (int_eq_same e.fd)) in
     elim h [
-      | inl t ↦ inl ((λ unregister_descriptor. t.0 (sym same ∙ unregister_descriptor)), t.1)
+      | inl t ↦ inl ((λ is_free. t.0 (sym same ∙ is_free)), t.1)
       | inr t ↦ inr (elim t [ inl u ↦ inl (same ∙ u.0, u.1, u.2) | inr u ↦ inr (same ∙ u.0, u.1, u.2) ])
     ]
 own_unasked i mine pending registrations (Modify e) answer m claimed h = ((λ own. h.0 (owned_from_projected i registrations.owner e.fd own)), h.1)

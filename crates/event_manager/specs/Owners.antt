@@ -6,17 +6,17 @@ use Rattle.std.specs.Map.{lookup}
 use Rattle.event_manager.specs.declared.owners.Owner.{Owner}
 
 -- the id of an owner that may be absent
-abbrev pub id_of : Option Owner → Option ℕ
-id_of None = None
-id_of (Some owner) = Some owner.id
+abbrev pub owner_id : Option Owner → Option ℕ
+owner_id None = None
+owner_id (Some owner) = Some owner.id
 
 -- the id that the vector has at a descriptor
 abbrev pub id_at : List (Option Owner) → ℕ → Option ℕ
-id_at low fd = id_of (slice_index_or low fd None)
+id_at low fd = owner_id (slice_index_or low fd None)
 
 -- the id that the map has at a descriptor
 abbrev pub id_in : List (ℕ × Owner) → ℕ → Option ℕ
-id_in high fd = id_of (lookup (λ q. fd == q) high)
+id_in high fd = owner_id (lookup (λ q. fd == q) high)
 
 -- the descriptors of a vector that begins at the descriptor k, each with the id of its owner
 abbrev pub low_entries : ℕ → List (Option Owner) → List (ℕ × ℕ)

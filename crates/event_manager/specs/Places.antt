@@ -7,9 +7,9 @@ use Rattle.event_manager.specs.declared.places.Place.TheVariants.{Held, Vacant}
 
 module _ {S : Type 0} where
   -- the id that a place holds, and its subscriber
-  abbrev pub id_of : Place S → Option ℕ
-  id_of (Held id subscriber) = Some id
-  id_of (Vacant next) = None
+  abbrev pub held_id : Place S → Option ℕ
+  held_id (Held id subscriber) = Some id
+  held_id (Vacant next) = None
 
   abbrev pub subscriber_of : Place S → Option S
   subscriber_of (Held id subscriber) = Some subscriber
@@ -26,7 +26,7 @@ module _ {S : Type 0} where
 
   -- by the number of a place
   abbrev pub id_at : List (Place S) → ℕ → Option ℕ
-  id_at places place = slice_index_or (map id_of places) place None
+  id_at places place = slice_index_or (map held_id places) place None
 
   abbrev pub subscriber_at : List (Place S) → ℕ → Option S
   subscriber_at places place = slice_index_or (map subscriber_of places) place None

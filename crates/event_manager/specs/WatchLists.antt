@@ -1,5 +1,5 @@
 -- Which descriptors each id watches, as the code keeps them beside the owners.
-use Rattle.std.specs.Prelude.{◌≡◌, ℕ, ◌+◌, ◌==◌, cond, List, [], Option, Some, None, Vec, count_by}
+use Rattle.std.specs.Prelude.{◌≡◌, ℕ, ◌+◌, ◌==◌, ◌<◌, ◌≤◌, cond, length, slice_index_or, List, [], Option, Some, None, Result, MatchResult, Vec, count_by}
 use Rattle.std.specs.List.Sorted.{IsNonDecreasing}
 use Rattle.std.specs.Ordering.{nat_cmp}
 use Rattle.std.specs.HashMap.{get}
@@ -20,6 +20,10 @@ watch_list watched i = items_or_none (get (λ a b. a == b) watched.lists i)
 -- each list is in order
 abbrev pub AreSorted : WatchLists → Type 0
 AreSorted watched = (i : ℕ) → IsNonDecreasing (watch_list watched i)
+
+-- where a descriptor stands in a list in order, or the place between those below it and those above
+abbrev pub IsFound : List ℕ → ℕ → Result ℕ ℕ → Type 0
+IsFound fds fd found = MatchResult found (λ i. (i < length fds) × (slice_index_or fds i 0 ≡ fd)) (λ i. (i ≤ length fds) × ((k : ℕ) → k < i → slice_index_or fds k 0 < fd) × ((k : ℕ) → i ≤ k → k < length fds → fd < slice_index_or fds k 0))
 
 -- how often a descriptor stands in a list
 abbrev pub times_in : List ℕ → ℕ → ℕ

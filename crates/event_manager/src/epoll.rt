@@ -7,7 +7,7 @@ ghost use Rattle.event_manager.specs.PollerCall.{Control, Wait, Leads};
 ghost use Rattle.event_manager.specs.Registrations.{Owns, IsFree};
 ghost use Rattle.event_manager.specs.Registry.{AreOwnedBy, without_owner};
 ghost use Rattle.event_manager.specs.Exchange.{IsVacant};
-ghost use Rattle.event_manager.specs.Owners.{id_of};
+ghost use Rattle.event_manager.specs.Owners.{owner_id};
 ghost use Rattle.event_manager.specs.ReadyList.{event_of_entry};
 ghost use Rattle.event_manager.specs.RegistrationState.{registrations_of, cancel_on, HasWaited};
 ghost use Rattle.event_manager.specs.Releasing.{IsWithout, HasReleased};
@@ -230,7 +230,7 @@ impl Registrations {
 
     /// The owner of the descriptor of an entry.
     pub(crate) fn owner(&self, entry: &EpollEvent) -> Option<Owner>
-        ensures value { id_of result ≡ map.get self.now.owner (event_of_entry entry.now).fd }
+        ensures value { owner_id result ≡ map.get self.now.owner (event_of_entry entry.now).fd }
         ensures is_descriptor { IfSome result (λ _. (event_of_entry entry.now).fd < 2 ^ 31) }
     {
         self.owners.get(fd_of(entry))

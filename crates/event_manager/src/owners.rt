@@ -2,7 +2,7 @@
 
 ghost use Rattle.std.specs.Prelude.{◌≡◌, ◌<◌, ◌≤◌, length, None, Some, OnOk, OnErr};
 ghost use Rattle.std.specs.FinMap as map;
-ghost use Rattle.event_manager.specs.Owners.{id_of, id_at, HasOwnerAt};
+ghost use Rattle.event_manager.specs.Owners.{owner_id, id_at, HasOwnerAt};
 
 use std::alloc::{AllocError, Global};
 use std::collections::HashMap;
@@ -56,7 +56,7 @@ impl Owners {
 
     /// The owner of the descriptor.
     pub(crate) fn get(&self, fd: u32) -> Option<Owner>
-        ensures { id_of result ≡ map.get self.now fd }
+        ensures { owner_id result ≡ map.get self.now fd }
     {
         if fd < LOW_DESCRIPTORS {
             return owner_at(&self.low, fd as usize);
@@ -82,7 +82,7 @@ impl Owners {
 
     /// Takes out the owner of the descriptor, and answers it. Takes no memory.
     pub(crate) fn remove(&mut self, fd: u32) -> Option<Owner>
-        ensures value { id_of result ≡ map.get self.old fd }
+        ensures value { owner_id result ≡ map.get self.old fd }
         ensures removed { self.new ≡ map.remove self.old fd }
     {
         if fd < LOW_DESCRIPTORS {
@@ -112,7 +112,7 @@ fn put_at(
 
 /// The owner at a descriptor.
 fn owner_at(low: &[Option<Owner>], fd: usize) -> Option<Owner>
-    ensures { id_of result ≡ id_at low.now fd }
+    ensures { owner_id result ≡ id_at low.now fd }
 {
     match low.get(fd) {
         Some(owner) => *owner,
@@ -122,7 +122,7 @@ fn owner_at(low: &[Option<Owner>], fd: usize) -> Option<Owner>
 
 /// Takes out the owner at a descriptor, and answers it.
 fn take_at(low: &mut Vec<Option<Owner>>, fd: usize) -> Option<Owner>
-    ensures value { id_of result ≡ id_at low.old.items fd }
+    ensures value { owner_id result ≡ id_at low.old.items fd }
     ensures taken { HasOwnerAt low.old.items fd None low.new.items }
     ensures len { length low.new.items ≡ length low.old.items }
 {

@@ -5,7 +5,7 @@ ghost use Rattle.std.specs.Option.{option_copied_mut};
 ghost use Rattle.std.specs.Borrow.{Lends, LendsIf, sem};
 ghost use Rattle.std.specs.FinMap as map;
 ghost use Rattle.std.specs.HashMap.{get};
-ghost use Rattle.event_manager.specs.Places.{id_of, subscriber_of, id_at, with_subscriber, AreIndexed, AreLinked, HaveSameHolders};
+ghost use Rattle.event_manager.specs.Places.{held_id, subscriber_of, id_at, with_subscriber, AreIndexed, AreLinked, HaveSameHolders};
 
 use std::alloc::{AllocError, Global};
 use std::collections::HashMap;
@@ -24,7 +24,7 @@ impl<S> Place<S> {
 
     /// Whether the place holds the subscriber of the id.
     fn is_held_by(&self, id: u64) -> bool
-        ensures { IsTrue result ↔ (id_of self.now ≡ Some id) }
+        ensures { IsTrue result ↔ (held_id self.now ≡ Some id) }
     {
         match self {
             Place::Held(holder, _) => *holder == id,
@@ -34,7 +34,7 @@ impl<S> Place<S> {
 
     /// Lends the subscriber that the place holds.
     fn subscriber_mut(&mut self) -> &mut S
-        requires { IsSome (id_of self.old) }
+        requires { IsSome (held_id self.old) }
         ensures* lent { sem 𝓛 (Lends (the_row S.row) S.row self.entry result (with_subscriber self.old)) }
         ensures value { subscriber_of self.old ≡ Some result.now }
     {

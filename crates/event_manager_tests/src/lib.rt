@@ -12,8 +12,12 @@ mod endpoint;
 #[cfg(test)]
 mod events;
 #[cfg(test)]
+mod faults;
+#[cfg(test)]
 mod form_tests;
 pub mod forms;
+#[cfg(test)]
+mod hostile;
 #[cfg(test)]
 mod jobs;
 #[cfg(test)]

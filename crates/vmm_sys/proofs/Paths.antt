@@ -4,7 +4,7 @@ use Rattle.std.specs.Prelude.{IfSome, slice_get}
 use Rattle.std.proofs.lemmas.List.{append-nil}
 use Rattle.vmm_sys.specs.declared.table.queue.Links.{Links}
 use Rattle.vmm_sys.specs.Links.{Node, Path, NotIn, AreDifferent, AreBelow, HoldQueue, walk, after_of, before_of, numbers_of, room_of}
-use Rattle.vmm_sys.proofs.Numbers.{NotIn-left, NotIn-right, NotIn-both, NotIn-none, NotIn-cross, NotIn-front, AreDifferent-left, AreDifferent-right, AreBelow-left, AreBelow-right, AreBelow-without, AreBelow-more, below-node, length-distinct}
+use Rattle.vmm_sys.proofs.Numbers.{NotIn-both, NotIn-none, NotIn-front, AreDifferent-left, AreDifferent-right, AreBelow-left, AreBelow-right, AreBelow-without, AreBelow-more, below-node, length-distinct}
 
 -- the links give the list
 pub walk-Path : (f g : Node → Node) (x : Node) (ns : List ℕ) (k : ℕ) → Path f g x ns None → length ns ≤ k → walk f (f x) k ≡ ns

@@ -4,6 +4,7 @@ pub mod Poller
 pub mod Lists
 pub mod Codes
 pub mod ScriptPoller
+pub mod FaultPoller
 pub mod Links
 pub mod Queue
 pub mod Table

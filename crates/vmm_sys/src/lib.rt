@@ -2,15 +2,17 @@
 //! kernel.
 //!
 //! A [`poller::Poller`] keeps an interest list and reports events. [`script_poller::ScriptPoller`]
-//! answers what it was told to. [`table::Table`] keeps counters and lines of its own and an
-//! interest list in them; [`epoll::Epoll`] is such a table that threads share, with
-//! [`eventfd::EventFd`] and [`line::Line`] for its descriptors.
+//! answers what it was told to, and [`fault_poller::FaultPoller`] too, but for one call that it
+//! refuses. [`table::Table`] keeps counters and lines of its own and an interest list in them;
+//! [`epoll::Epoll`] is such a table that threads share, with [`eventfd::EventFd`] and
+//! [`line::Line`] for its descriptors.
 #![tactic(auto)]
 
 pub mod epoll;
 pub mod errno;
 pub mod event_set;
 pub mod eventfd;
+pub mod fault_poller;
 pub mod line;
 pub mod poller;
 pub mod script_poller;

@@ -113,7 +113,7 @@ impl ScriptPoller {
     }
 
     // Strikes out and answers the first refusal of the operation and descriptor.
-    fn strike_refusal(&mut self, op: ControlOperation, fd: RawFd) -> Result<(), Errno>
+    pub(crate) fn strike_refusal(&mut self, op: ControlOperation, fd: RawFd) -> Result<(), Errno>
         ensures answer { result ≡ ctl_answer self.old op fd }
         ensures after { self.new ≡ after_ctl self.old op fd }
     {
@@ -124,7 +124,7 @@ impl ScriptPoller {
     }
 
     // Takes the next report or fault; what doesn't fit of a report stays the next one.
-    fn take_answer(&mut self, buffer: &mut [EpollEvent]) -> Result<usize, Errno>
+    pub(crate) fn take_answer(&mut self, buffer: &mut [EpollEvent]) -> Result<usize, Errno>
         ensures answer { result ≡ count_of (next_answer self.old.answers (length buffer.old)) }
         ensures entries { let events = entries_of (next_answer self.old.answers (length buffer.old)) in
             buffer.new ≡ events ++ drop (length events) buffer.old }

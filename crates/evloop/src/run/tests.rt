@@ -199,6 +199,26 @@ fn an_empty_script_writes_nothing(rt: HostRuntime) -> Result<(), Fail> {
 }
 
 #[test]
+fn descriptors_removed_and_added_again_have_no_event_left(rt: HostRuntime) -> Result<(), Fail> {
+    writes(
+        &rt,
+        "sub a add 3 IN 0 add 4 IN 0\nsub b add 5 IN 0\non a 3 remove 3 remove 4 add 4 IN 1 add 3 IN 1\nbatch 4:IN:0 3:IN:0 4:IN:0 3:IN:0 -5:IN:0 7:OUT:2 9:ERROR:0 9:IN:0 5:IN:0\nrun\n",
+        "reply a add 3: ok\nreply a add 4: ok\nsub a: 1\nreply b add 5: ok\nsub b: 2\ndeliver a 4 IN 0\ndeliver a 3 IN 0\nreply a remove 3: ok\nreply a remove 4: ok\nreply a add 4: ok\nreply a add 3: ok\ndeliver b 5 IN 0\nrun: 9\n",
+    )
+}
+
+#[test]
+fn a_removed_descriptor_of_another_owner_is_served_by_the_next_run(
+    rt: HostRuntime,
+) -> Result<(), Fail> {
+    writes(
+        &rt,
+        "sub a add 3 IN 0 add 4 IN 0\nsub b add 5 IN 0\non a 3 remove 4\non b 5 add 4 OUT 9\nbatch 3:IN:0 5:IN:0 4:IN:0\nbatch 4:OUT:9\nrun\nrun\n",
+        "reply a add 3: ok\nreply a add 4: ok\nsub a: 1\nreply b add 5: ok\nsub b: 2\ndeliver a 3 IN 0\nreply a remove 4: ok\ndeliver b 5 IN 0\nreply b add 4: ok\nrun: 3\ndeliver b 4 OUT 9\nrun: 1\n",
+    )
+}
+
+#[test]
 fn refusals_are_used_once(rt: HostRuntime) -> Result<(), Fail> {
     writes(
         &rt,

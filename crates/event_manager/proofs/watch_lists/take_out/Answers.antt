@@ -5,7 +5,7 @@ use Rattle.event_manager.proofs.watch_lists.take_out.Goals as goal
 
 pub returns-in-Ok-clause-sorted : goal.returns-in-Ok-clause-sorted
 returns-in-Ok-clause-sorted c =
-    subst (λ l. IsNonDecreasing l) (sym c.remove.ensures.items) (sorted_removed c.args.list.now.items c.args.fd c.requires.sorted c.in-Ok.at (rw c.deref.ensures.value at c.in-Ok.ensures.bound))
+    subst (λ l. IsNonDecreasing l) (sym c.remove.ensures.items) (sorted_removed c.args.list.now.items c.args.fd c.requires.sorted c.in-Ok.at (rw c.deref.ensures.value at c.in-Ok.ensures).0)
 
 pub returns-in-Err-clause-removed : goal.returns-in-Err-clause-removed
-returns-in-Err-clause-removed c = absurd (omega (arith, c.requires.listed, not_listed c.args.list.now.items c.args.fd c.requires.sorted c.in-Err.field-0 (rw c.deref.ensures.value at c.in-Err.ensures.position)))
+returns-in-Err-clause-removed c = absurd (omega (arith, c.requires.listed, not_listed c.args.list.now.items c.args.fd c.requires.sorted c.in-Err.at (rw c.deref.ensures.value at c.in-Err.ensures)))

@@ -1,5 +1,5 @@
 use Rattle.std.proofs.Common.{sym, ◌∙◌, ap}
-use Rattle.event_manager.specs.Owners.{id_of, id_at}
+use Rattle.event_manager.specs.Owners.{owner_id, id_at}
 use Rattle.event_manager.proofs.OwnerMaps.{low_owner, high_owner}
 use Rattle.event_manager.proofs.owners.Owners.get.Goals as goal
 
@@ -11,4 +11,4 @@ returns-then-fd-lt-LOW_DESCRIPTORS c =
 pub returns : goal.returns
 returns c =
     let b = c.self.inside in
-    rw (← c.self.view_is) (ap id_of (c.copied.ensures ∙ c.get.ensures.value) ∙ sym (high_owner b.low.items b.high.entries c.args.fd c.self.invariant c.if-fd-lt-LOW_DESCRIPTORS.false))
+    rw (← c.self.view_is) (ap owner_id (c.copied.ensures ∙ c.get.ensures.value) ∙ sym (high_owner b.low.items b.high.entries c.args.fd c.self.invariant c.if-fd-lt-LOW_DESCRIPTORS.false))

@@ -1,5 +1,5 @@
 use Rattle.std.proofs.Common.{refl, sym, ap, ◌∙◌, None}
-use Rattle.event_manager.specs.Owners.{id_of}
+use Rattle.event_manager.specs.Owners.{owner_id}
 use Rattle.event_manager.proofs.OwnerMaps.{low_owner, high_owner, take_low, take_high, still_apart}
 use Rattle.event_manager.proofs.owners.Owners.remove.Goals as goal
 
@@ -21,7 +21,7 @@ invariant_of-self-2 c =
 pub returns-clause-value : goal.returns-clause-value
 returns-clause-value c =
     let b = c.self.inside in
-    rw (← c.self.view_is) (ap id_of c.remove.ensures.value ∙ sym (high_owner b.low.items b.high.entries c.args.fd c.self.invariant c.if-fd-lt-LOW_DESCRIPTORS.false))
+    rw (← c.self.view_is) (ap owner_id c.remove.ensures.value ∙ sym (high_owner b.low.items b.high.entries c.args.fd c.self.invariant c.if-fd-lt-LOW_DESCRIPTORS.false))
 
 pub returns-clause-removed : goal.returns-clause-removed
 returns-clause-removed c =

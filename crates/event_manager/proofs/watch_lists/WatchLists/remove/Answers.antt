@@ -7,17 +7,17 @@ use Rattle.event_manager.proofs.watch_lists.WatchLists.remove.Goals as goal
 pub returns-in-Some-clause-sorted : goal.returns-in-Some-clause-sorted
 returns-in-Some-clause-sorted c =
     let before = c.args.self.now in
-    let list = c.take_out.new.list in
-    let after : WatchLists = record { lists = c.get_mut.follows.lender list; alloc = before.alloc } in
+    let list = c.take_out-at.new.list in
+    let after : WatchLists = record { lists = c.get_mut.follows.lender list; changed = c.take_out-at.result; alloc = before.alloc } in
     let held = subst (λ o. IsSome o) c.in-Some.ensures.value refl in
     let has = has_list before after c.args.id (Some list) ((c.get_mut.follows.holds list).3 held).0 in
-    still_sorted before after c.args.id list.items has c.requires.sorted c.take_out.ensures.sorted
+    still_sorted before after c.args.id list.items has c.requires.sorted c.take_out-at.ensures.sorted
 
 pub returns-in-Some-clause-removed : goal.returns-in-Some-clause-removed
 returns-in-Some-clause-removed c =
     let before = c.args.self.now in
-    let list = c.take_out.new.list in
-    let after : WatchLists = record { lists = c.get_mut.follows.lender list; alloc = before.alloc } in
+    let list = c.take_out-at.new.list in
+    let after : WatchLists = record { lists = c.get_mut.follows.lender list; changed = c.take_out-at.result; alloc = before.alloc } in
     let held = subst (λ o. IsSome o) c.in-Some.ensures.value refl in
     let has = has_list before after c.args.id (Some list) ((c.get_mut.follows.holds list).3 held).0 in
-    one_less before after c.args.id list.items has c.args.fd (subst (λ l. IsOneMore list.items c.args.fd l) (ap items_or_none c.in-Some.ensures.value) c.take_out.ensures.removed)
+    one_less before after c.args.id list.items has c.args.fd (subst (λ l. IsOneMore list.items c.args.fd l) (ap items_or_none c.in-Some.ensures.value) c.take_out-at.ensures.removed)
