@@ -6,6 +6,8 @@ mod counters;
 #[cfg(test)]
 mod events;
 #[cfg(test)]
+mod expecting;
+#[cfg(test)]
 mod lines;
 #[cfg(test)]
 mod making;

@@ -1,5 +1,6 @@
 //! Lines that hang up, and subscribers that keep or remove them.
 
+use crate::expecting::{expect_run, expect_saw};
 use crate::making::{Host, OnTable, WithManager, on_table, with_manager};
 use crate::reacting::Reacting;
 use event_manager::{EventManager, EventPoller, Events, NoJob, Request, Result, SubscriberOps};
@@ -47,15 +48,14 @@ impl<R: Wait + Clock + Abort> WithManager for HangingUp<'_, R> {
         } = self;
         let first = manager.add_subscriber(keeping)?;
         for _ in 0..3 {
-            assert_eq!(rt; manager.run(rt), Ok(1));
+            expect_run(rt, manager, 1);
         }
-        assert!(rt; manager.subscriber_mut(first)?.saw(&[kept, kept, kept]));
+        expect_saw(rt, manager, first, &[kept, kept, kept])?;
         let second = manager.add_subscriber(removing)?;
-        assert_eq!(rt; manager.run(rt), Ok(2));
-        assert_eq!(rt; manager.run(rt), Ok(1));
-        assert!(rt; manager.subscriber_mut(first)?.saw(&[kept, kept]));
-        assert!(rt; manager.subscriber_mut(second)?.saw(&[removed]));
-        Ok(())
+        expect_run(rt, manager, 2);
+        expect_run(rt, manager, 1);
+        expect_saw(rt, manager, first, &[kept, kept])?;
+        expect_saw(rt, manager, second, &[removed])
     }
 }
 

@@ -3,8 +3,8 @@
 ghost use Rattle.std.specs.Prelude.{◌≡◌};
 
 use event_manager::{
-    EventManager, EventPoller, MutEventSubscriber, NoJob, PlainPoller, Result, WithLedgers,
-    with_ledgers,
+    EventManager, EventPoller, MutEventSubscriber, NoJob, PlainPoller, Result, SubscriberId,
+    SubscriberOps, WithLedgers, with_ledgers,
 };
 use std::alloc::Global;
 use std::process::Abort;
@@ -77,6 +77,19 @@ pub fn make<S: MutEventSubscriber + Drop, L: Ledger, T: Ledger, P: EventPoller +
         endpoint,
     } = parts;
     EventManager::new(alloc, poller, endpoint, tickets, taken)
+}
+
+/// Takes the subscribers in: their ids, in order.
+pub fn add_all<S: MutEventSubscriber + Drop, L: Ledger, T: Ledger, P: EventPoller>(
+    alloc: Global,
+    manager: &mut EventManager<S, NoJob, L, T, P>,
+    subscribers: Vec<S>,
+) -> Result<Vec<SubscriberId>> {
+    let mut ids = Vec::new(alloc);
+    for subscriber in subscribers {
+        ids.push(manager.add_subscriber(subscriber)?)?;
+    }
+    Ok(ids)
 }
 
 /// What a test does with a manager, whatever its ledgers and its poller.

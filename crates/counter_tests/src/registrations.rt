@@ -1,11 +1,12 @@
 //! Descriptors that are added, changed and removed, and subscribers that leave.
 
+use crate::expecting::{expect_run, expect_run_within, expect_same, expect_saw};
 use crate::making::{OnTable, Parts, WithManager, counter_of, on_table, with_manager};
 use crate::reacting::Reacting;
 use event_manager::utilities::subscribers::CounterSubscriber;
 use event_manager::{
-    Error, EventManager, EventPoller, Events, NoJob, Request, Result, SubscriberOps, WithLedgers,
-    with_ledgers,
+    Error, EventManager, EventPoller, Events, NoJob, Request, Result, SubscriberId, SubscriberOps,
+    WithLedgers, with_ledgers,
 };
 use std::process::Abort;
 use std::sync::Wait;
@@ -42,12 +43,11 @@ impl<R: Wait + Clock + Abort> WithManager for Runs<'_, R> {
         } = self;
         let id = manager.add_subscriber(subscriber)?;
         for (limit, delivered) in runs {
-            let answer = match limit {
-                Some(ms) => manager.run_with_timeout(*ms, rt),
-                None => manager.run(rt),
-            };
-            assert_eq!(rt; answer, Ok(delivered.len()));
-            assert!(rt; manager.subscriber_mut(id)?.saw(delivered));
+            match limit {
+                Some(ms) => expect_run_within(rt, manager, *ms, delivered.len()),
+                None => expect_run(rt, manager, delivered.len()),
+            }
+            expect_saw(rt, manager, id, delivered)?;
         }
         Ok(())
     }
@@ -65,6 +65,18 @@ fn test_register(rt: HostRuntime) -> std::result::Result<(), Fail> {
         runs: &[(None, &[first]), (None, &[first, second])],
     };
     with_manager(parts, body)?;
+    Ok(())
+}
+
+/// Expects this fault of a subscriber.
+fn expect_fault<L: Ledger, T: Ledger, P: EventPoller, R: Abort>(
+    rt: &R,
+    manager: &mut EventManager<CounterSubscriber, NoJob, L, T, P>,
+    id: SubscriberId,
+    fault: Option<Error>,
+) -> Result<()> {
+    let subscriber = manager.subscriber_mut(id)?;
+    expect_same(rt, &subscriber.fault(), &fault);
     Ok(())
 }
 
@@ -89,10 +101,8 @@ impl<R: Abort> WithManager for JoiningTwice<'_, R> {
         let one = manager.add_subscriber(first)?;
         let two = manager.add_subscriber(second)?;
         assert!(rt; one != two);
-        assert_eq!(rt; manager.subscriber_mut(one)?.fault(), None);
-        let taken = Some(Error::FdAlreadyRegistered);
-        assert_eq!(rt; manager.subscriber_mut(two)?.fault(), taken);
-        Ok(())
+        expect_fault(rt, manager, one, None)?;
+        expect_fault(rt, manager, two, Some(Error::FdAlreadyRegistered))
     }
 }
 
@@ -127,7 +137,7 @@ fn test_unregister(rt: HostRuntime) -> std::result::Result<(), Fail> {
 #[derive(Drop)]
 struct Modifying<'a, R> {
     rt: &'a R,
-    event_fd: EventFd,
+    event_fd: &'a EventFd,
     subscriber: Reacting,
     before: Events,
     after: Events,
@@ -150,12 +160,11 @@ impl<R: Wait + Clock + Abort> WithManager for Modifying<'_, R> {
             after,
         } = self;
         let id = manager.add_subscriber(subscriber)?;
-        assert_eq!(rt; manager.run(rt), Ok(1));
-        assert!(rt; manager.subscriber_mut(id)?.saw(&[before]));
-        assert_eq!(rt; event_fd.write(1, rt), Ok(()));
-        assert_eq!(rt; manager.run(rt), Ok(1));
-        assert!(rt; manager.subscriber_mut(id)?.saw(&[after]));
-        Ok(())
+        expect_run(rt, manager, 1);
+        expect_saw(rt, manager, id, &[before])?;
+        expect_same(rt, &event_fd.write(1, rt), &Ok(()));
+        expect_run(rt, manager, 1);
+        expect_saw(rt, manager, id, &[after])
     }
 }
 
@@ -167,7 +176,7 @@ fn test_modify(rt: HostRuntime) -> std::result::Result<(), Fail> {
     let after = Events::new(&event_fd, EventSet::IN);
     let body = Modifying {
         rt: &rt,
-        event_fd,
+        event_fd: &event_fd,
         subscriber: Reacting::new(rt.alloc(), before, Some(Request::Modify(after))),
         before,
         after,
@@ -199,12 +208,12 @@ impl<R: Wait + Clock + Abort> WithManager for Removing<'_, R> {
             own,
         } = self;
         let id = manager.add_subscriber(subscriber)?;
-        assert_eq!(rt; manager.run(rt), Ok(1));
+        expect_run(rt, manager, 1);
         let mut left = manager.remove_subscriber(id)?;
         assert!(rt; left.saw(&[own]));
-        assert_eq!(rt; manager.run_with_timeout(100, rt), Ok(0));
+        expect_run_within(rt, manager, 100, 0);
         let again = manager.remove_subscriber(id).err();
-        assert_eq!(rt; again, Some(Error::InvalidId));
+        expect_same(rt, &again, &Some(Error::InvalidId));
         Ok(())
     }
 }
@@ -254,7 +263,7 @@ fn test_max_ready_list_size(rt: HostRuntime) -> std::result::Result<(), Fail> {
     for capacity in [178956971, usize::MAX] {
         let parts = on_table(rt, rt.alloc())?;
         let refusal = with_ledgers(OfCapacity { parts, capacity });
-        assert_eq!(rt; refusal, Some(Error::InvalidCapacity));
+        expect_same(&rt, &refusal, &Some(Error::InvalidCapacity));
     }
     Ok(())
 }

@@ -1,5 +1,6 @@
 //! Subscribers that are served events of a script.
 
+use crate::expecting::expect_run;
 use crate::making::{Host, Parts, WithManager, with_manager};
 use event_manager::{
     EventManager, EventPoller, Events, MutEventSubscriber, NoJob, PlainPoller, Result,
@@ -11,7 +12,7 @@ use std::sync::Wait;
 use std::sync::ledger::Ledger;
 use std::test::Fail;
 use std::time::Clock;
-use vmm_sys::epoll::{ControlOperation, Epoll, EventSet, RawFd};
+use vmm_sys::epoll::{ControlOperation, Epoll, EpollEvent, EventSet, RawFd};
 use vmm_sys::errno::Errno;
 use vmm_sys::eventfd::EventFd;
 use vmm_sys::script_poller::ScriptPoller;
@@ -48,17 +49,21 @@ pub fn input(fd: u8, data: u32) -> Events {
     Events::with_data_raw(i32::from(fd), data, EventSet::IN)
 }
 
+fn entries_of(alloc: Global, report: &[Events]) -> std::result::Result<Vec<EpollEvent>, Fail> {
+    let mut entries = Vec::new(alloc);
+    for events in report {
+        entries.push(events.epoll_event())?;
+    }
+    Ok(entries)
+}
+
 fn poller_of(alloc: Global, script: Script<'_>) -> std::result::Result<ScriptPoller, Fail> {
     let mut poller = ScriptPoller::new(alloc);
     for &(fd, errno) in script.refused_deletes {
         poller.push_refusal(ControlOperation::Delete, fd, errno)?;
     }
     for report in script.reports {
-        let mut entries = Vec::new(alloc);
-        for events in *report {
-            entries.push(events.epoll_event())?;
-        }
-        poller.push_report(entries)?;
+        poller.push_report(entries_of(alloc, report)?)?;
     }
     Ok(poller)
 }
@@ -87,10 +92,19 @@ impl<R: Wait + Clock + Abort, S: MutEventSubscriber + Drop> WithManager for Serv
         } = self;
         let id = manager.add_subscriber(subscriber)?;
         for report in reports {
-            assert_eq!(rt; manager.run(rt), Ok(report.len()));
+            expect_run(rt, manager, report.len());
         }
         manager.remove_subscriber(id)
     }
+}
+
+/// A counter with the descriptor 3.
+fn fourth_counter<R: Host>(rt: R, alloc: Global) -> std::result::Result<EventFd, Errno> {
+    let epoll = Epoll::new(rt, alloc)?;
+    for _ in 0..3 {
+        EventFd::new(&epoll, 0, &rt)?;
+    }
+    EventFd::new(&epoll, 0, &rt)
 }
 
 /// The subscriber, after a manager has served it the reports of the script. The endpoint is descriptor 3.
@@ -100,14 +114,10 @@ pub fn served<S: MutEventSubscriber + Drop, R: Host>(
     subscriber: S,
     script: Script<'_>,
 ) -> std::result::Result<S, Fail> {
-    let epoll = Epoll::new(rt, alloc)?;
-    for _ in 0..3 {
-        EventFd::new(&epoll, 0, &rt)?;
-    }
     let parts = Parts {
         alloc,
         poller: PlainPoller(poller_of(alloc, script)?),
-        endpoint: EventFd::new(&epoll, 0, &rt)?,
+        endpoint: fourth_counter(rt, alloc)?,
     };
     let body = Serving {
         rt: &rt,

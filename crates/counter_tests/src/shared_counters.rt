@@ -1,12 +1,51 @@
 //! Subscribers that are shared while they count.
 
+use crate::expecting::expect_same;
+use crate::making::Host;
 use crate::scripted::{Script, event_of, one_counter, served};
 use event_manager::Error;
 use event_manager::utilities::subscribers::CounterInnerMutSubscriber;
+use std::alloc::Global;
+use std::process::Abort;
 use std::sync::Arc;
 use std::test::Fail;
 use vmm_sys::epoll::EventSet;
 use vmm_sys::errno::Errno;
+
+/// A shared subscriber with one counter, of descriptor 0, after the script.
+fn served_shared<R: Host>(
+    rt: R,
+    alloc: Global,
+    script: Script<'_>,
+) -> Result<Arc<CounterInnerMutSubscriber>, Fail> {
+    let subscriber = CounterInnerMutSubscriber::new(one_counter(rt, alloc)?);
+    served(rt, alloc, Arc::new(alloc, subscriber)?, script)
+}
+
+/// Expects how many events, errors and events of other sets the subscriber counted.
+fn expect_counts<R: Abort>(
+    rt: &R,
+    subscriber: &CounterInnerMutSubscriber,
+    counts: (u64, u64, u64),
+) {
+    let counter = subscriber.counter();
+    let (errors, spurious) = (subscriber.errors(), subscriber.spurious());
+    expect_same(rt, &(counter, errors, spurious), &counts);
+}
+
+/// Expects whether the descriptor hung up, and which fault the subscriber has.
+fn expect_state<R: Abort>(
+    rt: &R,
+    subscriber: &CounterInnerMutSubscriber,
+    hung_up: bool,
+    fault: Option<Error>,
+) {
+    expect_same(
+        rt,
+        &(subscriber.hung_up(), subscriber.fault()),
+        &(hung_up, fault),
+    );
+}
 
 #[test]
 fn a_shared_counter_tells_events_by_their_sets(rt: HostRuntime) -> Result<(), Fail> {
@@ -29,12 +68,9 @@ fn a_shared_counter_tells_events_by_their_sets(rt: HostRuntime) -> Result<(), Fa
         ],
         refused_deletes: &[],
     };
-    let subscriber = CounterInnerMutSubscriber::new(one_counter(rt, rt.alloc())?);
-    let subscriber = served(rt, rt.alloc(), Arc::new(rt.alloc(), subscriber)?, script)?;
-    assert_eq!(rt; subscriber.counter(), 2);
-    assert_eq!(rt; subscriber.errors(), 3);
-    assert_eq!(rt; subscriber.spurious(), 4);
-    assert_eq!(rt; (subscriber.hung_up(), subscriber.fault()), (false, None));
+    let subscriber = served_shared(rt, rt.alloc(), script)?;
+    expect_counts(&rt, &subscriber, (2, 3, 4));
+    expect_state(&rt, &subscriber, false, None);
     Ok(())
 }
 
@@ -44,11 +80,10 @@ fn a_shared_counter_whose_removal_is_refused_stays(rt: HostRuntime) -> Result<()
         reports: &[&[event_of(EventSet::HANG_UP)], &[event_of(EventSet::IN)]],
         refused_deletes: &[(0, Errno(22))],
     };
-    let subscriber = CounterInnerMutSubscriber::new(one_counter(rt, rt.alloc())?);
-    let subscriber = served(rt, rt.alloc(), Arc::new(rt.alloc(), subscriber)?, script)?;
-    assert!(rt; subscriber.hung_up());
-    assert_eq!(rt; subscriber.fault(), Some(Error::Epoll(Errno(22))));
-    assert_eq!(rt; subscriber.counter(), 1);
+    let subscriber = served_shared(rt, rt.alloc(), script)?;
+    let fault = Some(Error::Epoll(Errno(22)));
+    expect_state(&rt, &subscriber, true, fault);
+    expect_same(&rt, &subscriber.counter(), &1);
     Ok(())
 }
 
@@ -59,8 +94,7 @@ fn a_shared_counter_keeps_its_first_fault(rt: HostRuntime) -> Result<(), Fail> {
         reports: &[&[hang_up], &[hang_up]],
         refused_deletes: &[(0, Errno(22)), (0, Errno(5))],
     };
-    let subscriber = CounterInnerMutSubscriber::new(one_counter(rt, rt.alloc())?);
-    let subscriber = served(rt, rt.alloc(), Arc::new(rt.alloc(), subscriber)?, script)?;
-    assert_eq!(rt; subscriber.fault(), Some(Error::Epoll(Errno(22))));
+    let subscriber = served_shared(rt, rt.alloc(), script)?;
+    expect_same(&rt, &subscriber.fault(), &Some(Error::Epoll(Errno(22))));
     Ok(())
 }

@@ -1,9 +1,10 @@
 //! Counting subscribers over the in-process table, on one thread.
 
+use crate::expecting::{expect_run_within, expect_same};
 use crate::making::{
-    WithManager, counter_of, no_memory, on_table, three_counters_of, with_manager,
+    WithManager, add_all, counter_of, no_memory, on_table, three_counters_of, with_manager,
 };
-use crate::three_counters::has_values;
+use crate::three_counters::expect_values;
 use event_manager::utilities::subscribers::{
     CounterInnerMutSubscriber, CounterSubscriber, CounterSubscriberWithData,
 };
@@ -26,6 +27,30 @@ struct Hundred<'a, R> {
     subscribers: Vec<CounterSubscriber>,
 }
 
+/// Triggers those that are triggered.
+fn trigger<L: Ledger, T: Ledger, P: EventPoller, R: Wait>(
+    rt: &R,
+    manager: &mut EventManager<CounterSubscriber, NoJob, L, T, P>,
+    ids: &[SubscriberId],
+) -> Result<()> {
+    for id in TRIGGERED.iter().filter_map(|index| ids.get(*index)) {
+        manager.subscriber_mut(*id)?.trigger_event(rt);
+    }
+    Ok(())
+}
+
+/// Clears those that are triggered.
+fn clear<L: Ledger, T: Ledger, P: EventPoller, R: Wait>(
+    rt: &R,
+    manager: &mut EventManager<CounterSubscriber, NoJob, L, T, P>,
+    ids: &[SubscriberId],
+) -> Result<()> {
+    for id in TRIGGERED.iter().filter_map(|index| ids.get(*index)) {
+        manager.subscriber_mut(*id)?.clear_event(rt);
+    }
+    Ok(())
+}
+
 /// Those that were triggered have counted one event, and the others none.
 fn expect_counts<L: Ledger, T: Ledger, P: EventPoller, R: Abort>(
     rt: &R,
@@ -34,7 +59,7 @@ fn expect_counts<L: Ledger, T: Ledger, P: EventPoller, R: Abort>(
 ) -> Result<()> {
     for (index, id) in ids.iter().enumerate() {
         let counted = u64::from(TRIGGERED.contains(&index));
-        assert_eq!(rt; manager.subscriber_mut(*id)?.counter(), counted);
+        expect_same(rt, &manager.subscriber_mut(*id)?.counter(), &counted);
     }
     Ok(())
 }
@@ -53,20 +78,12 @@ impl<R: Wait + Clock + Abort> WithManager for Hundred<'_, R> {
             alloc,
             subscribers,
         } = self;
-        let mut ids = Vec::new(alloc);
-        for subscriber in subscribers {
-            ids.push(manager.add_subscriber(subscriber)?)
-                .map_err(no_memory)?;
-        }
-        for id in TRIGGERED.iter().filter_map(|index| ids.get(*index)) {
-            manager.subscriber_mut(*id)?.trigger_event(rt);
-        }
-        assert_eq!(rt; manager.run_with_timeout(100, rt), Ok(4));
+        let ids = add_all(alloc, manager, subscribers)?;
+        trigger(rt, manager, &ids)?;
+        expect_run_within(rt, manager, 100, 4);
         expect_counts(rt, manager, &ids)?;
-        for id in TRIGGERED.iter().filter_map(|index| ids.get(*index)) {
-            manager.subscriber_mut(*id)?.clear_event(rt);
-        }
-        assert_eq!(rt; manager.run_with_timeout(100, rt), Ok(0));
+        clear(rt, manager, &ids)?;
+        expect_run_within(rt, manager, 100, 0);
         expect_counts(rt, manager, &ids)
     }
 }
@@ -106,9 +123,9 @@ impl<R: Wait + Clock + Abort> WithManager for AllReady<'_, R> {
     ) -> Result<CounterSubscriberWithData> {
         let AllReady { rt, subscriber } = self;
         let id = manager.add_subscriber(subscriber)?;
-        assert_eq!(rt; manager.run_with_timeout(0, rt), Ok(0));
+        expect_run_within(rt, manager, 0, 0);
         manager.subscriber_mut(id)?.trigger_all_counters(rt);
-        assert_eq!(rt; manager.run_with_timeout(100, rt), Ok(3));
+        expect_run_within(rt, manager, 100, 3);
         manager.remove_subscriber(id)
     }
 }
@@ -123,7 +140,7 @@ fn test_reuse_file_descriptor(rt: HostRuntime) -> std::result::Result<(), Fail> 
         rt: &rt,
         subscriber,
     };
-    assert!(rt; has_values(&with_manager(parts, body)?, [1, 0, 0]));
+    expect_values(&rt, &with_manager(parts, body)?, [1, 0, 0]);
     Ok(())
 }
 
@@ -135,7 +152,7 @@ fn a_trigger_of_all_makes_three_counters_ready(rt: HostRuntime) -> std::result::
         rt: &rt,
         subscriber: CounterSubscriberWithData::new(rt.alloc(), event_fds, 7),
     };
-    assert!(rt; has_values(&with_manager(parts, body)?, [1, 1, 1]));
+    expect_values(&rt, &with_manager(parts, body)?, [1, 1, 1]);
     Ok(())
 }
 
@@ -157,12 +174,12 @@ impl<R: Wait + Clock + Abort> WithManager for Triggered<'_, R> {
     ) -> Result<()> {
         let Triggered { rt, subscriber } = self;
         let id = manager.add_subscriber(subscriber)?;
-        assert_eq!(rt; manager.run_with_timeout(0, rt), Ok(0));
+        expect_run_within(rt, manager, 0, 0);
         manager.subscriber_mut(id)?.trigger_event(rt);
-        assert_eq!(rt; manager.run_with_timeout(100, rt), Ok(1));
-        assert_eq!(rt; manager.run_with_timeout(100, rt), Ok(1));
+        expect_run_within(rt, manager, 100, 1);
+        expect_run_within(rt, manager, 100, 1);
         manager.subscriber_mut(id)?.clear_event(rt);
-        assert_eq!(rt; manager.run_with_timeout(0, rt), Ok(0));
+        expect_run_within(rt, manager, 0, 0);
         Ok(())
     }
 }
@@ -196,13 +213,13 @@ impl<R: Wait + Clock + Abort> WithManager for SharedTriggered<'_, R> {
     ) -> Result<()> {
         let SharedTriggered { rt, subscriber } = self;
         manager.add_subscriber(subscriber.clone().map_err(no_memory)?)?;
-        assert_eq!(rt; manager.run_with_timeout(0, rt), Ok(0));
+        expect_run_within(rt, manager, 0, 0);
         subscriber.trigger_event(rt);
-        assert_eq!(rt; manager.run_with_timeout(100, rt), Ok(1));
-        assert_eq!(rt; manager.run_with_timeout(100, rt), Ok(1));
+        expect_run_within(rt, manager, 100, 1);
+        expect_run_within(rt, manager, 100, 1);
         subscriber.clear_event(rt);
-        assert_eq!(rt; manager.run_with_timeout(0, rt), Ok(0));
-        assert_eq!(rt; subscriber.counter(), 2);
+        expect_run_within(rt, manager, 0, 0);
+        expect_same(rt, &subscriber.counter(), &2);
         Ok(())
     }
 }

@@ -2,12 +2,17 @@
 
 ghost use Rattle.std.specs.Prelude.{◌≡◌};
 
-use crate::making::{Host, OnTable, counter_of, make, no_memory, on_table, three_counters_of};
-use crate::three_counters::has_values;
+use crate::expecting::{expect_run_within, expect_same};
+use crate::making::{
+    Host, OnTable, add_all, counter_of, make, no_memory, on_table, three_counters_of,
+};
+use crate::three_counters::expect_values;
 use event_manager::utilities::subscribers::{
     CounterInnerMutSubscriber, CounterSubscriber, CounterSubscriberWithData,
 };
-use event_manager::{Either, EventManager, MutEventSubscriber, NoJob, PlainPoller, SubscriberOps};
+use event_manager::{
+    Either, EventManager, MutEventSubscriber, NoJob, PlainPoller, SubscriberId, SubscriberOps,
+};
 use std::alloc::Global;
 use std::marker::Brand;
 use std::sync::Arc;
@@ -27,9 +32,23 @@ fn run_hundred<S: MutEventSubscriber, L: Ledger, T: Ledger, R: Host>(
 ) -> Loop<S, L, T, R> {
     let mut manager = manager;
     for _ in 0..100 {
-        assert_eq!(rt; manager.run_with_timeout(1000, &rt), Ok(count));
+        expect_run_within(&rt, &mut manager, 1000, count);
     }
     manager
+}
+
+/// Lets them leave: the subscribers.
+fn remove_all<S: MutEventSubscriber + Drop, L: Ledger, T: Ledger, R: Host>(
+    alloc: Global,
+    manager: &mut Loop<S, L, T, R>,
+    ids: Vec<SubscriberId>,
+) -> event_manager::Result<Vec<S>> {
+    let mut left = Vec::new(alloc);
+    for id in ids {
+        left.push(manager.remove_subscriber(id)?)
+            .map_err(no_memory)?;
+    }
+    Ok(left)
 }
 
 /// As [`run_on_second_thread`], for any two ledgers.
@@ -53,19 +72,10 @@ where
 {
     let alloc = parts.alloc;
     let mut manager = make::<S, L, T, _>(parts, tickets, taken)?;
-    let mut ids = Vec::new(alloc);
-    for subscriber in subscribers {
-        ids.push(manager.add_subscriber(subscriber)?)
-            .map_err(no_memory)?;
-    }
+    let ids = add_all(alloc, &mut manager, subscribers)?;
     let runner = thread::spawn(&rt, move || run_hundred(rt, manager, count)).map_err(no_memory)?;
     let mut manager = runner.join(&rt);
-    let mut left = Vec::new(alloc);
-    for id in ids {
-        left.push(manager.remove_subscriber(id)?)
-            .map_err(no_memory)?;
-    }
-    Ok(left)
+    Ok(remove_all(alloc, &mut manager, ids)?)
 }
 
 /// The subscribers, in order, after a manager of them was moved to a second thread and has made a hundred runs there,
@@ -100,9 +110,9 @@ fn test_one_type_subscriber(rt: HostRuntime) -> Result<(), Fail> {
     let second = triggered(&rt, rt.alloc(), &parts, 1999)?;
     let both = vec![in rt.alloc(); first, second]?;
     let left = run_on_second_thread(rt, parts, both, 6)?;
-    assert_eq!(rt; left.len(), 2);
+    expect_same(&rt, &left.len(), &2);
     for subscriber in &left {
-        assert!(rt; has_values(subscriber, [100, 100, 100]));
+        expect_values(&rt, subscriber, [100, 100, 100]);
     }
     Ok(())
 }
@@ -115,11 +125,11 @@ fn test_diff_type_subscribers(rt: HostRuntime) -> Result<(), Fail> {
     one.trigger_event(&rt);
     let both = vec![in rt.alloc(); Either::First(three), Either::Second(one)]?;
     let left = run_on_second_thread(rt, parts, both, 4)?;
-    assert_eq!(rt; left.len(), 2);
+    expect_same(&rt, &left.len(), &2);
     for subscriber in &left {
         match subscriber {
-            Either::First(three) => assert!(rt; has_values(three, [100, 100, 100])),
-            Either::Second(one) => assert_eq!(rt; one.counter(), 100),
+            Either::First(three) => expect_values(&rt, three, [100, 100, 100]),
+            Either::Second(one) => expect_same(&rt, &one.counter(), &100),
         }
     }
     Ok(())
@@ -133,7 +143,7 @@ fn test_subscriber_inner_mut(rt: HostRuntime) -> Result<(), Fail> {
     shared.trigger_event(&rt);
     let one = vec![in rt.alloc(); shared.clone()?]?;
     let left = run_on_second_thread(rt, parts, one, 1)?;
-    assert_eq!(rt; left.len(), 1);
-    assert_eq!(rt; shared.counter(), 100);
+    expect_same(&rt, &left.len(), &1);
+    expect_same(&rt, &shared.counter(), &100);
     Ok(())
 }

@@ -83,6 +83,24 @@ fn expect_seen<R: Abort>(rt: &R, seen: Seen, count: Result<usize, Error>) {
     expect_same(rt, &count, &Ok(1));
 }
 
+/// Sends two jobs, a third while the first runs, and runs for the third.
+fn meet_at_gate<L: Ledger + Send + Sync, T: Ledger + Send + Sync, R: Host>(
+    rt: &R,
+    manager: &mut Loop<L, T, R>,
+    endpoint: &Sender<L, T>,
+    gate: &Arc<Gate>,
+    notes: &Notes,
+) -> Result<(), Fail> {
+    fire_at_gate(rt, endpoint, gate, notes)?;
+    let last = Work::Note(notes.clone()?, 3);
+    let (seen, count) = send_beside_run(rt, manager, endpoint, gate, last);
+    expect_seen(rt, seen, count);
+    expect_noted(rt, notes, &[1, 2]);
+    expect_run_within(rt, manager, 0, Ok(1));
+    expect_noted(rt, notes, &[1, 2, 3]);
+    Ok(())
+}
+
 /// A thread that sends while the first of two jobs runs.
 fn gated<L: Ledger + Send + Sync, T: Ledger + Send + Sync, R: Host>(
     rt: &R,
@@ -97,16 +115,9 @@ fn gated<L: Ledger + Send + Sync, T: Ledger + Send + Sync, R: Host>(
     requires taken_name { taken.name ≡ T.name }
     requires taken_parts { (taken.parts ≡ T.parts) × (taken.parts ≡ 1) }
 {
-    let last = Work::Note(notes.clone()?, 3);
     let mut manager = make::<Idle, Work, L, T, _>(parts, tickets, taken)?;
     let endpoint = manager.remote_endpoint()?;
-    fire_at_gate(rt, &endpoint, gate, notes)?;
-    let (seen, count) = send_beside_run(rt, &mut manager, &endpoint, gate, last);
-    expect_seen(rt, seen, count);
-    expect_noted(rt, notes, &[1, 2]);
-    expect_run_within(rt, &mut manager, 0, Ok(1));
-    expect_noted(rt, notes, &[1, 2, 3]);
-    Ok(())
+    meet_at_gate(rt, &mut manager, &endpoint, gate, notes)
 }
 
 #[test]

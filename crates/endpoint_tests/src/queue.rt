@@ -28,7 +28,21 @@ fn fire_counting<L: Ledger, T: Ledger, R: Wait + Clock + Abort>(
     Ok(())
 }
 
-/// Sends five hundred jobs, and runs once.
+/// Sends five hundred jobs, and runs twice.
+fn run_hundreds<L: Ledger, T: Ledger, P: EventPoller, R: Wait + Clock + Abort>(
+    rt: &R,
+    manager: &mut EventManager<Idle, Work, L, T, P>,
+    endpoint: &Sender<L, T>,
+    notes: &Notes,
+) -> Result<(), Fail> {
+    fire_counting(rt, endpoint, notes, 500)?;
+    expect_run(rt, manager, Ok(1));
+    expect_counted(rt, notes, 500);
+    expect_run_within(rt, manager, 0, Ok(0));
+    Ok(())
+}
+
+/// Sends five hundred jobs, runs, and closes.
 #[derive(Drop)]
 struct Hundreds<'a, R> {
     rt: &'a R,
@@ -47,10 +61,7 @@ impl<R: Wait + Clock + Abort + Copy + Send + Drop> WithLedgers for Hundreds<'_, 
         let Hundreds { rt, parts, notes } = self;
         let mut manager = make::<Idle, Work, L, T, _>(parts, tickets, taken)?;
         let endpoint = manager.remote_endpoint()?;
-        fire_counting(rt, &endpoint, notes, 500)?;
-        expect_run(rt, &mut manager, Ok(1));
-        expect_counted(rt, notes, 500);
-        expect_run_within(rt, &mut manager, 0, Ok(0));
+        run_hundreds(rt, &mut manager, &endpoint, notes)?;
         expect_same(rt, &manager.close(rt).taken(), &500);
         Ok(())
     }
@@ -65,6 +76,16 @@ fn hundreds_of_jobs_are_run(rt: HostRuntime) -> Result<(), Fail> {
         parts,
         notes: &notes,
     })
+}
+
+/// Sends two jobs by an endpoint that is then dropped.
+fn fire_and_drop<L: Ledger, T: Ledger, P: EventPoller, R: Wait + Clock + Abort>(
+    rt: &R,
+    manager: &EventManager<Idle, Work, L, T, P>,
+    notes: &Notes,
+) -> Result<(), Fail> {
+    let endpoint = manager.remote_endpoint()?;
+    fire_counting(rt, &endpoint, notes, 2)
 }
 
 /// Drops an endpoint while its jobs wait.
@@ -85,9 +106,7 @@ impl<R: Wait + Clock + Abort + Copy + Send + Drop> WithLedgers for Dropped<'_, R
     ) -> Result<(), Fail> {
         let Dropped { rt, parts, notes } = self;
         let mut manager = make::<Idle, Work, L, T, _>(parts, tickets, taken)?;
-        let endpoint = manager.remote_endpoint()?;
-        fire_counting(rt, &endpoint, notes, 2)?;
-        drop(endpoint);
+        fire_and_drop(rt, &manager, notes)?;
         expect_run(rt, &mut manager, Ok(1));
         expect_noted(rt, notes, &[1, 2]);
         Ok(())

@@ -58,6 +58,19 @@ fn expect_after<L: Ledger, T: Ledger, R: Wait + Clock + Abort>(
     expect_pending(rt, endpoint, pending);
 }
 
+/// Expects that each call is refused while the counter is full, and that a job is taken after the next run.
+fn expect_full<L: Ledger, T: Ledger, P: EventPoller, R: Wait + Clock + Abort>(
+    rt: &R,
+    manager: &mut EventManager<Idle, Work, L, T, P>,
+    endpoint: &Sender<L, T>,
+) {
+    let refusal = Error::EventFd(Errno::EAGAIN);
+    expect_refusals(rt, endpoint, refusal, 0);
+    expect_same(rt, &endpoint.kick(rt), &Err(refusal));
+    expect_run(rt, manager, Ok(1));
+    expect_same(rt, &fire_one(rt, endpoint), &Ok(1));
+}
+
 /// A manager whose endpoint's counter is full.
 #[derive(Drop)]
 struct Full<'a, R> {
@@ -76,11 +89,7 @@ impl<R: Wait + Clock + Abort + Copy + Send + Drop> WithLedgers for Full<'_, R> {
         let Full { rt, parts } = self;
         let mut manager = make::<Idle, Work, L, T, _>(parts, tickets, taken)?;
         let endpoint = manager.remote_endpoint()?.try_clone()?;
-        let refusal = Error::EventFd(Errno::EAGAIN);
-        expect_refusals(rt, &endpoint, refusal, 0);
-        expect_same(rt, &endpoint.kick(rt), &Err(refusal));
-        expect_run(rt, &mut manager, Ok(1));
-        expect_same(rt, &fire_one(rt, &endpoint), &Ok(1));
+        expect_full(rt, &mut manager, &endpoint);
         let closed = manager.close(rt);
         expect_refusals(rt, &endpoint, Error::ChannelSend, 0);
         expect_same(rt, &(closed.issued(), closed.taken()), &(1, 0));
@@ -126,6 +135,16 @@ fn a_full_counter_refuses_the_send_after_another(rt: HostRuntime) -> std::result
     with_endpoint(parts, NearlyFull { rt: &rt })
 }
 
+/// Expects that each send is refused by an endpoint of a closed manager.
+fn expect_closed<L: Ledger, T: Ledger, R: Wait + Clock + Abort>(
+    rt: &R,
+    endpoint: &Sender<L, T>,
+    shown: &Ticket<L>,
+) {
+    expect_refusals(rt, endpoint, Error::ChannelSend, 0);
+    expect_after(rt, endpoint, shown, Err(Error::ChannelSend), 0);
+}
+
 /// Two endpoints of a manager that is closed.
 #[derive(Drop)]
 struct TwoEndpoints<'a, R> {
@@ -148,8 +167,7 @@ impl<R: Wait + Clock + Abort + Copy + Send + Drop> WithLedgers for TwoEndpoints<
         let endpoints = [manager.remote_endpoint()?, endpoint];
         let _closed = manager.close(rt);
         for endpoint in &endpoints {
-            expect_refusals(rt, endpoint, Error::ChannelSend, 0);
-            expect_after(rt, endpoint, &shown, Err(Error::ChannelSend), 0);
+            expect_closed(rt, endpoint, &shown);
         }
         Ok(())
     }

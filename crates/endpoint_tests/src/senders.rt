@@ -113,6 +113,22 @@ fn send_fifty_each<L: Ledger + Send + Sync, T: Ledger + Send + Sync, R: Host>(
     both(one, two)
 }
 
+/// Two threads that send fifty jobs each by endpoints of this manager, and one run: all their tickets.
+fn send_and_run<L: Ledger + Send + Sync, T: Ledger + Send + Sync, R: Host>(
+    rt: &R,
+    alloc: Global,
+    manager: &mut Loop<L, T, R>,
+    notes: &Notes,
+) -> Result<Vec<Ticket<L>>, Error> {
+    let first = manager.remote_endpoint()?;
+    let second = first.try_clone()?;
+    let all = send_fifty_each(rt, alloc, &first, &second, notes)?;
+    expect_pending(rt, &first, 100);
+    expect_run(rt, manager, Ok(1));
+    expect_pending(rt, &first, 0);
+    Ok(all)
+}
+
 /// Two threads that send fifty jobs each, before one run.
 fn two_senders<L: Ledger + Send + Sync, T: Ledger + Send + Sync, R: Host>(
     rt: &R,
@@ -128,12 +144,7 @@ fn two_senders<L: Ledger + Send + Sync, T: Ledger + Send + Sync, R: Host>(
 {
     let alloc = parts.alloc;
     let mut manager = make::<Idle, Note, L, T, _>(parts, tickets, taken)?;
-    let first = manager.remote_endpoint()?;
-    let second = first.try_clone()?;
-    let all = send_fifty_each(rt, alloc, &first, &second, notes)?;
-    expect_pending(rt, &first, 100);
-    expect_run(rt, &mut manager, Ok(1));
-    expect_pending(rt, &first, 0);
+    let all = send_and_run(rt, alloc, &mut manager, notes)?;
     expect_in_order(rt, notes, 2, 50);
     expect_all(rt, manager.close(rt), all, 100)
 }

@@ -1,0 +1,62 @@
+//! What the bodies of tests do again and again, each time with a word on what must come of it.
+
+use crate::reacting::Reacting;
+use event_manager::{
+    EventManager, EventPoller, Events, MutEventSubscriber, NoJob, Result, SubscriberId,
+    SubscriberOps,
+};
+use std::fmt::Debug;
+use std::process::Abort;
+use std::sync::Wait;
+use std::sync::ledger::Ledger;
+use std::time::Clock;
+
+/// Expects that the two are equal.
+pub fn expect_same<A: PartialEq + Debug, R: Abort>(rt: &R, found: &A, expected: &A) {
+    assert_eq!(rt; found, expected);
+}
+
+/// Expects that a run without a limit reports so many events.
+pub fn expect_run<S, L, T, P, R>(
+    rt: &R,
+    manager: &mut EventManager<S, NoJob, L, T, P>,
+    count: usize,
+)
+where
+    S: MutEventSubscriber,
+    L: Ledger,
+    T: Ledger,
+    P: EventPoller,
+    R: Wait + Clock + Abort,
+{
+    expect_same(rt, &manager.run(rt), &Ok(count));
+}
+
+/// Expects that a run of at most so many milliseconds reports so many events.
+pub fn expect_run_within<S, L, T, P, R>(
+    rt: &R,
+    manager: &mut EventManager<S, NoJob, L, T, P>,
+    ms: i32,
+    count: usize,
+)
+where
+    S: MutEventSubscriber,
+    L: Ledger,
+    T: Ledger,
+    P: EventPoller,
+    R: Wait + Clock + Abort,
+{
+    expect_same(rt, &manager.run_with_timeout(ms, rt), &Ok(count));
+}
+
+/// Expects that these were the subscriber's events since it was last asked, in order.
+pub fn expect_saw<L: Ledger, T: Ledger, P: EventPoller, R: Abort>(
+    rt: &R,
+    manager: &mut EventManager<Reacting, NoJob, L, T, P>,
+    id: SubscriberId,
+    expected: &[Events],
+) -> Result<()> {
+    let subscriber = manager.subscriber_mut(id)?;
+    assert!(rt; subscriber.saw(expected));
+    Ok(())
+}
