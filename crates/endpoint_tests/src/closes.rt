@@ -57,8 +57,22 @@ fn send_round_a_close<L: Ledger, T: Ledger, R: Wait + Clock>(
     (closed, [first, second, send(rt, endpoint, notes, 3)])
 }
 
+/// Who closes the manager, and a sender.
+fn send_beside_close<L: Ledger + Send + Sync, T: Ledger + Send + Sync, R: Host>(
+    rt: &R,
+    manager: Loop<L, T, R>,
+    endpoint: &Sender<L, T>,
+    notes: &Notes,
+) -> ((bool, u64, u64), (bool, [Result<u64>; 3])) {
+    thread::join(
+        rt,
+        || close_on_two(rt, manager, endpoint),
+        || send_round_a_close(rt, endpoint, notes),
+    )
+}
+
 /// A sender by an endpoint of a manager of these parts, which is closed meanwhile.
-fn sender_beside_close<L: Ledger + Send + Sync, T: Ledger + Send + Sync, R: Host>(
+fn closed_sender<L: Ledger + Send + Sync, T: Ledger + Send + Sync, R: Host>(
     rt: &R,
     parts: OnTable<R>,
     notes: &Notes,
@@ -72,17 +86,11 @@ fn sender_beside_close<L: Ledger + Send + Sync, T: Ledger + Send + Sync, R: Host
 {
     let manager = make::<Idle, Work, L, T, _>(parts, tickets, taken)?;
     let endpoint = manager.remote_endpoint()?;
-    let (closer, sender) = thread::join(
-        rt,
-        || close_on_two(rt, manager, &endpoint),
-        || send_round_a_close(rt, &endpoint, notes),
-    );
+    let (closer, sender) = send_beside_close(rt, manager, &endpoint, notes);
     expect_same(rt, &closer, &(true, 2, 0));
-    expect_same(
-        rt,
-        &sender,
-        &(true, [Ok(1), Ok(2), Err(Error::ChannelSend)]),
-    );
+    let refused = Err(Error::ChannelSend);
+    expect_same(rt, &sender, &(true, [Ok(1), Ok(2), refused]));
+    expect_noted(rt, notes, &[]);
     Ok(())
 }
 
@@ -91,9 +99,7 @@ fn a_sender_is_refused_after_a_close(rt: HostRuntime) -> std::result::Result<(),
     let notes = new_notes(rt.alloc())?;
     let parts = on_table(rt, rt.alloc(), 0)?;
     let tickets = Blank::new(9223372036854775808);
-    sender_beside_close::<Brand, Brand, HostRuntime>(&rt, parts, &notes, tickets, Blank::new(1))?;
-    expect_noted(&rt, &notes, &[]);
-    Ok(())
+    closed_sender::<Brand, Brand, HostRuntime>(&rt, parts, &notes, tickets, Blank::new(1))
 }
 
 /// Kicks after a close.
