@@ -16,7 +16,7 @@ use std::time::Clock;
 use vmm_sys::errno::Errno;
 use vmm_sys::eventfd::EventFd;
 
-/// How many jobs are sent by `fire`, and how many by `fire_after`.
+/// How many jobs are sent by `fire` behind the first one, and how many by `fire_after`.
 const COUNT: u64 = 10;
 
 /// The capacity of the manager.
@@ -49,36 +49,61 @@ impl<R: Loop> Sending<'_, R> {
         endpoint.pending() == usize::try_from(count).ok() && self.rings() == Some(count)
     }
 
-    /// Sends the jobs, by `fire` and by `fire_after` in turn; answers their tickets.
+    /// Sends a job by `fire`, where so many wait: its ticket is the next one.
+    fn fire<L: Ledger, T: Ledger>(
+        &self,
+        endpoint: &Sender<L, T>,
+        sent: u64,
+    ) -> Result<Ticket<L>, Fault> {
+        let name = CallName::Fire;
+        let ticket = again!(
+            name,
+            endpoint.fire(Echo(sent), self.rt),
+            self.are_waiting(endpoint, sent)
+        )?;
+        let next = sent.saturating_add(1);
+        expect(
+            name,
+            ticket.number() == next && self.are_waiting(endpoint, next),
+        )?;
+        Ok(ticket)
+    }
+
+    /// As `fire`, by `fire_after`.
+    fn fire_after<L: Ledger, T: Ledger>(
+        &self,
+        endpoint: &Sender<L, T>,
+        shown: &Ticket<L>,
+        sent: u64,
+    ) -> Result<Ticket<L>, Fault> {
+        let name = CallName::FireAfter;
+        let ticket = again!(
+            name,
+            endpoint.fire_after(shown, Echo(sent), self.rt),
+            self.are_waiting(endpoint, sent)
+        )?;
+        let next = sent.saturating_add(1);
+        expect(
+            name,
+            ticket.number() == next && self.are_waiting(endpoint, next),
+        )?;
+        Ok(ticket)
+    }
+
+    /// Sends a job, and then the others by `fire` and by `fire_after` in turn; answers their tickets. So each of the two
+    /// comes where the queue is full, and requests memory.
     fn send<L: Ledger, T: Ledger>(&self, endpoint: &Sender<L, T>) -> Result<Vec<Ticket<L>>, Fault> {
-        let rt = self.rt;
-        let mut tickets = again!(CallName::ListTickets, Vec::with_capacity(self.alloc, 20))?;
+        let name = CallName::ListTickets;
+        let mut tickets = again!(name, Vec::with_capacity(self.alloc, 21))?;
+        named(name, tickets.push(self.fire(endpoint, 0)?))?;
         for k in 0..COUNT {
-            let (name, sent) = (CallName::Fire, 2 * k);
-            let fired = again!(
-                name,
-                endpoint.fire(Echo(k), rt),
-                self.are_waiting(endpoint, sent)
-            )?;
-            expect(
-                name,
-                fired.number() == sent + 1 && self.are_waiting(endpoint, sent + 1),
-            )?;
-            let name = CallName::FireAfter;
-            let after = again!(
-                name,
-                endpoint.fire_after(&fired, Echo(k), rt),
-                self.are_waiting(endpoint, sent + 1)
-            )?;
-            expect(
-                name,
-                after.number() == sent + 2 && self.are_waiting(endpoint, sent + 2),
-            )?;
-            named(CallName::ListTickets, tickets.push(fired))?;
-            named(CallName::ListTickets, tickets.push(after))?;
+            let fired = self.fire(endpoint, 2 * k + 1)?;
+            let after = self.fire_after(endpoint, &fired, 2 * k + 2)?;
+            named(name, tickets.push(fired))?;
+            named(name, tickets.push(after))?;
         }
-        println!(rt; "fire: the last of 10 has ticket 19")?;
-        println!(rt; "fire_after: the last of 10 has ticket 20")?;
+        println!(self.rt; "fire: the last of 11 has ticket 20")?;
+        println!(self.rt; "fire_after: the last of 10 has ticket 21")?;
         Ok(tickets)
     }
 
@@ -92,13 +117,13 @@ impl<R: Loop> Sending<'_, R> {
         mark(rt)?;
         let waiting = endpoint.pending();
         mark(rt)?;
-        expect(CallName::Pending, waiting == Some(20))?;
-        println!(rt; "between marks: pending of 20 jobs")?;
+        expect(CallName::Pending, waiting == Some(21))?;
+        println!(rt; "between marks: pending of 21 jobs")?;
         mark(rt)?;
         let ran = manager.run_with_timeout(0, rt);
         mark(rt)?;
         expect(CallName::Run, ran == Ok(1) && endpoint.pending() == Some(0))?;
-        println!(rt; "between marks: run of 20 jobs")?;
+        println!(rt; "between marks: run of 21 jobs")?;
         mark(rt)?;
         let kicked = endpoint.kick(rt);
         mark(rt)?;
@@ -140,7 +165,7 @@ impl<R: Loop> Body for Sending<'_, R> {
         let gathered = closed.gather(&mut tickets);
         mark(rt)?;
         expect(CallName::Gather, gathered)?;
-        println!(rt; "between marks: gather of 21 tickets")?;
+        println!(rt; "between marks: gather of 22 tickets")?;
         Ok(())
     }
 }
