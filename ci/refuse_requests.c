@@ -1,0 +1,134 @@
+/* Refuses requests for memory of the program that it is preloaded into, and counts them.
+
+   Counted are the calls of malloc, calloc, realloc, aligned_alloc and posix_memalign from the moment at which libc calls
+   the program's main until main returns or the program calls _exit, on every thread; so those of libc's own start and end
+   are left alone, and those that libc makes while main runs, as for a thread, are counted. Requests are numbered from 1.
+
+   REFUSE_REQUEST=N refuses the Nth request, REFUSE_FROM=N the Nth and all behind it; of neither none is refused.
+   REFUSE_REPORT=FILE writes into the file, when the program has ended, the number of requests, and behind it how many
+   there had been at each reading of the clock (clock_gettime), in order: so a program marks what lies between two of its
+   calls. */
+
+#define _GNU_SOURCE
+#include <dlfcn.h>
+#include <errno.h>
+#include <stdatomic.h>
+#include <stdio.h>
+#include <stdlib.h>
+#include <sys/syscall.h>
+#include <time.h>
+#include <unistd.h>
+
+#define MOST_MARKS 4096
+
+extern void *__libc_malloc(size_t);
+extern void *__libc_calloc(size_t, size_t);
+extern void *__libc_realloc(void *, size_t);
+extern void *__libc_memalign(size_t, size_t);
+
+static atomic_bool counting;
+static atomic_ulong requests, marks, mark[MOST_MARKS];
+static unsigned long refused, refused_from;
+
+static int is_refused(void)
+{
+    if (!counting)
+        return 0;
+    unsigned long number = ++requests;
+    if (number != refused && (refused_from == 0 || number < refused_from))
+        return 0;
+    errno = ENOMEM;
+    return 1;
+}
+
+void *malloc(size_t size)
+{
+    return is_refused() ? NULL : __libc_malloc(size);
+}
+
+void *calloc(size_t count, size_t size)
+{
+    return is_refused() ? NULL : __libc_calloc(count, size);
+}
+
+void *realloc(void *old, size_t size)
+{
+    return is_refused() ? NULL : __libc_realloc(old, size);
+}
+
+void *aligned_alloc(size_t alignment, size_t size)
+{
+    return is_refused() ? NULL : __libc_memalign(alignment, size);
+}
+
+int posix_memalign(void **out, size_t alignment, size_t size)
+{
+    void *made = is_refused() ? NULL : __libc_memalign(alignment, size);
+    if (made == NULL)
+        return ENOMEM;
+    *out = made;
+    return 0;
+}
+
+int clock_gettime(clockid_t clock, struct timespec *now)
+{
+    if (counting) {
+        unsigned long place = marks++;
+        if (place < MOST_MARKS)
+            mark[place] = requests;
+    }
+    return syscall(SYS_clock_gettime, clock, now);
+}
+
+static unsigned long number_of(const char *name)
+{
+    const char *text = getenv(name);
+    return text ? strtoul(text, NULL, 10) : 0;
+}
+
+static void report(void)
+{
+    const char *path = getenv("REFUSE_REPORT");
+    FILE *file = path ? fopen(path, "w") : NULL;
+    if (file == NULL)
+        return;
+    fprintf(file, "%lu\n", requests);
+    for (unsigned long k = 0; k < marks && k < MOST_MARKS; k++)
+        fprintf(file, "%lu\n", mark[k]);
+    fclose(file);
+}
+
+static void stop_counting(void)
+{
+    if (atomic_exchange(&counting, 0))
+        report();
+}
+
+void _exit(int status)
+{
+    stop_counting();
+    for (;;)
+        syscall(SYS_exit_group, status);
+}
+
+static int (*program)(int, char **, char **);
+
+static int counted_program(int argc, char **argv, char **environment)
+{
+    counting = 1;
+    int status = program(argc, argv, environment);
+    stop_counting();
+    return status;
+}
+
+typedef int start(int (*)(int, char **, char **), int, char **, void (*)(void), void (*)(void), void (*)(void), void *);
+
+int __libc_start_main(int (*entry)(int, char **, char **), int argc, char **argv, void (*init)(void),
+                      void (*fini)(void), void (*loader_fini)(void), void *stack_end)
+{
+    start *real = (start *)dlsym(RTLD_NEXT, "__libc_start_main");
+    program = entry;
+    refused = number_of("REFUSE_REQUEST");
+    refused_from = number_of("REFUSE_FROM");
+    return real(counted_program, argc, argv, init, fini, loader_fini, stack_end);
+}

@@ -1,0 +1,160 @@
+//! A job that another thread runs, and whose reply is waited for.
+
+ghost use Rattle.std.specs.Prelude.{◌≡◌};
+
+use crate::again::again;
+use crate::call_name::CallName;
+use crate::descriptors::{copy_epoll, is_unregistered};
+use crate::echo::Echo;
+use crate::fault::{Fault, expect, expect_unchanged, named};
+use crate::host::Host;
+use crate::jobs::Sender;
+use crate::making::{Manager, OnTable, copy_counter, open_table};
+use event_manager::PlainPoller;
+use std::alloc::Global;
+use std::marker::Brand;
+use std::sync::atomic::{AtomicBool, Ordering};
+use std::sync::ledger::{Blank, Ledger};
+use std::sync::{Arc, Wait};
+use std::thread;
+use std::thread::{JoinHandle, Threads};
+use std::time::Clock;
+use vmm_sys::epoll::Epoll;
+
+/// How many parts the ledger of a manager's tickets has.
+const TICKET_PARTS: u64 = 9223372036854775808;
+
+/// How often the loop waits at most: once for each job and once for the end, and no more.
+const MAX_WAITS: u32 = 100;
+
+/// How many jobs are called.
+const CALLS: u64 = 3;
+
+/// A loop over a table, which is moved to another thread.
+type Loop<L, T, R> = Manager<L, T, PlainPoller<Epoll<R>>>;
+
+/// Runs the loop until the flag is set, and closes it; answers how many tickets were issued and how many jobs taken.
+fn serve<L: Ledger, T: Ledger, R: Wait + Clock + Copy + Send + Drop>(
+    mut manager: Loop<L, T, R>,
+    stopped: &AtomicBool,
+    rt: &R,
+) -> (u64, u64) {
+    for _ in 0..MAX_WAITS {
+        let ran = manager.run(rt);
+        if ran.is_err() || stopped.load(Ordering::SeqCst) {
+            break;
+        }
+    }
+    let closed = manager.close(rt);
+    (closed.issued(), closed.taken())
+}
+
+/// Starts a thread.
+fn start<R: Threads, F: FnOnce() -> (u64, u64) + Send + Drop + 'static>(
+    rt: &R,
+    work: F,
+) -> Result<JoinHandle<(u64, u64)>, Fault>
+    requires { F.pre work }
+{
+    match thread::spawn(rt, work) {
+        Ok(handle) => Ok(handle),
+        Err(refused) => match thread::spawn(rt, refused.value) {
+            Ok(handle) => Ok(handle),
+            Err(_) => Err(Fault::Memory(CallName::ThreadSpawn)),
+        },
+    }
+}
+
+/// Calls the jobs one after another, and waits for the reply of each.
+fn call<L: Ledger, T: Ledger, R: Host>(endpoint: &Sender<L, T>, rt: &R) -> Result<(), Fault> {
+    let name = CallName::CallBlocking;
+    for k in 0..CALLS {
+        let reply = again!(
+            name,
+            endpoint.call_blocking(Echo(k), rt),
+            endpoint.pending() == Some(0)
+        )?;
+        expect(name, reply == k)?;
+    }
+    Ok(())
+}
+
+/// A manager over the table, made once.
+fn make<L: Ledger, T: Ledger, R: Host>(
+    alloc: Global,
+    on_table: &OnTable<R>,
+    tickets: Blank,
+    taken: Blank,
+) -> Result<Loop<L, T, R>, Fault>
+    requires tickets_name { tickets.name ≡ L.name }
+    requires tickets_parts { (tickets.parts ≡ L.parts) × (tickets.parts ≡ 9223372036854775808) }
+    requires taken_name { taken.name ≡ T.name }
+    requires taken_parts { (taken.parts ≡ T.parts) × (taken.parts ≡ 1) }
+{
+    let poller = PlainPoller(copy_epoll(&on_table.epoll)?);
+    let endpoint = copy_counter(&on_table.endpoint)?;
+    named(
+        CallName::EventManagerNew,
+        Loop::<L, T, R>::new(alloc, poller, endpoint, tickets, taken),
+    )
+}
+
+/// Runs a loop on a thread of its own, and calls jobs of it from this one; `Memory` of `EventManager::new` where the
+/// manager was refused.
+fn call_another_thread<L, T, R>(
+    rt: &R,
+    alloc: Global,
+    on_table: &OnTable<R>,
+    tickets: Blank,
+    taken: Blank,
+) -> Result<(), Fault>
+where
+    L: Ledger + Send + Sync + 'static,
+    T: Ledger + Send + Sync + 'static,
+    R: Host + Threads + Sync + 'static,
+    requires tickets_name { tickets.name ≡ L.name }
+    requires tickets_parts { (tickets.parts ≡ L.parts) × (tickets.parts ≡ 9223372036854775808) }
+    requires taken_name { taken.name ≡ T.name }
+    requires taken_parts { (taken.parts ≡ T.parts) × (taken.parts ≡ 1) }
+{
+    let manager = make::<L, T, R>(alloc, on_table, tickets, taken)?;
+    let endpoint = again!(CallName::RemoteEndpoint, manager.remote_endpoint())?;
+    let stopped = again!(CallName::Flag, Arc::new(alloc, AtomicBool::new(false)))?;
+    let theirs = again!(CallName::Flag, Arc::try_clone(&stopped))?;
+    let host = *rt;
+    let serving = start(rt, move || serve(manager, &theirs, &host))?;
+    let called = call(&endpoint, rt);
+    stopped.store(true, Ordering::SeqCst);
+    let kicked = endpoint.kick(rt);
+    let (issued, taken) = serving.join(rt);
+    called?;
+    named(CallName::Kick, kicked)?;
+    println!(rt; "call_blocking: {CALLS} replies, {issued} issued and {taken} taken")?;
+    Ok(())
+}
+
+/// As [`call_another_thread`], with ledgers of its own.
+fn call_with_ledgers<R: Host + Threads + Sync + 'static>(
+    rt: &R,
+    alloc: Global,
+    on_table: &OnTable<R>,
+) -> Result<(), Fault> {
+    let (tickets, taken) = (Blank::new(TICKET_PARTS), Blank::new(1));
+    call_another_thread::<Brand, Brand, R>(rt, alloc, on_table, tickets, taken)
+}
+
+/// Makes a manager over a table, and waits for the replies of jobs that another thread runs.
+pub fn call_over_a_table<R: Host + Threads + Sync + 'static>(
+    rt: &R,
+    alloc: Global,
+) -> Result<(), Fault> {
+    let mut on_table = open_table(rt, alloc)?;
+    let name = CallName::EventManagerNew;
+    match call_with_ledgers(rt, alloc, &on_table) {
+        Err(Fault::Memory(CallName::EventManagerNew)) => {
+            expect_unchanged(name, is_unregistered(&mut on_table.epoll, 0))?;
+            call_with_ledgers(rt, alloc, &on_table)
+        }
+        answer => answer,
+    }
+}

@@ -1,0 +1,96 @@
+//! Tables that are shared, and what is opened in them.
+
+use crate::again::again;
+use crate::call_name::CallName;
+use crate::fault::{Fault, expect, expect_unchanged, named};
+use crate::host::Host;
+use std::alloc::Global;
+use vmm_sys::epoll::{AsRawFd, ControlOperation, Epoll, EpollEvent, EventSet, RawFd};
+use vmm_sys::errno::Errno;
+use vmm_sys::eventfd::EventFd;
+use vmm_sys::line::Line;
+use vmm_sys::poller::Poller;
+
+/// How many counters and how many lines are opened.
+const OPENED: u16 = 9;
+
+/// What an interest in the descriptor would be refused with, or `Ok` where it has one.
+fn interest_of<R: Host>(epoll: &mut Epoll<R>, fd: RawFd) -> Result<(), Errno> {
+    epoll.ctl(
+        ControlOperation::Modify,
+        fd,
+        EpollEvent::new(EventSet::IN, fd.unsigned_abs() as u64),
+    )
+}
+
+/// Whether the descriptor was never opened.
+pub fn is_unopened<R: Host>(epoll: &mut Epoll<R>, fd: RawFd) -> bool {
+    interest_of(epoll, fd) == Err(Errno::EBADF)
+}
+
+/// Whether the descriptor is open, and nobody has registered it.
+pub fn is_unregistered<R: Host>(epoll: &mut Epoll<R>, fd: RawFd) -> bool {
+    interest_of(epoll, fd) == Err(Errno::ENOENT)
+}
+
+/// A poller over a new table.
+pub fn make_epoll<R: Host>(rt: &R, alloc: Global) -> Result<Epoll<R>, Fault> {
+    again!(CallName::EpollNew, Epoll::new(*rt, alloc), true)
+}
+
+/// A poller over the same table.
+pub fn copy_epoll<R: Host>(epoll: &Epoll<R>) -> Result<Epoll<R>, Fault> {
+    again!(CallName::EpollTryClone, epoll.try_clone(), true)
+}
+
+/// A counter of value 0, whose descriptor must be this one.
+pub fn open_counter<R: Host>(epoll: &mut Epoll<R>, fd: RawFd, rt: &R) -> Result<EventFd, Fault> {
+    let name = CallName::EventFdNew;
+    let counter = again!(name, EventFd::new(&*epoll, 0, rt), is_unopened(epoll, fd))?;
+    expect(
+        name,
+        counter.as_raw_fd() == fd && is_unregistered(epoll, fd),
+    )?;
+    Ok(counter)
+}
+
+/// A line, whose descriptor must be this one.
+fn open_line<R: Host>(epoll: &mut Epoll<R>, fd: RawFd, rt: &R) -> Result<Line, Fault> {
+    let name = CallName::LineNew;
+    let line = again!(name, Line::new(&*epoll, rt), is_unopened(epoll, fd))?;
+    expect(name, line.as_raw_fd() == fd && is_unregistered(epoll, fd))?;
+    Ok(line)
+}
+
+/// Opens counters and lines in turn, in one table, and prints the descriptors of the last ones.
+fn open_in_turn<R: Host>(epoll: &mut Epoll<R>, rt: &R) -> Result<(), Fault> {
+    let (mut last_counter, mut last_line) = (0, 0);
+    for k in 0..OPENED {
+        let counter = 2 * k as RawFd;
+        last_counter = open_counter(epoll, counter, rt)?.as_raw_fd();
+        last_line = open_line(epoll, counter + 1, rt)?.as_raw_fd();
+    }
+    println!(rt; "EventFd::new: the last of 9 is descriptor {last_counter}")?;
+    println!(rt; "Line::new: the last of 9 is descriptor {last_line}")?;
+    Ok(())
+}
+
+/// Opens pollers, counters and lines, and copies each.
+pub fn open_descriptors<R: Host>(rt: &R, alloc: Global) -> Result<(), Fault> {
+    let mut epoll = make_epoll(rt, alloc)?;
+    println!(rt; "Epoll::new: ok")?;
+    open_in_turn(&mut epoll, rt)?;
+    let mut copy = copy_epoll(&epoll)?;
+    expect(
+        CallName::EpollTryClone,
+        is_unregistered(&mut copy, 17) && is_unopened(&mut copy, 18),
+    )?;
+    println!(rt; "Epoll::try_clone: of the same table")?;
+    let counter = open_counter(&mut copy, 18, rt)?;
+    let other = again!(CallName::EventFdTryClone, counter.try_clone(), true)?;
+    println!(rt; "EventFd::try_clone: descriptor {}", other.as_raw_fd())?;
+    let line = open_line(&mut copy, 19, rt)?;
+    let other = again!(CallName::LineTryClone, line.try_clone(), true)?;
+    println!(rt; "Line::try_clone: descriptor {}", other.as_raw_fd())?;
+    Ok(())
+}

@@ -1,0 +1,220 @@
+//! Jobs that the loop's own thread sends and runs.
+
+use crate::again::again;
+use crate::call_name::CallName;
+use crate::echo::Echo;
+use crate::fault::{Fault, expect, expect_unchanged, named};
+use crate::host::{Host, Loop, mark};
+use crate::making::{Body, Manager, copy_counter, open_table, over_table};
+use crate::watcher::Watcher;
+use event_manager::jobs::{Bell, JobQueue};
+use event_manager::{EventPoller, RemoteEndpoint, Ticket};
+use std::alloc::Global;
+use std::sync::Wait;
+use std::sync::ledger::Ledger;
+use std::time::Clock;
+use vmm_sys::errno::Errno;
+use vmm_sys::eventfd::EventFd;
+
+/// How many jobs are sent by `fire` behind the first one, and how many by `fire_after`.
+const COUNT: u64 = 10;
+
+/// The capacity of the manager.
+const CAPACITY: usize = 64;
+
+/// An endpoint of the program.
+pub type Sender<L, T> = RemoteEndpoint<Watcher, Echo, L, T>;
+
+/// Jobs over a table.
+#[derive(Drop)]
+struct Sending<'a, R> {
+    rt: &'a R,
+    alloc: Global,
+    /// The endpoint's counter.
+    bell: &'a EventFd,
+}
+
+impl<R: Loop> Sending<'_, R> {
+    /// How often the bell was rung since it was last read by the loop.
+    fn rings(&self) -> Option<u64> {
+        let rings = self.bell.read(self.rt).unwrap_or(0);
+        match self.bell.write(rings, self.rt) {
+            Ok(()) => Some(rings),
+            Err(_) => None,
+        }
+    }
+
+    /// Whether so many jobs wait, and the bell was rung as often.
+    fn are_waiting<L: Ledger, T: Ledger>(&self, endpoint: &Sender<L, T>, count: u64) -> bool {
+        endpoint.pending() == usize::try_from(count).ok() && self.rings() == Some(count)
+    }
+
+    /// Sends a job by `fire`, where so many wait: its ticket is the next one.
+    fn fire<L: Ledger, T: Ledger>(
+        &self,
+        endpoint: &Sender<L, T>,
+        sent: u64,
+    ) -> Result<Ticket<L>, Fault> {
+        let name = CallName::Fire;
+        let ticket = again!(
+            name,
+            endpoint.fire(Echo(sent), self.rt),
+            self.are_waiting(endpoint, sent)
+        )?;
+        let next = sent.saturating_add(1);
+        expect(
+            name,
+            ticket.number() == next && self.are_waiting(endpoint, next),
+        )?;
+        Ok(ticket)
+    }
+
+    /// As `fire`, by `fire_after`.
+    fn fire_after<L: Ledger, T: Ledger>(
+        &self,
+        endpoint: &Sender<L, T>,
+        shown: &Ticket<L>,
+        sent: u64,
+    ) -> Result<Ticket<L>, Fault> {
+        let name = CallName::FireAfter;
+        let ticket = again!(
+            name,
+            endpoint.fire_after(shown, Echo(sent), self.rt),
+            self.are_waiting(endpoint, sent)
+        )?;
+        let next = sent.saturating_add(1);
+        expect(
+            name,
+            ticket.number() == next && self.are_waiting(endpoint, next),
+        )?;
+        Ok(ticket)
+    }
+
+    /// Sends a job, and then the others by `fire` and by `fire_after` in turn; answers their tickets. So each of the two
+    /// comes where the queue is full, and requests memory.
+    fn send<L: Ledger, T: Ledger>(&self, endpoint: &Sender<L, T>) -> Result<Vec<Ticket<L>>, Fault> {
+        let name = CallName::ListTickets;
+        let mut tickets = again!(name, Vec::with_capacity(self.alloc, 21))?;
+        named(name, tickets.push(self.fire(endpoint, 0)?))?;
+        for k in 0..COUNT {
+            let fired = self.fire(endpoint, 2 * k + 1)?;
+            let after = self.fire_after(endpoint, &fired, 2 * k + 2)?;
+            named(name, tickets.push(fired))?;
+            named(name, tickets.push(after))?;
+        }
+        println!(self.rt; "fire: the last of 11 has ticket 20")?;
+        println!(self.rt; "fire_after: the last of 10 has ticket 21")?;
+        Ok(tickets)
+    }
+
+    /// Runs the jobs, kicks the loop, and runs it once more.
+    fn run_jobs<L: Ledger, T: Ledger, P: EventPoller>(
+        &self,
+        manager: &mut Manager<L, T, P>,
+        endpoint: &Sender<L, T>,
+    ) -> Result<(), Fault> {
+        let rt = self.rt;
+        mark(rt)?;
+        let waiting = endpoint.pending();
+        mark(rt)?;
+        expect(CallName::Pending, waiting == Some(21))?;
+        println!(rt; "between marks: pending of 21 jobs")?;
+        mark(rt)?;
+        let ran = manager.run_with_timeout(0, rt);
+        mark(rt)?;
+        expect(CallName::Run, ran == Ok(1) && endpoint.pending() == Some(0))?;
+        println!(rt; "between marks: run of 21 jobs")?;
+        mark(rt)?;
+        let kicked = endpoint.kick(rt);
+        mark(rt)?;
+        expect(
+            CallName::Kick,
+            kicked == Ok(()) && manager.run_with_timeout(0, rt) == Ok(1),
+        )?;
+        println!(rt; "between marks: kick")?;
+        Ok(())
+    }
+}
+
+impl<R: Loop> Body for Sending<'_, R> {
+    fn run<L: Ledger + Send + Sync, T: Ledger + Send + Sync, P: EventPoller + Drop>(
+        &self,
+        manager: Manager<L, T, P>,
+    ) -> Result<(), Fault> {
+        let (mut manager, rt) = (manager, self.rt);
+        let first = again!(CallName::RemoteEndpoint, manager.remote_endpoint())?;
+        println!(rt; "remote_endpoint: ok")?;
+        let endpoint = again!(CallName::RemoteEndpointTryClone, first.try_clone())?;
+        println!(rt; "RemoteEndpoint::try_clone: ok")?;
+        let mut tickets = self.send(&endpoint)?;
+        self.run_jobs(&mut manager, &first)?;
+        let last = again!(
+            CallName::Fire,
+            endpoint.fire(Echo(0), rt),
+            self.are_waiting(&endpoint, 0)
+        )?;
+        mark(rt)?;
+        let closed = manager.close(rt);
+        mark(rt)?;
+        let (issued, taken) = (closed.issued(), closed.taken());
+        println!(rt; "between marks: close with {issued} issued and {taken} taken")?;
+        let mut closed = closed;
+        again!(CallName::ListTickets, tickets.reserve(1))?;
+        named(CallName::ListTickets, tickets.push(last))?;
+        mark(rt)?;
+        let gathered = closed.gather(&mut tickets);
+        mark(rt)?;
+        expect(CallName::Gather, gathered)?;
+        println!(rt; "between marks: gather of 22 tickets")?;
+        Ok(())
+    }
+}
+
+/// Makes a manager of capacity 64 over a table, and sends jobs to it.
+pub fn send_over_a_table<R: Host>(rt: &R, alloc: Global) -> Result<(), Fault> {
+    let mut on_table = open_table(rt, alloc)?;
+    let bell = copy_counter(&on_table.endpoint)?;
+    let sending = Sending {
+        rt,
+        alloc,
+        bell: &bell,
+    };
+    over_table(alloc, &mut on_table, Some(CAPACITY), &sending)?;
+    println!(rt; "EventManager::new_with_capacity: ok")?;
+    Ok(())
+}
+
+/// A bell that is never heard.
+#[derive(Drop)]
+struct Silent;
+
+impl Bell for Silent {
+    ghost use Rattle.std.specs.Prelude.{IsOk};
+
+    ghost rings = { λ bell answer. IsOk answer };
+
+    fn ring<R: Wait + Clock>(&self, _rt: &R) -> Result<(), Errno> {
+        Ok(())
+    }
+}
+
+/// Sends jobs to a queue of its own, and takes them.
+pub fn take_from_a_queue<R: Host>(rt: &R, alloc: Global) -> Result<(), Fault> {
+    let name = CallName::JobQueueSend;
+    let mut queue: JobQueue<u64, ()> = JobQueue::new(alloc);
+    for k in 0..COUNT {
+        let waiting = queue.waiting();
+        let sent = again!(
+            name,
+            queue.send(k, None, &Silent, rt),
+            queue.waiting() == waiting
+        )?;
+        expect(name, sent == k + 1)?;
+    }
+    let mut taken = Vec::new(alloc);
+    mark(rt)?;
+    queue.take(&mut taken);
+    mark(rt)?;
+    println!(rt; "between marks: JobQueue::take of {} jobs", taken.len())?;
+    Ok(())
+}

@@ -1,0 +1,212 @@
+//! Subscribers that join, and their requests.
+
+use crate::again::again;
+use crate::call_name::CallName;
+use crate::descriptors::open_counter;
+use crate::fault::{Fault, Refusal, expect, expect_unchanged, named};
+use crate::host::{Host, Loop};
+use crate::making::{Body, Manager, open_table, over_table};
+use crate::watcher::Watcher;
+use event_manager::{Error, EventPoller, EventSet, Events, SubscriberId, SubscriberOps};
+use std::alloc::Global;
+use std::sync::ledger::Ledger;
+use vmm_sys::epoll::{Epoll, RawFd};
+use vmm_sys::errno::Errno;
+use vmm_sys::eventfd::EventFd;
+
+/// How many subscribers join, and how many descriptors the first one then asks for beside.
+const COUNT: RawFd = 20;
+
+fn add_watcher<L: Ledger, T: Ledger, P: EventPoller>(
+    manager: &mut Manager<L, T, P>,
+    own: Events,
+    alloc: Global,
+) -> event_manager::Result<SubscriberId> {
+    manager.add_subscriber(Watcher::new(own, alloc))
+}
+
+/// `Memory` where the request of its `init` was refused twice, and `Changed` where the first refusal changed something.
+fn expect_joined<L: Ledger, T: Ledger, P: EventPoller>(
+    manager: &mut Manager<L, T, P>,
+    id: SubscriberId,
+) -> Result<(), Fault> {
+    let name = CallName::EventOpsAddInit;
+    match manager.subscriber_mut(id) {
+        Ok(watcher) => {
+            expect_unchanged(name, watcher.is_unchanged())?;
+            named(name, watcher.joined())
+        }
+        Err(error) => Err(error.of_call(name)),
+    }
+}
+
+fn add_again<L: Ledger, T: Ledger, P: EventPoller>(
+    manager: &mut Manager<L, T, P>,
+    own: Events,
+    alloc: Global,
+) -> Result<SubscriberId, Fault> {
+    again!(CallName::AddSubscriber, add_watcher(manager, own, alloc))
+}
+
+/// Takes a subscriber of this descriptor in. Had a refused join asked for the descriptor, the second one's request would
+/// be refused.
+pub fn join<L: Ledger, T: Ledger, P: EventPoller>(
+    manager: &mut Manager<L, T, P>,
+    own: Events,
+    alloc: Global,
+) -> Result<SubscriberId, Fault> {
+    let id = add_again(manager, own, alloc)?;
+    expect_joined(manager, id)?;
+    Ok(id)
+}
+
+fn add<L: Ledger, T: Ledger, P: EventPoller>(
+    manager: &mut Manager<L, T, P>,
+    id: SubscriberId,
+    events: Events,
+) -> event_manager::Result<()> {
+    manager.event_ops(id)?.add(events)
+}
+
+/// Whether the id doesn't own the descriptor.
+fn is_not_own<L: Ledger, T: Ledger, P: EventPoller>(
+    manager: &mut Manager<L, T, P>,
+    id: SubscriberId,
+    events: Events,
+) -> bool {
+    match manager.event_ops(id) {
+        Ok(ops) => ops.modify(events) == Err(Error::Epoll(Errno::ENOENT)),
+        Err(_) => false,
+    }
+}
+
+/// Adds the descriptor for the subscriber, from outside a batch.
+pub fn ask<L: Ledger, T: Ledger, P: EventPoller>(
+    manager: &mut Manager<L, T, P>,
+    id: SubscriberId,
+    events: Events,
+) -> Result<(), Fault> {
+    again!(
+        CallName::EventOpsAdd,
+        add(manager, id, events),
+        is_not_own(manager, id, events)
+    )
+}
+
+/// How many events the subscriber was given.
+pub fn heard<L: Ledger, T: Ledger, P: EventPoller>(
+    manager: &mut Manager<L, T, P>,
+    id: SubscriberId,
+) -> Result<u64, Fault> {
+    match manager.subscriber_mut(id) {
+        Ok(watcher) => Ok(watcher.heard()),
+        Err(error) => Err(error.of_call(CallName::SubscriberMut)),
+    }
+}
+
+/// Joins, requests and a delivery over a table.
+#[derive(Drop)]
+struct Joining<'a, R> {
+    rt: &'a R,
+    alloc: Global,
+    /// Each is its subscriber's own.
+    own: &'a [EventFd],
+    /// Those that the first subscriber asks for beside its own.
+    others: &'a [EventFd],
+}
+
+impl<R: Loop> Joining<'_, R> {
+    /// Takes a subscriber in for each of the own counters, and answers the ids.
+    fn join_all<L: Ledger, T: Ledger, P: EventPoller>(
+        &self,
+        manager: &mut Manager<L, T, P>,
+    ) -> Result<Vec<SubscriberId>, Fault> {
+        let mut ids = again!(
+            CallName::ListOfIds,
+            Vec::with_capacity(self.alloc, self.own.len())
+        )?;
+        for counter in self.own {
+            let id = join(manager, Events::new(counter, EventSet::IN), self.alloc)?;
+            named(CallName::ListOfIds, ids.push(id))?;
+            expect(CallName::AddSubscriber, id.number() == ids.len() as u64)?;
+        }
+        println!(self.rt; "add_subscriber: ids 1 to {}", ids.len())?;
+        println!(self.rt; "EventOps::add of init: {} descriptors", ids.len())?;
+        Ok(ids)
+    }
+
+    /// Adds the descriptor of each other counter for the subscriber.
+    fn ask_for_others<L: Ledger, T: Ledger, P: EventPoller>(
+        &self,
+        manager: &mut Manager<L, T, P>,
+        id: SubscriberId,
+    ) -> Result<(), Fault> {
+        for counter in self.others {
+            ask(manager, id, Events::new(counter, EventSet::IN))?;
+        }
+        println!(self.rt; "EventOps::add: {} descriptors", self.others.len())?;
+        Ok(())
+    }
+
+    /// Makes all counters ready.
+    fn write_all(&self) -> Result<(), Fault> {
+        for counters in [self.own, self.others] {
+            for counter in counters {
+                named(CallName::EventFdWrite, counter.write(1, self.rt))?;
+            }
+        }
+        Ok(())
+    }
+}
+
+impl<R: Loop> Body for Joining<'_, R> {
+    fn run<L: Ledger + Send + Sync, T: Ledger + Send + Sync, P: EventPoller + Drop>(
+        &self,
+        manager: Manager<L, T, P>,
+    ) -> Result<(), Fault> {
+        let (mut manager, rt) = (manager, self.rt);
+        let ids = self.join_all(&mut manager)?;
+        let (Some(first), Some(last)) = (ids.first().copied(), ids.last().copied()) else {
+            return Err(Fault::Answer(CallName::AddSubscriber));
+        };
+        self.ask_for_others(&mut manager, first)?;
+        self.write_all()?;
+        let count = named(CallName::Run, manager.run_with_timeout(0, rt))?;
+        let by_first = heard(&mut manager, first)?;
+        let by_last = heard(&mut manager, last)?;
+        println!(rt; "run: {count} events, {by_first} to the first and {by_last} to the last")?;
+        Ok(())
+    }
+}
+
+/// Opens 20 counters, whose descriptors are the numbers from the first up.
+fn open_counters<R: Host>(
+    epoll: &mut Epoll<R>,
+    first: RawFd,
+    rt: &R,
+    alloc: Global,
+) -> Result<Vec<EventFd>, Fault> {
+    let mut counters = again!(CallName::ListCounters, Vec::with_capacity(alloc, 20))?;
+    for k in 0..COUNT {
+        let counter = open_counter(epoll, first.saturating_add(k), rt)?;
+        named(CallName::ListCounters, counters.push(counter))?;
+    }
+    Ok(counters)
+}
+
+/// Makes a manager over a table, takes subscribers in, and delivers an event of each descriptor. A request that was
+/// refused left the poller as it was: else the table would refuse the second one.
+pub fn join_over_a_table<R: Host>(rt: &R, alloc: Global) -> Result<(), Fault> {
+    let mut on_table = open_table(rt, alloc)?;
+    let own = open_counters(&mut on_table.epoll, 1, rt, alloc)?;
+    let others = open_counters(&mut on_table.epoll, 21, rt, alloc)?;
+    let joining = Joining {
+        rt,
+        alloc,
+        own: &own,
+        others: &others,
+    };
+    over_table(alloc, &mut on_table, None, &joining)?;
+    println!(rt; "EventManager::new: ok")?;
+    Ok(())
+}

@@ -1,0 +1,123 @@
+//! Lists of calls, and lists of steps of a queue.
+
+use crate::again::again;
+use crate::call_name::CallName;
+use crate::fault::{Fault, expect, expect_unchanged, named};
+use crate::host::{Host, Loop};
+use crate::joins::{heard, join};
+use crate::making::{Body, Manager, over_script};
+use crate::tables::event_of;
+use crate::watcher::Watcher;
+use event_manager::drive::drive;
+use event_manager::jobs::{Outcome, Step, replay};
+use event_manager::{Call, Error, EventPoller, EventSet, Events, Reply, SubscriberId};
+use std::alloc::Global;
+use std::sync::ledger::Ledger;
+
+/// A list of calls over a script.
+#[derive(Drop)]
+struct Driving<'a, R> {
+    rt: &'a R,
+    alloc: Global,
+}
+
+impl<R: Loop> Driving<'_, R> {
+    /// A run, another value for the first id, a run, and a leave of the second id.
+    fn calls(
+        &self,
+        first: SubscriberId,
+        second: SubscriberId,
+    ) -> Result<Vec<Call<Watcher>>, Fault> {
+        let other = Watcher::new(Events::new_raw(3, EventSet::IN), self.alloc);
+        let calls = vec![in self.alloc;
+            Call::Run(0),
+            Call::Set(first, other),
+            Call::Run(0),
+            Call::Remove(second),
+        ];
+        named(CallName::ListCalls, calls)
+    }
+}
+
+/// Whether these are the replies: two events each run, one of them to the first subscriber's value each time.
+fn are_replies(replies: &[Reply<Watcher>]) -> bool {
+    match replies {
+        [
+            Reply::Ran(Ok(2)),
+            Reply::Set(Ok(before)),
+            Reply::Ran(Ok(2)),
+            Reply::Removed(Ok(left)),
+        ] => before.heard() == 1 && left.heard() == 2,
+        _ => false,
+    }
+}
+
+impl<R: Loop> Body for Driving<'_, R> {
+    fn run<L: Ledger + Send + Sync, T: Ledger + Send + Sync, P: EventPoller + Drop>(
+        &self,
+        manager: Manager<L, T, P>,
+    ) -> Result<(), Fault> {
+        let (mut manager, alloc, rt) = (manager, self.alloc, self.rt);
+        let first = join(&mut manager, Events::new_raw(1, EventSet::IN), alloc)?;
+        let second = join(&mut manager, Events::new_raw(2, EventSet::IN), alloc)?;
+        let mut replies = Vec::new(alloc);
+        again!(
+            CallName::Drive,
+            drive(
+                alloc,
+                &mut manager,
+                again!(CallName::ListCalls, self.calls(first, second))?,
+                &mut replies,
+                rt
+            ),
+            replies.is_empty() && heard(&mut manager, first)? == 0
+        )?;
+        expect(
+            CallName::Drive,
+            are_replies(&replies) && heard(&mut manager, first)? == 1,
+        )?;
+        println!(rt; "drive: {} replies", replies.len())?;
+        Ok(())
+    }
+}
+
+/// Makes a manager over a script, and drives it by a list of calls.
+pub fn drive_over_a_script<R: Host>(rt: &R, alloc: Global) -> Result<(), Fault> {
+    let entries = [event_of(1), event_of(2)];
+    over_script(rt, alloc, &entries, 2, &Driving { rt, alloc })
+}
+
+/// Two sends, a take, a send, a close and a send.
+fn steps(alloc: Global) -> Result<Vec<Step<char>>, Fault> {
+    let steps = vec![in alloc;
+        Step::Send('a', Ok(())),
+        Step::Send('b', Ok(())),
+        Step::Take,
+        Step::Send('c', Ok(())),
+        Step::Close,
+        Step::Send('d', Ok(())),
+    ];
+    named(CallName::ListSteps, steps)
+}
+
+/// Whether the outcome is that of the steps.
+fn is_outcome(outcome: &Outcome<char>) -> bool {
+    outcome.answers.as_slice() == [Ok(1), Ok(2), Ok(3), Err(Error::ChannelSend)].as_slice()
+        && outcome.taken.as_slice() == [(1, 'a'), (2, 'b')].as_slice()
+}
+
+/// Does steps again on a new queue.
+pub fn replay_steps<R: Host>(rt: &R, alloc: Global) -> Result<(), Fault> {
+    let steps_again = again!(
+        CallName::Replay,
+        replay(rt, alloc, again!(CallName::ListSteps, steps(alloc))?)
+    );
+    let outcome = steps_again?;
+    expect(CallName::Replay, is_outcome(&outcome))?;
+    println!(rt;
+        "replay: {} answers, {} taken",
+        outcome.answers.len(),
+        outcome.taken.len()
+    )?;
+    Ok(())
+}

@@ -1,0 +1,136 @@
+//! Tables and scripts of one owner.
+
+use crate::again::again;
+use crate::call_name::CallName;
+use crate::fault::{Fault, expect, expect_unchanged, named};
+use crate::host::{Host, mark};
+use std::alloc::Global;
+use vmm_sys::epoll::{ControlOperation, EpollEvent, EventSet, RawFd};
+use vmm_sys::errno::Errno;
+use vmm_sys::poller::Poller;
+use vmm_sys::script_poller::ScriptPoller;
+use vmm_sys::table::Table;
+
+/// How many counters and how many lines are opened, and how many reports, faults and refusals are pushed.
+const COUNT: u16 = 9;
+
+/// An event whose word is the descriptor.
+pub fn event_of(fd: RawFd) -> EpollEvent {
+    EpollEvent::new(EventSet::IN, fd.unsigned_abs() as u64)
+}
+
+/// Opens counters of value 1 and lines in turn, and registers each.
+fn fill(table: &mut Table) -> Result<(), Fault> {
+    for k in 0..COUNT {
+        let counter = 2 * k as RawFd;
+        let line = counter + 1;
+        let name = CallName::AddCounter;
+        let unopened = table.write(counter, 0) == Err(Errno::EBADF);
+        let fd = again!(
+            name,
+            table.add_counter(1),
+            table.write(counter, 0) == Err(Errno::EBADF)
+        )?;
+        expect(
+            name,
+            unopened && fd == counter && table.write(fd, 0) == Ok(()),
+        )?;
+        let name = CallName::AddLine;
+        let set = EventSet::empty();
+        let fd = again!(
+            name,
+            table.add_line(),
+            table.set_line(line, set) == Err(Errno::EBADF)
+        )?;
+        expect(name, fd == line && table.set_line(fd, set) == Ok(()))?;
+        for fd in [counter, line] {
+            named(
+                CallName::TableCtl,
+                table.ctl(ControlOperation::Add, fd, event_of(fd)),
+            )?;
+        }
+    }
+    Ok(())
+}
+
+/// Fills a table, and prints what a wait of it reports, which takes no memory.
+pub fn wait_on_a_table<R: Host>(rt: &R, alloc: Global) -> Result<(), Fault> {
+    let mut table = Table::new(alloc);
+    fill(&mut table)?;
+    println!(rt; "add_counter: the last of 9 is descriptor 16")?;
+    println!(rt; "add_line: the last of 9 is descriptor 17")?;
+    let mut buffer = [event_of(0); 16];
+    mark(rt)?;
+    let waited = table.wait(&mut buffer);
+    mark(rt)?;
+    let count = named(CallName::TableWait, waited)?;
+    println!(rt; "between marks: Table::wait reports {count}")?;
+    Ok(())
+}
+
+/// A report of these entries.
+pub fn report_of(entries: &[EpollEvent], alloc: Global) -> Result<Vec<EpollEvent>, Fault> {
+    let mut report = again!(
+        CallName::Report,
+        Vec::with_capacity(alloc, entries.len()),
+        true
+    )?;
+    named(CallName::Report, report.extend_from_slice(entries))?;
+    Ok(report)
+}
+
+/// Appends a report to the script.
+pub fn push_report(
+    script: &mut ScriptPoller,
+    entries: &[EpollEvent],
+    alloc: Global,
+) -> Result<(), Fault> {
+    again!(
+        CallName::PushReport,
+        script.push_report(report_of(entries, alloc)?),
+        true
+    )
+}
+
+/// Whether the script answers one wait and one change for each push of `pushed_script`, as pushed.
+fn answers_as_pushed(script: &mut ScriptPoller) -> bool {
+    let mut buffer = [event_of(99); 2];
+    for k in 0..COUNT {
+        let fd = k as RawFd;
+        if script.wait(0, &mut buffer) != Err(Errno::EINTR) {
+            return false;
+        }
+        if script.wait(0, &mut buffer) != Ok(1) || buffer[0] != event_of(fd) {
+            return false;
+        }
+        let event = event_of(fd);
+        if script.ctl(ControlOperation::Add, fd, event) != Err(Errno(fd)) {
+            return false;
+        }
+        if script.ctl(ControlOperation::Add, fd, event) != Ok(()) {
+            return false;
+        }
+    }
+    script.wait(0, &mut buffer) == Ok(0)
+}
+
+/// Pushes faults, reports and refusals in turn. A refused push would show in the answers, which are then taken.
+pub fn push_a_script<R: Host>(rt: &R, alloc: Global) -> Result<(), Fault> {
+    let mut script = ScriptPoller::new(alloc);
+    for k in 0..COUNT {
+        let fd = k as RawFd;
+        again!(CallName::PushFault, script.push_fault(Errno::EINTR), true)?;
+        push_report(&mut script, &[event_of(fd)], alloc)?;
+        let op = ControlOperation::Add;
+        again!(
+            CallName::PushRefusal,
+            script.push_refusal(op, fd, Errno(fd)),
+            true
+        )?;
+    }
+    expect(CallName::PushedScript, answers_as_pushed(&mut script))?;
+    println!(rt; "push_fault: 9 answered")?;
+    println!(rt; "push_report: 9 answered")?;
+    println!(rt; "push_refusal: 9 answered")?;
+    Ok(())
+}
