@@ -13,10 +13,11 @@ use std::time::Clock;
 use vmm_sys::epoll::Epoll;
 use vmm_sys::eventfd::EventFd;
 
-/// Asks for its bell when it joins, and counts the events that it is given.
+/// Asks for its bell when it joins, keeps the answer, and counts the events that it is given.
 #[derive(Drop)]
 struct Doorman {
     bell: Events,
+    asked: event_manager::Result<()>,
     heard: u64,
 }
 
@@ -34,7 +35,7 @@ impl MutEventSubscriber for Doorman {
     }
 
     fn init<P: EventPoller>(&mut self, ops: &mut EventOps<P>) {
-        let _ = ops.add(self.bell);
+        self.asked = ops.add(self.bell);
     }
 }
 
@@ -62,8 +63,10 @@ impl<R: Wait + Clock + Clone + Send + Drop> WithLedgers for TwoRuns<'_, R> {
         )?;
         let id = manager.add_subscriber(Doorman {
             bell: self.bell,
+            asked: Ok(()),
             heard: 0,
         })?;
+        manager.subscriber_mut(id)?.asked?;
         manager.run(self.rt)?;
         manager.run(self.rt)?;
         Ok(manager.remove_subscriber(id)?.heard)
