@@ -1,0 +1,69 @@
+//! Why the program ends early.
+
+use std::alloc::{AllocError, AllocFailed};
+use std::io;
+use thiserror::Error;
+use vmm_sys::errno::Errno;
+
+/// Its text is what the program prints on standard error after `soak: `.
+#[derive(Debug, Drop, Error)]
+pub enum Fault {
+    /// The argument is no number of rounds.
+    #[error("no number of rounds: {0}")]
+    Rounds(String),
+
+    /// The manager refused a call.
+    #[error(transparent)]
+    Manager(#[from] event_manager::Error),
+
+    /// The table or a descriptor refused a call.
+    #[error("a descriptor: {0}")]
+    Descriptor(#[from] Errno),
+
+    /// Memory was refused.
+    #[error("out of memory")]
+    Memory,
+
+    /// The arguments could not be read, or a line could not be written.
+    #[error("arguments or output: {0}")]
+    System(#[from] io::Error),
+
+    /// A job gave the reply of another one.
+    #[error("the reply of another job")]
+    Reply,
+
+    /// A number is another than it must be.
+    #[error("{what}: {counted}, and not {expected}")]
+    Count {
+        /// What was counted.
+        what: &'static str,
+        /// How many there were.
+        counted: u64,
+        /// How many there must be.
+        expected: u64,
+    },
+}
+
+impl From<AllocError> for Fault {
+    fn from(_error: AllocError) -> Fault {
+        Fault::Memory
+    }
+}
+
+impl<T: Drop> From<AllocFailed<T>> for Fault {
+    fn from(_error: AllocFailed<T>) -> Fault {
+        Fault::Memory
+    }
+}
+
+/// `Count` where it isn't so many.
+pub fn expect(what: &'static str, counted: u64, expected: u64) -> Result<(), Fault> {
+    if counted == expected {
+        return Ok(());
+    }
+    Err(Fault::Count {
+        what,
+        counted,
+        expected,
+    })
+}
