@@ -122,12 +122,12 @@ impl<R: Loop> Joining<'_, R> {
         manager: &mut Manager<L, T, P>,
     ) -> Result<Vec<SubscriberId>, Fault> {
         let mut ids = again!(
-            CallName::ListOfIds,
+            CallName::ListIds,
             Vec::with_capacity(self.alloc, self.own.len())
         )?;
         for counter in self.own {
             let id = join(manager, Events::new(counter, EventSet::IN), self.alloc)?;
-            named(CallName::ListOfIds, ids.push(id))?;
+            named(CallName::ListIds, ids.push(id))?;
             expect(CallName::AddSubscriber, id.number() == ids.len() as u64)?;
         }
         println!(self.rt; "add_subscriber: ids 1 to {}", ids.len())?;
