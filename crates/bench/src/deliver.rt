@@ -1,5 +1,7 @@
 //! What a delivered event costs.
 
+ghost use Rattle.std.specs.Prelude.{◌≤ℤ◌, pos};
+
 use crate::arguments::{Family, Size};
 use crate::bench::{Bench, Host, Measured};
 use crate::fault::{Fault, expect};
@@ -7,16 +9,31 @@ use crate::fixed::{BATCH, Fixed};
 use crate::over_fixed::{Manager, ManagerMeasure, measure, run_rounds};
 use crate::subscribers::{Counter, FIRST};
 use crate::timing::{REPEATS, Times};
-use event_manager::{EventPoller, SubscriberOps};
+use event_manager::{EventPoller, EventSet, Events, Priority, SubscriberId, SubscriberOps};
 use std::alloc::Global;
 use std::sync::Wait;
 use std::sync::ledger::Ledger;
 use std::time::Clock;
 
+/// A descriptor that no wait reports.
+const UNREPORTED: i32 = 60000;
+
+/// Which priorities the descriptors have.
+#[derive(Clone, Copy)]
+enum Priorities {
+    /// The lowest.
+    Lowest,
+    /// The lowest, but for one descriptor beside them that is never reported.
+    OneElsewhere,
+    /// Each of the four in turn.
+    Four,
+}
+
 /// Batches of 256 events for so many subscribers with one descriptor each.
 #[derive(Clone, Copy)]
 struct Deliver {
     subscribers: u16,
+    priorities: Priorities,
     rounds_before: u32,
     rounds: u32,
 }
@@ -26,7 +43,13 @@ impl ManagerMeasure for Deliver {
 
     fn name(&self, alloc: Global) -> Result<String, Fault> {
         let subscribers = self.subscribers;
-        Ok(format!(in alloc; "deliver, {subscribers} subscribers")?)
+        Ok(match self.priorities {
+            Priorities::Lowest => format!(in alloc; "deliver, {subscribers} subscribers")?,
+            Priorities::OneElsewhere => {
+                format!(in alloc; "deliver, {subscribers}, a priority elsewhere")?
+            }
+            Priorities::Four => format!(in alloc; "deliver, {subscribers}, four priorities")?,
+        })
     }
 
     fn poller(&self, alloc: Global) -> Result<Fixed, Fault> {
@@ -46,8 +69,10 @@ impl ManagerMeasure for Deliver {
         let (batch, rounds) = (BATCH as u64, self.rounds);
         let mut ids = Vec::new(alloc);
         for k in 0..self.subscribers {
-            let counter = Counter::new(FIRST as i32 + k as i32, 1);
-            ids.push(manager.add_subscriber(counter)?)?;
+            let fd = FIRST as i32 + k as i32;
+            let id = manager.add_subscriber(Counter::new(fd, 1))?;
+            ids.push(id)?;
+            self.give_priority(manager, id, fd)?;
         }
         run_rounds(manager, self.rounds_before, batch, rt)?;
         let times = Times::of(|| run_rounds(manager, rounds, batch, rt), rt)?;
@@ -64,15 +89,54 @@ impl ManagerMeasure for Deliver {
     }
 }
 
+impl Deliver {
+    /// Gives the subscriber's descriptor its priority. `Manager`.
+    fn give_priority<L: Ledger, T: Ledger, P: EventPoller>(
+        &self,
+        manager: &mut Manager<Counter, L, T, P>,
+        id: SubscriberId,
+        fd: i32,
+    ) -> Result<(), Fault>
+        requires { pos 0 ≤ℤ fd }
+    {
+        match self.priorities {
+            Priorities::Lowest => {}
+            Priorities::OneElsewhere if fd == FIRST as i32 => {
+                let elsewhere = Events::new_raw(UNREPORTED, EventSet::IN);
+                manager
+                    .event_ops(id)?
+                    .add_with_priority(elsewhere, Priority::Low)?;
+            }
+            Priorities::OneElsewhere => {}
+            Priorities::Four => {
+                let own = Events::new_raw(fd, EventSet::IN);
+                let priority = Priority::new((fd % 4) as u8).unwrap_or(Priority::Lowest);
+                let ops = manager.event_ops(id)?;
+                ops.remove(own)?;
+                ops.add_with_priority(own, priority)?;
+            }
+        }
+        Ok(())
+    }
+}
+
 /// Measures a delivery at each wanted size.
 pub fn measure_deliveries<R: Host>(bench: &Bench<R>) -> Result<(), Fault> {
     if !bench.wanted.has_family(Family::Deliver) {
         return Ok(());
     }
     for (size, subscribers) in [(Size::Small, 16), (Size::Middle, 256), (Size::Large, 4096)] {
-        if bench.wanted.has_size(size) {
+        if !bench.wanted.has_size(size) {
+            continue;
+        }
+        for priorities in [
+            Priorities::Lowest,
+            Priorities::OneElsewhere,
+            Priorities::Four,
+        ] {
             let deliver = Deliver {
                 subscribers,
+                priorities,
                 rounds_before: bench.rounds(1000),
                 rounds: bench.rounds(20000),
             };

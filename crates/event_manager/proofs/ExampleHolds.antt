@@ -1,8 +1,10 @@
 -- The example is a trace.
-use Rattle.std.proofs.Common.{◌≡◌, ℕ, true≢false, refl, ap, [], ◌∷◌, Some, None, Ok, lit<, nat_cmp, ◌==◌}
+use Rattle.std.proofs.Common.{◌≡◌, ℕ, true≢false, refl, ap, [], ◌∷◌, Some, None, Ok, lit<, arith, nat_cmp, ◌==◌}
 use Rattle.std.specs.FinMap.{get, insert, remove, empty, get-empty, get-insert, get-remove}
 use Rattle.std.specs.Cmp.{nat_cmp_total}
 use Rattle.event_manager.specs.Registrations.{Registrations}
+use Rattle.event_manager.specs.DispatchOrder.{class_of}
+use Rattle.event_manager.proofs.DispatchOrders.{ordered_already}
 use Rattle.event_manager.specs.Exchange.{by_agreement, call_for}
 use Rattle.event_manager.specs.Iteration.{ManagerState}
 use Rattle.event_manager.specs.Trace.{HasEffect, new_state}
@@ -15,17 +17,17 @@ not_end e = true≢false (ap (λ x. 3 == x) e)
 -- the registrations after a join, and after the exchanges
 abbrev joined : ManagerState ℕ
 joined = record {
-  registry = record { values = insert empty 1 0; next = 2; registrations = record { owner = insert empty 3 1; endpoint = 9; pending = [] } };
+  registry = record { values = insert empty 1 0; next = 2; registrations = record { owner = insert empty 3 1; priority = insert empty 3 0; endpoint = 9; pending = [] } };
   taken = 0;
 }
 
 pub example_joins : HasEffect any_begins any_serves any_may (new_state 9) joins joined
 example_joins = (
   (
-    record { owner = insert empty 3 1; endpoint = 9; pending = [] },
+    record { owner = insert empty 3 1; priority = insert empty 3 0; endpoint = 9; pending = [] },
     lit< tt,
     refl,
-    (call_for (Add three) (Ok tt) ∷ [], [], record { owner = insert empty 3 1; endpoint = 9; pending = [] }, refl, by_agreement (get-empty nat_cmp 3, not_end) refl refl refl, (refl, refl)),
+    (call_for (Add three) (Ok tt) ∷ [], [], record { owner = insert empty 3 1; priority = insert empty 3 0; endpoint = 9; pending = [] }, refl, by_agreement (get-empty nat_cmp 3, not_end) refl refl refl, (refl, refl)),
     tt,
     refl,
   ),
@@ -34,10 +36,10 @@ example_joins = (
 
 -- after the exchanges in the first event
 abbrev removed : Registrations
-removed = record { owner = remove (insert empty 3 1) 3; endpoint = 9; pending = [] }
+removed = record { owner = remove (insert empty 3 1) 3; priority = remove (insert empty 3 0) 3; endpoint = 9; pending = [] }
 
 abbrev added : Registrations
-added = record { owner = insert (remove (insert empty 3 1) 3) 3 1; endpoint = 9; pending = [] }
+added = record { owner = insert (remove (insert empty 3 1) 3) 3 1; priority = insert (remove (insert empty 3 0) 3) 3 0; endpoint = 9; pending = [] }
 
 abbrev iterated : ManagerState ℕ
 iterated = record { registry = record { values = insert (insert empty 1 0) 1 1; next = 2; registrations = added }; taken = 0 }
@@ -52,7 +54,7 @@ pub example_iterations : HasEffect any_begins any_serves any_may joined iterates
 example_iterations = (
   iterated.registry,
   (
-    refl,
+    ordered_already (λ fd. class_of joined.registry.registrations fd) (three ∷ three ∷ []) ((omega arith, tt), (tt, tt)),
     (
       iterated.registry,
       (

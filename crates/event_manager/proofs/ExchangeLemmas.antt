@@ -4,14 +4,15 @@ use Rattle.std.proofs.lemmas.List.{append-nil}
 use Rattle.std.proofs.lemmas.Bool.Decides.{nat_tests}
 use Rattle.event_manager.specs.Event.{Event}
 use Rattle.event_manager.specs.PollerCall.{PollerCall, Control, Wait}
-use Rattle.event_manager.specs.Exchange.{Exchanges, ExchangesFit, Fits, Answer, IsVacant, IsRefusedByManager, by_manager, by_poller, by_agreement, removes, is_removal}
+use Rattle.event_manager.specs.Exchange.{Exchanges, ExchangesFit, Fits, Answer, IsVacant, IsAdditionRefused, by_manager, by_poller, by_agreement, removes, is_removal}
 use Rattle.event_manager.specs.Registrations.{Registrations, not_on}
 use Rattle.event_manager.specs.RegistrationState.{RegistrationState, not_cancelled, registrations_of, cancel_on, cancel_removed}
 use Rattle.event_manager.specs.PollerCall.{Controls, Waits, Leads}
 use Rattle.event_manager.specs.Requests.{AreMade, AreMadeThrough}
 use Rattle.event_manager.specs.declared.error.Error.{Error}
 use Rattle.event_manager.specs.declared.events.Request.{Request}
-use Rattle.event_manager.specs.declared.events.Request.TheVariants.{Add, Modify, Remove}
+use Rattle.event_manager.specs.declared.events.Request.TheVariants.{Add, AddWithPriority, Modify, Remove}
+use Rattle.event_manager.specs.declared.priority.Priority.TheVariants.{Lowest}
 use Rattle.event_manager.specs.declared.epoll.EpollWrapper.{EpollWrapper}
 use Rattle.event_manager.specs.declared.events.EventOps.{EventOps}
 
@@ -88,9 +89,29 @@ module _ {P : Type 0} {controls : Controls P} {waits : Waits P} where
       one_made_through same_id (subst (λ r. Fits b.id (registrations_of b.epoll.registrations) request answer calls (registrations_of r)) (sym same) fit)
       (ap (λ (r : RegistrationState). r.ready) same ∙ cancel_removed_other request answer none b.epoll.registrations.ready) led (ap (λ (r : RegistrationState). r.capacity) same)
 
-pub refused_by_manager : (i : ℕ) (registrations : Registrations) (e : Event) (x : Error) → IsVacant registrations e (Err x) → IsRefusedByManager i registrations (Add e) (Err x)
-refused_by_manager i registrations e x (inl h) = inl (h.0, ap Err h.1)
-refused_by_manager i registrations e x (inr h) = inr (inl (h.0, h.1, ap Err h.2))
+pub refused_by_manager : (registrations : Registrations) (e : Event) (x : Error) → IsVacant registrations e (Err x) → IsAdditionRefused registrations e (Err x)
+refused_by_manager registrations e x (inl h) = inl (h.0, ap Err h.1)
+refused_by_manager registrations e x (inr h) = inr (inl (h.0, h.1, ap Err h.2))
+
+-- an addition at the lowest priority is one without a priority
+lowest_fits : (i : ℕ) (b : Registrations) (e : Event) (answer : Answer) (calls : List PollerCall) (a : Registrations) → Fits i b (AddWithPriority e Lowest) answer calls a → Fits i b (Add e) answer calls a
+lowest_fits i b e answer calls a (by_manager why none same) = by_manager why none same
+lowest_fits i b e answer calls a (by_poller n reaches one is same) = by_poller n reaches one is same
+lowest_fits i b e answer calls a (by_agreement reaches one is same) = by_agreement reaches one is same
+
+pub lowest_made : {P : Type 0} {controls : Controls P} {waits : Waits P} (before after : EventOps P) (e : Event) (answer : Answer) (calls : List PollerCall)
+    → AreMadeThrough controls waits before after ((AddWithPriority e Lowest, answer) ∷ []) calls → AreMadeThrough controls waits before after ((Add e, answer) ∷ []) calls
+lowest_made before after e answer calls h =
+    let (first, rest, mid, joined, fit, over) = h.made.fits in
+    record {
+      same_id = h.same_id;
+      made = record {
+        fits = (first, rest, mid, joined, lowest_fits before.id (registrations_of before.epoll.registrations) e answer first mid fit, over);
+        ready = h.made.ready;
+        led = h.made.led;
+        same_capacity = h.made.same_capacity;
+      };
+    }
 
 pub fits_join : (i : ℕ) (b m a : Registrations) (t u : Exchanges) (xs ys : List PollerCall) → ExchangesFit i b t xs m → ExchangesFit i m u ys a → ExchangesFit i b (t ++ u) (xs ++ ys) a
 fits_join i b m a [] u xs ys f g = subst (λ z. ExchangesFit i b u (z ++ ys) a) (sym f.0) (subst (λ z. ExchangesFit i z u ys a) f.1 g)
@@ -124,12 +145,15 @@ nothing_pending registrations = record registrations { pending = [] }
 
 idle_fit : (i : ℕ) (b : Registrations) (request : Request) (answer : Answer) (calls : List PollerCall) (a : Registrations) → Fits i b request answer calls a → Fits i (nothing_pending b) request answer calls (nothing_pending a)
 idle_fit i b (Add e) answer calls a (by_manager why none same) = by_manager why none (ap nothing_pending same)
+idle_fit i b (AddWithPriority e priority) answer calls a (by_manager why none same) = by_manager why none (ap nothing_pending same)
 idle_fit i b (Modify e) answer calls a (by_manager why none same) = by_manager why none (ap nothing_pending same)
 idle_fit i b (Remove e) answer calls a (by_manager why none same) = by_manager why none (ap nothing_pending same)
 idle_fit i b (Add e) answer calls a (by_poller n reaches one is same) = by_poller n reaches one is (ap nothing_pending same)
+idle_fit i b (AddWithPriority e priority) answer calls a (by_poller n reaches one is same) = by_poller n reaches one is (ap nothing_pending same)
 idle_fit i b (Modify e) answer calls a (by_poller n reaches one is same) = by_poller n reaches one is (ap nothing_pending same)
 idle_fit i b (Remove e) answer calls a (by_poller n reaches one is same) = by_poller n reaches one is (ap nothing_pending same)
 idle_fit i b (Add e) answer calls a (by_agreement reaches one is same) = by_agreement reaches one is (ap nothing_pending same)
+idle_fit i b (AddWithPriority e priority) answer calls a (by_agreement reaches one is same) = by_agreement reaches one is (ap nothing_pending same)
 idle_fit i b (Modify e) answer calls a (by_agreement reaches one is same) = by_agreement reaches one is (ap nothing_pending same)
 idle_fit i b (Remove e) answer calls a (by_agreement reaches one is same) = by_agreement reaches one is (ap nothing_pending same)
 
@@ -141,6 +165,7 @@ fit_keeps_endpoint : (i : ℕ) (b : Registrations) (request : Request) (answer :
 fit_keeps_endpoint i b request answer calls a (by_manager why none same) = ap (λ (r : Registrations). r.endpoint) same
 fit_keeps_endpoint i b request answer calls a (by_poller n reaches one is same) = ap (λ (r : Registrations). r.endpoint) same
 fit_keeps_endpoint i b (Add e) answer calls a (by_agreement reaches one is same) = ap (λ (r : Registrations). r.endpoint) same
+fit_keeps_endpoint i b (AddWithPriority e priority) answer calls a (by_agreement reaches one is same) = ap (λ (r : Registrations). r.endpoint) same
 fit_keeps_endpoint i b (Modify e) answer calls a (by_agreement reaches one is same) = ap (λ (r : Registrations). r.endpoint) same
 fit_keeps_endpoint i b (Remove e) answer calls a (by_agreement reaches one is same) = ap (λ (r : Registrations). r.endpoint) same
 

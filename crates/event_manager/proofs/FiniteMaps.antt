@@ -1,9 +1,9 @@
 -- Maps with only one id's entries.
-use Rattle.std.proofs.Common.{◌≡◌, ◌≢◌, ℕ, ◌==◌, cond, Bool, true, false, not, refl, sym, ◌∙◌, ap, arith, Some, None, Option, ◌⊎◌, inl, inr, nat_cmp, eq-eqb, ne_eqb, is_eq, Equal}
+use Rattle.std.proofs.Common.{◌≡◌, ◌≢◌, ℕ, ◌==◌, cond, Bool, true, false, not, refl, sym, ◌∙◌, ap, Some, None, Option, ◌⊎◌, inl, inr, nat_cmp, eq-eqb, eqb-true, ne_eqb, is_eq, Equal}
 use Rattle.std.specs.Ordering.{eq_by_cmp}
 use Rattle.std.specs.FinMap.{FinMap, get, insert, remove, same_map, get-insert, get-remove, get-retain_keys, nat_cmp-IsAntisymmetric}
 use Rattle.std.specs.Cmp.{nat_cmp_total, Equal-is, nat_cmp_is}
-use Rattle.std.proofs.lemmas.Bool.Decides.{nat_tests, Decides-eqb, eqb_tells, same_from_decides}
+use Rattle.std.proofs.lemmas.Bool.Decides.{Decides-eqb, eqb_tells, same_from_decides}
 use Rattle.event_manager.specs.Registry.{is_id, without_owner}
 use Rattle.event_manager.specs.Projection.{owned_by, only_values}
 
@@ -18,86 +18,94 @@ same_tests a b = same_from_decides _ _ (nat_tied a b, λ e. ap (λ x. eq_by_cmp 
 pub fd_tells : (a b : ℕ) → ((eq_by_cmp nat_cmp a b ≡ true) × (a ≡ b) × ((a == b) ≡ true)) ⊎ ((eq_by_cmp nat_cmp a b ≡ false) × (a ≢ b) × ((a == b) ≡ false))
 fd_tells a b = elim (eqb_tells a b) [ inl p ↦ inl (same_tests a b ∙ p.0, p.1, p.0) | inr p ↦ inr (same_tests a b ∙ p.0, p.1, p.0) ]
 
--- what a map of one id's descriptors answers
-pub get-owned_by : (i : ℕ) (owner : FinMap nat_cmp ℕ) (fd : ℕ) → get (owned_by i owner) fd ≡ cond (is_id i (get owner fd)) (get owner fd) None
-get-owned_by i owner fd = get-retain_keys owner _ fd (λ x e. ap (λ y. is_id i (get owner y)) (sym (nat_cmp-IsAntisymmetric fd x e)))
+-- what a map of one id's descriptors answers; of all but those
+pub get-owned_by : (i : ℕ) (owner entries : FinMap nat_cmp ℕ) (fd : ℕ) → get (owned_by i owner entries) fd ≡ cond (is_id i (get owner fd)) (get entries fd) None
+get-owned_by i owner entries fd = get-retain_keys entries _ fd (λ x e. ap (λ y. is_id i (get owner y)) (sym (nat_cmp-IsAntisymmetric fd x e)))
 
-pub get-without_owner : (i : ℕ) (owner : FinMap nat_cmp ℕ) (fd : ℕ) → get (without_owner i owner) fd ≡ cond (not (is_id i (get owner fd))) (get owner fd) None
-get-without_owner i owner fd = get-retain_keys owner _ fd (λ x e. ap (λ y. not (is_id i (get owner y))) (sym (nat_cmp-IsAntisymmetric fd x e)))
+pub get-without_owner : (i : ℕ) (owner entries : FinMap nat_cmp ℕ) (fd : ℕ) → get (without_owner i owner entries) fd ≡ cond (not (is_id i (get owner fd))) (get entries fd) None
+get-without_owner i owner entries fd = get-retain_keys entries _ fd (λ x e. ap (λ y. not (is_id i (get owner y))) (sym (nat_cmp-IsAntisymmetric fd x e)))
 
 pub get_only : {V : Type 0} (i : ℕ) (values : FinMap nat_cmp V) (j : ℕ) → get (only_values i values) j ≡ cond (j == i) (get values j) None
 get_only i values j = get-retain_keys values _ j (λ x e. ap (λ y. y == i) (sym (nat_cmp-IsAntisymmetric j x e)))
 
 -- adding one's own descriptor
-own_answer : (i : ℕ) (o : Option ℕ) (b : Bool) → cond (is_id i (cond b (Some i) o)) (cond b (Some i) o) None ≡ cond b (Some i) (cond (is_id i o) o None)
-own_answer i o true = grind (arith, nat_tests)
-own_answer i o false = refl
+own_answer : (i x : ℕ) (o p : Option ℕ) (b : Bool) → cond (is_id i (cond b (Some i) o)) (cond b (Some x) p) None ≡ cond b (Some x) (cond (is_id i o) p None)
+own_answer i x o p true = ap (λ t. cond t (Some x) None) (eq-eqb i i refl)
+own_answer i x o p false = refl
 
-pub owned_by-insert_own : (i : ℕ) (owner : FinMap nat_cmp ℕ) (fd : ℕ) → owned_by i (insert owner fd i) ≡ insert (owned_by i owner) fd i
-owned_by-insert_own i owner fd = same_map nat_cmp_total nat_cmp-IsAntisymmetric _ _ (λ q.
-    get-owned_by i (insert owner fd i) q
-    ∙ ap (λ o. cond (is_id i o) o None) (get-insert nat_cmp_total owner fd i q)
-    ∙ own_answer i (get owner q) (eq_by_cmp nat_cmp q fd)
-    ∙ sym (get-insert nat_cmp_total (owned_by i owner) fd i q ∙ ap (λ o. cond (eq_by_cmp nat_cmp q fd) (Some i) o) (get-owned_by i owner q)))
+pub owned_by-insert_own : (i x : ℕ) (owner entries : FinMap nat_cmp ℕ) (fd : ℕ) → owned_by i (insert owner fd i) (insert entries fd x) ≡ insert (owned_by i owner entries) fd x
+owned_by-insert_own i x owner entries fd = same_map nat_cmp_total nat_cmp-IsAntisymmetric _ _ (λ q.
+    get-owned_by i (insert owner fd i) (insert entries fd x) q
+    ∙ (λ k. cond (is_id i (get-insert nat_cmp_total owner fd i q k)) (get-insert nat_cmp_total entries fd x q k) None)
+    ∙ own_answer i x (get owner q) (get entries q) (eq_by_cmp nat_cmp q fd)
+    ∙ sym (get-insert nat_cmp_total (owned_by i owner entries) fd x q ∙ ap (λ o. cond (eq_by_cmp nat_cmp q fd) (Some x) o) (get-owned_by i owner entries q)))
 
 -- a neighbour adds a free one
-free_answer : (i j : ℕ) (o : Option ℕ) (b : Bool) → j ≢ i → (b ≡ true → o ≡ None) → cond (is_id i (cond b (Some j) o)) (cond b (Some j) o) None ≡ cond (is_id i o) o None
-free_answer i j o true differ is_free = rw (is_free refl) (grind (arith, nat_tests))
-free_answer i j o false differ is_free = refl
+free_answer : (i j x : ℕ) (o p : Option ℕ) (b : Bool) → j ≢ i → (b ≡ true → o ≡ None) → cond (is_id i (cond b (Some j) o)) (cond b (Some x) p) None ≡ cond (is_id i o) p None
+free_answer i j x o p true differ is_free = ap (λ t. cond t (Some x) None) (ne_eqb j i differ) ∙ sym (ap (λ t. cond (is_id i t) p None) (is_free refl))
+free_answer i j x o p false differ is_free = refl
 
-pub owned_by-insert_other : (i j : ℕ) (owner : FinMap nat_cmp ℕ) (fd : ℕ) → j ≢ i → get owner fd ≡ None → owned_by i (insert owner fd j) ≡ owned_by i owner
-owned_by-insert_other i j owner fd differ is_free = same_map nat_cmp_total nat_cmp-IsAntisymmetric _ _ (λ q.
-    get-owned_by i (insert owner fd j) q
-    ∙ ap (λ o. cond (is_id i o) o None) (get-insert nat_cmp_total owner fd j q)
-    ∙ free_answer i j (get owner q) (eq_by_cmp nat_cmp q fd) differ (λ e. ap (get owner) (nat_tied q fd e) ∙ is_free)
-    ∙ sym (get-owned_by i owner q))
+pub owned_by-insert_other : (i j x : ℕ) (owner entries : FinMap nat_cmp ℕ) (fd : ℕ) → j ≢ i → get owner fd ≡ None → owned_by i (insert owner fd j) (insert entries fd x) ≡ owned_by i owner entries
+owned_by-insert_other i j x owner entries fd differ is_free = same_map nat_cmp_total nat_cmp-IsAntisymmetric _ _ (λ q.
+    get-owned_by i (insert owner fd j) (insert entries fd x) q
+    ∙ (λ k. cond (is_id i (get-insert nat_cmp_total owner fd j q k)) (get-insert nat_cmp_total entries fd x q k) None)
+    ∙ free_answer i j x (get owner q) (get entries q) (eq_by_cmp nat_cmp q fd) differ (λ e. ap (get owner) (nat_tied q fd e) ∙ is_free)
+    ∙ sym (get-owned_by i owner entries q))
 
 -- removing one's own descriptor
-gone_answer : (i : ℕ) (o : Option ℕ) (b : Bool) → cond (is_id i (cond b None o)) (cond b None o) None ≡ cond b None (cond (is_id i o) o None)
-gone_answer i o true = refl
-gone_answer i o false = refl
+gone_answer : (i : ℕ) (o p : Option ℕ) (b : Bool) → cond (is_id i (cond b None o)) (cond b None p) None ≡ cond b None (cond (is_id i o) p None)
+gone_answer i o p true = refl
+gone_answer i o p false = refl
 
-pub owned_by-remove : (i : ℕ) (owner : FinMap nat_cmp ℕ) (fd : ℕ) → owned_by i (remove owner fd) ≡ remove (owned_by i owner) fd
-owned_by-remove i owner fd = same_map nat_cmp_total nat_cmp-IsAntisymmetric _ _ (λ q.
-    get-owned_by i (remove owner fd) q
-    ∙ ap (λ o. cond (is_id i o) o None) (get-remove nat_cmp_total owner fd q)
-    ∙ gone_answer i (get owner q) (eq_by_cmp nat_cmp q fd)
-    ∙ sym (get-remove nat_cmp_total (owned_by i owner) fd q ∙ ap (λ o. cond (eq_by_cmp nat_cmp q fd) None o) (get-owned_by i owner q)))
+pub owned_by-remove : (i : ℕ) (owner entries : FinMap nat_cmp ℕ) (fd : ℕ) → owned_by i (remove owner fd) (remove entries fd) ≡ remove (owned_by i owner entries) fd
+owned_by-remove i owner entries fd = same_map nat_cmp_total nat_cmp-IsAntisymmetric _ _ (λ q.
+    get-owned_by i (remove owner fd) (remove entries fd) q
+    ∙ (λ k. cond (is_id i (get-remove nat_cmp_total owner fd q k)) (get-remove nat_cmp_total entries fd q k) None)
+    ∙ gone_answer i (get owner q) (get entries q) (eq_by_cmp nat_cmp q fd)
+    ∙ sym (get-remove nat_cmp_total (owned_by i owner entries) fd q ∙ ap (λ o. cond (eq_by_cmp nat_cmp q fd) None o) (get-owned_by i owner entries q)))
 
 -- a neighbour removes its own
-other_gone : (i j : ℕ) (o : Option ℕ) (b : Bool) → j ≢ i → (b ≡ true → o ≡ Some j) → cond (is_id i (cond b None o)) (cond b None o) None ≡ cond (is_id i o) o None
-other_gone i j o true differ held = rw (held refl) (grind (arith, nat_tests))
-other_gone i j o false differ held = refl
+other_gone : (i j : ℕ) (o p : Option ℕ) (b : Bool) → j ≢ i → (b ≡ true → o ≡ Some j) → cond (is_id i (cond b None o)) (cond b None p) None ≡ cond (is_id i o) p None
+other_gone i j o p true differ held = sym (ap (λ t. cond (is_id i t) p None) (held refl) ∙ ap (λ t. cond t p None) (ne_eqb j i differ))
+other_gone i j o p false differ held = refl
 
-pub owned_by-remove_other : (i j : ℕ) (owner : FinMap nat_cmp ℕ) (fd : ℕ) → j ≢ i → get owner fd ≡ Some j → owned_by i (remove owner fd) ≡ owned_by i owner
-owned_by-remove_other i j owner fd differ held = same_map nat_cmp_total nat_cmp-IsAntisymmetric _ _ (λ q.
-    get-owned_by i (remove owner fd) q
-    ∙ ap (λ o. cond (is_id i o) o None) (get-remove nat_cmp_total owner fd q)
-    ∙ other_gone i j (get owner q) (eq_by_cmp nat_cmp q fd) differ (λ e. ap (get owner) (nat_tied q fd e) ∙ held)
-    ∙ sym (get-owned_by i owner q))
+pub owned_by-remove_other : (i j : ℕ) (owner entries : FinMap nat_cmp ℕ) (fd : ℕ) → j ≢ i → get owner fd ≡ Some j → owned_by i (remove owner fd) (remove entries fd) ≡ owned_by i owner entries
+owned_by-remove_other i j owner entries fd differ held = same_map nat_cmp_total nat_cmp-IsAntisymmetric _ _ (λ q.
+    get-owned_by i (remove owner fd) (remove entries fd) q
+    ∙ (λ k. cond (is_id i (get-remove nat_cmp_total owner fd q k)) (get-remove nat_cmp_total entries fd q k) None)
+    ∙ other_gone i j (get owner q) (get entries q) (eq_by_cmp nat_cmp q fd) differ (λ e. ap (get owner) (nat_tied q fd e) ∙ held)
+    ∙ sym (get-owned_by i owner entries q))
 
 -- all descriptors of an id go: one's own, a neighbour's
-left_answer : (i : ℕ) (o : Option ℕ) → cond (is_id i (cond (not (is_id i o)) o None)) (cond (not (is_id i o)) o None) None ≡ cond (not (is_id i (cond (is_id i o) o None))) (cond (is_id i o) o None) None
-left_answer i None = refl
-left_answer i (Some j) = grind (arith, nat_tests)
+left_by_test : (i j : ℕ) (p : Option ℕ) (b : Bool) → (j == i) ≡ b → cond (is_id i (cond (not b) (Some j) None)) (cond (not b) p None) None ≡ cond (not (is_id i (cond b (Some j) None))) (cond b p None) None
+left_by_test i j p true e = sym (ap (λ t. cond (not t) p None) e)
+left_by_test i j p false e = ap (λ t. cond t p None) e
 
-pub owned_by-without_owner : (i : ℕ) (owner : FinMap nat_cmp ℕ) → owned_by i (without_owner i owner) ≡ without_owner i (owned_by i owner)
-owned_by-without_owner i owner = same_map nat_cmp_total nat_cmp-IsAntisymmetric _ _ (λ q.
-    get-owned_by i (without_owner i owner) q
-    ∙ ap (λ o. cond (is_id i o) o None) (get-without_owner i owner q)
-    ∙ left_answer i (get owner q)
-    ∙ sym (get-without_owner i (owned_by i owner) q ∙ ap (λ o. cond (not (is_id i o)) o None) (get-owned_by i owner q)))
+left_answer : (i : ℕ) (o p : Option ℕ) → cond (is_id i (cond (not (is_id i o)) o None)) (cond (not (is_id i o)) p None) None ≡ cond (not (is_id i (cond (is_id i o) o None))) (cond (is_id i o) p None) None
+left_answer i None p = refl
+left_answer i (Some j) p = left_by_test i j p (j == i) refl
 
-other_left : (i j : ℕ) (o : Option ℕ) → j ≢ i → cond (is_id i (cond (not (is_id j o)) o None)) (cond (not (is_id j o)) o None) None ≡ cond (is_id i o) o None
-other_left i j None differ = refl
-other_left i j (Some k) differ = grind (arith, nat_tests)
+pub owned_by-without_owner : (i : ℕ) (owner entries : FinMap nat_cmp ℕ) → owned_by i (without_owner i owner owner) (without_owner i owner entries) ≡ without_owner i (owned_by i owner owner) (owned_by i owner entries)
+owned_by-without_owner i owner entries = same_map nat_cmp_total nat_cmp-IsAntisymmetric _ _ (λ q.
+    get-owned_by i (without_owner i owner owner) (without_owner i owner entries) q
+    ∙ (λ k. cond (is_id i (get-without_owner i owner owner q k)) (get-without_owner i owner entries q k) None)
+    ∙ left_answer i (get owner q) (get entries q)
+    ∙ sym (get-without_owner i (owned_by i owner owner) (owned_by i owner entries) q ∙ (λ k. cond (not (is_id i (get-owned_by i owner owner q k))) (get-owned_by i owner entries q k) None)))
 
-pub owned_by-disowned_other : (i j : ℕ) (owner : FinMap nat_cmp ℕ) → j ≢ i → owned_by i (without_owner j owner) ≡ owned_by i owner
-owned_by-disowned_other i j owner differ = same_map nat_cmp_total nat_cmp-IsAntisymmetric _ _ (λ q.
-    get-owned_by i (without_owner j owner) q
-    ∙ ap (λ o. cond (is_id i o) o None) (get-without_owner j owner q)
-    ∙ other_left i j (get owner q) differ
-    ∙ sym (get-owned_by i owner q))
+other_by_test : (i j k : ℕ) (p : Option ℕ) (b : Bool) → (k == j) ≡ b → j ≢ i → cond (is_id i (cond (not b) (Some k) None)) (cond (not b) p None) None ≡ cond (k == i) p None
+other_by_test i j k p true e differ = sym (ap (λ t. cond t p None) (ne_eqb k i (λ s. differ (sym (eqb-true k j e) ∙ s))))
+other_by_test i j k p false e differ = refl
+
+other_left : (i j : ℕ) (o p : Option ℕ) → j ≢ i → cond (is_id i (cond (not (is_id j o)) o None)) (cond (not (is_id j o)) p None) None ≡ cond (is_id i o) p None
+other_left i j None p differ = refl
+other_left i j (Some k) p differ = other_by_test i j k p (k == j) refl differ
+
+pub owned_by-disowned_other : (i j : ℕ) (owner entries : FinMap nat_cmp ℕ) → j ≢ i → owned_by i (without_owner j owner owner) (without_owner j owner entries) ≡ owned_by i owner entries
+owned_by-disowned_other i j owner entries differ = same_map nat_cmp_total nat_cmp-IsAntisymmetric _ _ (λ q.
+    get-owned_by i (without_owner j owner owner) (without_owner j owner entries) q
+    ∙ (λ k. cond (is_id i (get-without_owner j owner owner q k)) (get-without_owner j owner entries q k) None)
+    ∙ other_left i j (get owner q) (get entries q) differ
+    ∙ sym (get-owned_by i owner entries q))
 
 -- the values
 value_answer : {V : Type 0} (u o : Option V) (b c : Bool) → (b ≡ true → c ≡ true) → cond c (cond b u o) None ≡ cond b u (cond c o None)

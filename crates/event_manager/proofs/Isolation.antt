@@ -5,15 +5,16 @@ use Rattle.std.specs.Ordering.{eq_by_cmp}
 use Rattle.std.specs.Cmp.{nat_cmp_total}
 use Rattle.std.proofs.lemmas.Bool.Decides.{eqb_tells, nat_tests}
 use Rattle.event_manager.specs.Event.{Event}
-use Rattle.event_manager.specs.Registrations.{Registrations, Owns, not_on}
+use Rattle.event_manager.specs.Registrations.{Registrations, Owns, IsFree, not_on}
+use Rattle.event_manager.specs.Priority.{number_of}
 use Rattle.event_manager.specs.PollerCall.{PollerCall}
-use Rattle.event_manager.specs.Exchange.{Answer, Exchanges, Fits, by_manager, by_poller, by_agreement, ExchangesFit, ReachesPoller, registrations_after}
-use Rattle.event_manager.specs.Registry.{Registry, Step, Joined, NotJoined, Left, NotLeft, Replaced, NotReplaced, Requested, NotRequested, Steps, is_id, without_owner}
+use Rattle.event_manager.specs.Exchange.{Answer, Exchanges, Fits, by_manager, by_poller, by_agreement, ExchangesFit, ReachesPoller, entered, registrations_after}
+use Rattle.event_manager.specs.Registry.{Registry, Step, Joined, NotJoined, Left, NotLeft, Replaced, NotReplaced, Requested, NotRequested, Steps, is_id, without_owner, left_by}
 use Rattle.event_manager.specs.Dispatch.{Position, To, IsOutcome, still_pending}
 use Rattle.event_manager.specs.Projection.{names}
 use Rattle.event_manager.specs.Guarantees.{pending_of, IsUntouched, FreesExactly}
 use Rattle.event_manager.specs.declared.events.Request.{Request}
-use Rattle.event_manager.specs.declared.events.Request.TheVariants.{Add, Modify, Remove}
+use Rattle.event_manager.specs.declared.events.Request.TheVariants.{Add, AddWithPriority, Modify, Remove}
 use Rattle.event_manager.proofs.FiniteMaps.{fd_tells, get-without_owner, nat_tied}
 
 -- exchanges join
@@ -28,8 +29,8 @@ frees_answer : (i : ℕ) (o : Option ℕ) → cond (not (is_id i o)) o None ≡ 
 frees_answer i None = refl
 frees_answer i (Some j) = elim (j == i) as (λ b. cond (not b) (Some j) None ≡ (if b then None else Some j)) [ true ↦ refl | false ↦ refl ]
 
-pub frees_exactly : (i : ℕ) (registrations : Registrations) → FreesExactly i registrations (record registrations { owner = without_owner i registrations.owner })
-frees_exactly i registrations fd = get-without_owner i registrations.owner fd ∙ frees_answer i (get registrations.owner fd)
+pub frees_exactly : (i : ℕ) (registrations : Registrations) → FreesExactly i registrations (left_by i registrations)
+frees_exactly i registrations fd = get-without_owner i registrations.owner registrations.owner fd ∙ frees_answer i (get registrations.owner fd)
 
 -- what j has of the registrations
 pub record IsKept (j : ℕ) (before after : Registrations) : Type 0 where
@@ -79,10 +80,14 @@ remove_unseen i j owner fd differ held q = elim (fd_tells q fd) [
   | inr t ↦ ap (is_id j) (get-remove nat_cmp_total owner fd q ∙ ap (λ b. cond b None (get owner q)) t.0)
 ]
 
-kept_after : (i j : ℕ) (registrations : Registrations) (request : Request) → j ≢ i → ReachesPoller i registrations request → IsKept j registrations (registrations_after i request registrations)
-kept_after i j registrations (Add e) differ h =
-    let s = insert_unseen i j registrations.owner e.fd differ h.0 in
+kept_entered : (i j : ℕ) (registrations : Registrations) (e : Event) (number : ℕ) → j ≢ i → IsFree registrations e.fd → IsKept j registrations (entered i e number registrations)
+kept_entered i j registrations e number differ free =
+    let s = insert_unseen i j registrations.owner e.fd differ free in
     record { same = s; same_pending = filter_same _ _ registrations.pending (λ x. s x.fd) }
+
+kept_after : (i j : ℕ) (registrations : Registrations) (request : Request) → j ≢ i → ReachesPoller i registrations request → IsKept j registrations (registrations_after i request registrations)
+kept_after i j registrations (Add e) differ h = kept_entered i j registrations e 0 differ h.0
+kept_after i j registrations (AddWithPriority e priority) differ h = kept_entered i j registrations e (number_of priority) differ h.0
 kept_after i j registrations (Modify e) differ h = kept_refl j registrations
 kept_after i j registrations (Remove e) differ h =
     let s = remove_unseen i j registrations.owner e.fd differ h in
@@ -106,9 +111,9 @@ other_left : (i j : ℕ) (o : Option ℕ) → j ≢ i → is_id j (cond (not (is
 other_left i j None differ = refl
 other_left i j (Some k) differ = grind (arith, nat_tests)
 
-kept_left : (i j : ℕ) (registrations : Registrations) → j ≢ i → IsKept j registrations (record registrations { owner = without_owner i registrations.owner })
+kept_left : (i j : ℕ) (registrations : Registrations) → j ≢ i → IsKept j registrations (left_by i registrations)
 kept_left i j registrations differ =
-    let s : (fd : ℕ) → is_id j (get (without_owner i registrations.owner) fd) ≡ is_id j (get registrations.owner fd) = λ fd. ap (is_id j) (get-without_owner i registrations.owner fd) ∙ other_left i j (get registrations.owner fd) differ in
+    let s : (fd : ℕ) → is_id j (get (without_owner i registrations.owner registrations.owner) fd) ≡ is_id j (get registrations.owner fd) = λ fd. ap (is_id j) (get-without_owner i registrations.owner registrations.owner fd) ∙ other_left i j (get registrations.owner fd) differ in
     record { same = s; same_pending = filter_same _ _ registrations.pending (λ x. s x.fd) }
 
 -- values

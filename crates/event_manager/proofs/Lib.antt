@@ -22,6 +22,10 @@ pub mod Ascending
 pub mod SortedLists
 pub mod ListChanges
 pub mod Counting
+pub mod RetainedKeys
+pub mod RaisedOwners
+pub mod ClassEntries
+pub mod DispatchOrders
 pub mod Consistent
 pub mod Watching
 pub mod LentSteps

@@ -7,7 +7,7 @@ use Rattle.event_manager.specs.Exchange.{Answer, Exchanges, Fits, by_manager, by
 use Rattle.event_manager.specs.Registry.{Registry}
 use Rattle.event_manager.specs.Dispatch.{Position, Outcome, Nobody, To, is_removed, still_pending, IsOutcome}
 use Rattle.event_manager.specs.declared.events.Request.{Request}
-use Rattle.event_manager.specs.declared.events.Request.TheVariants.{Add, Modify, Remove}
+use Rattle.event_manager.specs.declared.events.Request.TheVariants.{Add, AddWithPriority, Modify, Remove}
 use Rattle.event_manager.proofs.FiniteMaps.{fd_tells}
 use Rattle.event_manager.proofs.ProjectedExchanges.{no_removal, unasked_is_error}
 use Rattle.event_manager.proofs.ProjectedDispatch.{is_removed-push}
@@ -40,6 +40,7 @@ eq_swapped a b = elim (fd_tells a b) [
 
 agreed_pending : (i : ℕ) (registrations : Registrations) (request : Request) → (registrations_after i request registrations).pending ≡ filter (λ e. not (is_removal e.fd request agreed)) registrations.pending
 agreed_pending i registrations (Add e) = sym (filter_all _ registrations.pending (λ x. refl))
+agreed_pending i registrations (AddWithPriority e priority) = sym (filter_all _ registrations.pending (λ x. refl))
 agreed_pending i registrations (Modify e) = sym (filter_all _ registrations.pending (λ x. refl))
 agreed_pending i registrations (Remove e) = filter_alike _ _ registrations.pending (λ x. ap not (eq_swapped x.fd e.fd))
 

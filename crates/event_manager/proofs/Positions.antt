@@ -6,6 +6,8 @@ use Rattle.std.proofs.lemmas.List.{append-nil}
 use Rattle.std.specs.FinMap.{get, insert}
 use Rattle.event_manager.specs.Event.{Event}
 use Rattle.event_manager.specs.Registrations.{Owns}
+use Rattle.event_manager.specs.DispatchOrder.{class_of, IsDispatchOrder}
+use Rattle.event_manager.proofs.DispatchOrders.{reported_in_order}
 use Rattle.event_manager.specs.PollerCall.{PollerCall, Wait}
 use Rattle.event_manager.specs.Exchange.{Exchanges, ExchangesFit, removes}
 use Rattle.event_manager.specs.RegistrationState.{RegistrationState, not_cancelled, registrations_of, cancel_removed, all_pending, HasWaited}
@@ -205,10 +207,8 @@ module _ {S P : Type 0} (serves : S → Event → Exchanges → S → Type 0) wh
         let all = so_far_all serves (registry_of start) (registry_of now) so_far.positions (subst (λ l. AreDispatchedSoFar serves (registry_of start) so_far.positions l (registry_of now)) over so_far.dispatched) in
         record {
           positions = so_far.positions;
-          dispatched = (
-            whole,
-            subst (λ l. AreDispatched serves (registry_of start) [] so_far.positions (record (registry_of now) { registrations = record (registrations_of now.ops.epoll.registrations) { pending = not_cancelled l } })) (sym none) all,
-          );
+          events = whole;
+          dispatched = subst (λ l. AreDispatched serves (registry_of start) [] so_far.positions (record (registry_of now) { registrations = record (registrations_of now.ops.epoll.registrations) { pending = not_cancelled l } })) (sym none) all;
           led = so_far.led;
           same_capacity = so_far.same_capacity;
           over = none;
@@ -227,8 +227,8 @@ ok_same r x y h k = cc
 
 pub waited_all_pending : (s t : RegistrationState) (answer : Result (List Event) Errno) (result : Result ℕ Errno) (n : ℕ) → HasWaited s answer result t → result ≡ Ok n → t.ready ≡ all_pending (map (λ (p : Event × Bool). p.0) t.ready)
 waited_all_pending s t (Ok report) result n h is =
-    let came = ap (λ (b : RegistrationState). b.ready) h.1 in
-    came ∙ ap all_pending (sym (ap (map (λ (p : Event × Bool). p.0)) came ∙ fst_all_pending report))
+    let came = ap (λ (b : RegistrationState). b.ready) h.3 in
+    came ∙ ap all_pending (sym (ap (map (λ (p : Event × Bool). p.0)) came ∙ fst_all_pending h.0))
 waited_all_pending s t (Err e) result n h is = absurd (ok_err result n e is h.0)
 
 module _ {V : Type 0} (serves : V → Event → Exchanges → V → Type 0) where
@@ -246,18 +246,21 @@ module _ {S P : Type 0} (serves : S → Event → Exchanges → S → Type 0) (c
       → IsDispatched serves controls waits (record { subscribers = start.subscribers; next = start.next; ops = record { epoll = record { registrations = registrations; poller = poller }; id = start.ops.id; place = start.ops.place } }) after (map (λ (p : Event × Bool). p.0) registrations.ready) endpoint_ready
       → IsBatch serves controls waits (loop_state start) ms (Ok (record { count = n; endpoint_ready = endpoint_ready })) (loop_state after)
   batch_ok start after registrations poller ms (Ok report) result n endpoint_ready led waited is dispatched =
-      let came = ap (λ (b : RegistrationState). b.ready) waited.1 in
-      let reported = ap (map (λ (p : Event × Bool). p.0)) came ∙ fst_all_pending report in
-      let from = subst (λ (b : RegistrationState). AreDispatched serves (record { values = start.subscribers; next = start.next; registrations = registrations_of b }) [] dispatched.positions (registry_of after)) waited.1 dispatched.dispatched.1 in
+      let (ordered, order, counted, after_wait) = waited in
+      let came = ap (λ (b : RegistrationState). b.ready) after_wait in
+      let ready = ap (map (λ (p : Event × Bool). p.0)) came ∙ fst_all_pending ordered in
+      let from = subst (λ (b : RegistrationState). AreDispatched serves (record { values = start.subscribers; next = start.next; registrations = registrations_of b }) [] dispatched.positions (registry_of after)) after_wait dispatched.dispatched in
       let onto = subst (λ l. AreDispatched serves (idle (registry_of start)) [] dispatched.positions (record (registry_of after) { registrations = record (registrations_of after.ops.epoll.registrations) { pending = not_cancelled l } })) dispatched.over
-      (from_any_pending serves (idle (registry_of start)) (not_cancelled (all_pending report)) dispatched.positions (registry_of after) from) in
+      (from_any_pending serves (idle (registry_of start)) (not_cancelled (all_pending ordered)) dispatched.positions (registry_of after) from) in
       record {
         waited = Ok report;
         positions = dispatched.positions;
-        answer = ap Ok (ok_same result n (length report) is waited.0);
-        noticed = dispatched.noticed ∙ ap (λ l. is_reported registrations.endpoint l) reported ∙ ap (λ (b : RegistrationState). is_reported b.endpoint report) waited.1;
-        dispatched = (dispatched.dispatched.0 ∙ reported, onto);
+        answer = ap Ok (ok_same result n (length report) is counted);
+        noticed =
+            dispatched.noticed ∙ ap (λ l. is_reported registrations.endpoint l) ready ∙ ap (λ (b : RegistrationState). is_reported b.endpoint ordered) after_wait
+            ∙ reported_in_order (λ fd. class_of (registrations_of start.ops.epoll.registrations) fd) start.ops.epoll.registrations.endpoint report ordered order;
+        dispatched = (subst (λ es. IsDispatchOrder (registrations_of start.ops.epoll.registrations) report es) (sym (dispatched.events ∙ ready)) order, onto);
         led = leads_join controls waits start.ops.epoll.poller poller after.ops.epoll.poller (Wait ms start.ops.epoll.registrations.capacity (Ok report) ∷ []) (calls_of_positions dispatched.positions) led dispatched.led;
-        same_capacity = dispatched.same_capacity ∙ ap (λ (b : RegistrationState). b.capacity) waited.1;
+        same_capacity = dispatched.same_capacity ∙ ap (λ (b : RegistrationState). b.capacity) after_wait;
       }
   batch_ok start after registrations poller ms (Err e) result n endpoint_ready led waited is dispatched = absurd (ok_err result n e is waited.0)

@@ -1,5 +1,5 @@
 -- The projection of a dispatch.
-use Rattle.std.proofs.Common.{◌≡◌, ◌≢◌, ℕ, Bool, true, false, ◌||◌, refl, sym, ◌∙◌, ap, subst, Some, inl, inr, nat_cmp, List, [], ◌∷◌, ◌++◌, map, true≢false, if◌then◌else◌, eq-eqb}
+use Rattle.std.proofs.Common.{◌≡◌, ◌≢◌, ℕ, Bool, true, false, ◌||◌, ◌==◌, refl, sym, ◌∙◌, ap, subst, Some, inl, inr, nat_cmp, List, [], ◌∷◌, ◌++◌, cond, filter, true≢false, if◌then◌else◌, eq-eqb, eqb-true}
 use Rattle.std.specs.FinMap.{FinMap, get}
 use Rattle.std.proofs.lemmas.Bool.Decides.{eqb_tells}
 use Rattle.event_manager.specs.Event.{Event}
@@ -7,22 +7,39 @@ use Rattle.event_manager.specs.PollerCall.{PollerCall}
 use Rattle.event_manager.specs.Exchange.{Exchanges, removes}
 use Rattle.event_manager.specs.Registry.{Registry}
 use Rattle.event_manager.specs.Dispatch.{Outcome, Nobody, To, Position, exchanges_of, is_removed, still_pending, events_of, IsFor, IsOutcome, AreDispatched}
-use Rattle.event_manager.specs.Projection.{owned_by, only_values, projected_registrations, projected_registry, only_outcome, only_position, outcome_exchanges, positions_exchanges, asks_to_add, adds}
+use Rattle.event_manager.specs.Projection.{owned_by, only_values, projected_registrations, projected_registry, is_to, IsOnly, AreProjected, outcome_exchanges, positions_exchanges, asks_to_add, adds}
 use Rattle.event_manager.proofs.FiniteMaps.{only_outcome-insert_own, only_outcome-insert_other}
 use Rattle.event_manager.proofs.ProjectedExchanges.{IsMine, own_exchanges, other_exchanges, owned_projected, owned_from_projected, projected_is_own, or_assoc, calls_first, calls_then, adds_first, adds_then}
 use Rattle.event_manager.proofs.ProjectedSteps.{has_projected, has_from_projected}
+
+-- what other ids got becomes nobody's
+abbrev pub only_outcome : {V : Type 0} → ℕ → Outcome V → Outcome V
+only_outcome i Nobody = Nobody
+only_outcome i (To j exchanges calls after) = if j == i then To j exchanges calls after else Nobody
+
+abbrev pub only_position : {V : Type 0} → ℕ → Position V → Position V
+only_position i position = record { event = position.event; outcome = only_outcome i position.outcome }
 
 -- the positions and those of the projection: those on descriptors of i's are in both, in one
 -- order; of the others each list has its own
 pub data Woven {V : Type 0} (i : ℕ) (mine : ℕ → Bool) : List (Position V) → List (Position V) → Type 0 where
   ends : Woven i mine [] []
   both : (d : Position V) {a b : List (Position V)} → mine d.event.fd ≡ true → Woven i mine a b → Woven i mine (d ∷ a) (only_position i d ∷ b)
-  skipped : (d : Position V) {a b : List (Position V)} → mine d.event.fd ≡ false → Woven i mine a b → Woven i mine (d ∷ a) b
+  skipped : (d : Position V) {a b : List (Position V)} → mine d.event.fd ≡ false → only_outcome i d.outcome ≡ Nobody → Woven i mine a b → Woven i mine (d ∷ a) b
   added : (d : Position V) {a b : List (Position V)} → mine d.event.fd ≡ false → only_outcome i d.outcome ≡ Nobody → Woven i mine a b → Woven i mine a (only_position i d ∷ b)
 
 -- the projected registry, with these events pending
 abbrev projected_with : {V : Type 0} → ℕ → ℕ → List Event → Registry V → Registry V
 projected_with i n pending r = record { values = only_values i r.values; next = n; registrations = projected_registrations i pending r.registrations }
+
+cons_nil : {A : Type 0} (x : A) (xs : List A) → x ∷ xs ≡ [] → ⊥
+cons_nil x xs e = cc
+
+head_is : {A : Type 0} (x y : A) (xs ys : List A) → x ∷ xs ≡ y ∷ ys → x ≡ y
+head_is x y xs ys e = cc
+
+tail_is : {A : Type 0} (x y : A) (xs ys : List A) → x ∷ xs ≡ y ∷ ys → xs ≡ ys
+tail_is x y xs ys e = cc
 
 or_ends : (a : Bool) → (a || false) ≡ a
 or_ends true = refl
@@ -68,7 +85,7 @@ module _ {V : Type 0} (serves : V → Event → Exchanges → V → Type 0) (i :
   none_for : (before : Registry V) (pending : List Event) (earlier removed : List (Position V)) (e : Event) → mine e.fd ≡ true → Agree earlier removed → ((j : ℕ) (v : V) → ¬ IsFor before earlier e j v) → (j : ℕ) (v : V) → ¬ IsFor (projected_with i n pending before) removed e j v
   none_for before pending earlier removed e here agree nobody j v (owns, kept, has) =
       let is : j ≡ i = projected_is_own i j before.registrations.owner e.fd owns in
-      nobody i v (owned_from_projected i before.registrations.owner e.fd (subst (λ k. get (owned_by i before.registrations.owner) e.fd ≡ Some k) is owns), sym (agree e.fd here) ∙ kept, has_from_projected i before.values v (subst (λ k. get (only_values i before.values) k ≡ Some v) is has))
+      nobody i v (owned_from_projected i before.registrations.owner e.fd (subst (λ k. get (owned_by i before.registrations.owner before.registrations.owner) e.fd ≡ Some k) is owns), sym (agree e.fd here) ∙ kept, has_from_projected i before.values v (subst (λ k. get (only_values i before.values) k ≡ Some v) is has))
 
   one_same : (before : Registry V) (pending : List Event) (earlier removed : List (Position V)) (e : Event) (real later : List Event) (outcome : Outcome V) (after : Registry V) → mine e.fd ≡ true → IsMine i mine before.registrations.owner → IsClaimed (outcome_exchanges i outcome) → Agree earlier removed → IsOutcome serves before earlier e real outcome after → Same before pending removed e later outcome (only_outcome i outcome) after
   one_same before pending earlier removed e real later Nobody after here m claimed agree (nobody, is) = record {
@@ -121,7 +138,7 @@ module _ {V : Type 0} (serves : V → Event → Exchanges → V → Type 0) (i :
   -- one position that only the projection has
   one_added : (before : Registry V) (pending : List Event) (removed : List (Position V)) (e : Event) (later : List Event) → mine e.fd ≡ false → IsMine i mine before.registrations.owner → IsOutcome serves (projected_with i n pending before) removed e later Nobody (projected_with i n (still_pending removed later) before)
   one_added before pending removed e later there m = (
-    (λ j v for. true≢false (sym (m.own e.fd (owned_from_projected i before.registrations.owner e.fd (subst (λ k. get (owned_by i before.registrations.owner) e.fd ≡ Some k) (projected_is_own i j before.registrations.owner e.fd for.0) for.0))) ∙ there)),
+    (λ j v for. true≢false (sym (m.own e.fd (owned_from_projected i before.registrations.owner e.fd (subst (λ k. get (owned_by i before.registrations.owner before.registrations.owner) e.fd ≡ Some k) (projected_is_own i j before.registrations.owner e.fd for.0) for.0))) ∙ there)),
     refl,
   )
 
@@ -157,7 +174,7 @@ module _ {V : Type 0} (serves : V → Event → Exchanges → V → Type 0) (i :
       (agree_push earlier removed d (only_position i d) agree one.alike) more
       in
       record { fits = (projected_with i n one.left mid, one.fits, rest.fits); still = rest.still; next = rest.next ∙ one.next }
-  projected_dispatch pending before earlier removed (_ ∷ real) shown after (skipped d there w) m claimed foreign agree (mid, out, more) =
+  projected_dispatch pending before earlier removed (_ ∷ real) shown after (skipped d there nobody w) m claimed foreign agree (mid, out, more) =
       let one = one_unseen before earlier d.event (events_of real) d.outcome mid there m (λ fd j differ t. foreign fd j differ (adds_first fd (outcome_exchanges j d.outcome) (positions_exchanges j real) t)) out in
       let rest = projected_dispatch pending mid (earlier ++ d ∷ []) removed real shown after w one.still
       (λ fd t. claimed fd (calls_then fd (outcome_exchanges i d.outcome) (positions_exchanges i real) t))
@@ -194,13 +211,98 @@ module _ {V : Type 0} (serves : V → Event → Exchanges → V → Type 0) (i :
       let p = first (mine d.event.fd) refl in
       (p.0, foreign_positions mid (earlier ++ d ∷ []) real after p.1 (λ fd t. claimed fd (calls_then fd (outcome_exchanges i d.outcome) (positions_exchanges i real) t)) (λ fd j differ t. foreign fd j differ (adds_then fd (outcome_exchanges j d.outcome) (positions_exchanges j real) t)) more)
 
-  -- where the projection is in the order of the trace
-  pub woven_alike : (real : List (Position V)) → Foreign real → Woven i mine real (map (only_position i) real)
+  abbrev on_mine : List Event → List Event
+  on_mine events = filter (λ e. mine e.fd) events
+
+  no_mine : (real : List (Position V)) → Foreign real → on_mine (events_of real) ≡ [] → Woven i mine real []
   unfolding Foreign
-  woven_alike [] f = ends
-  woven_alike (d ∷ real) f =
-      let at : (b : Bool) → mine d.event.fd ≡ b → Woven i mine (d ∷ real) (map (only_position i) (d ∷ real)) = elim [
-        | true ↦ λ e. both d e (woven_alike real f.1)
-        | false ↦ λ e. skipped d e (added d e (f.0 e) (woven_alike real f.1))
+  no_mine [] f none = ends
+  no_mine (d ∷ real) f none =
+      let at : (b : Bool) → mine d.event.fd ≡ b → cond b (d.event ∷ on_mine (events_of real)) (on_mine (events_of real)) ≡ [] → Woven i mine (d ∷ real) [] = elim [
+        | true ↦ λ e is. absurd (cons_nil d.event (on_mine (events_of real)) is)
+        | false ↦ λ e is. skipped d e (f.0 e) (no_mine real f.1 is)
       ]
-      in at (mine d.event.fd) refl
+      in at (mine d.event.fd) refl none
+
+  -- the first position on a descriptor of i's
+  record FirstMine (real : List (Position V)) (e : Event) (es : List Event) : Type 0 where
+    position : Position V
+    rest : List (Position V)
+    event : position.event ≡ e
+    left : on_mine (events_of rest) ≡ es
+    foreign : Foreign rest
+    weave : (shown : List (Position V)) → Woven i mine rest shown → Woven i mine real (only_position i position ∷ shown)
+
+  first_mine : (real : List (Position V)) (e : Event) (es : List Event) → Foreign real → on_mine (events_of real) ≡ e ∷ es → FirstMine real e es
+  unfolding Foreign
+  first_mine [] e es f is = absurd (cons_nil e es (sym is))
+  first_mine (d ∷ real) e es f is =
+      let at : (b : Bool) → mine d.event.fd ≡ b → cond b (d.event ∷ on_mine (events_of real)) (on_mine (events_of real)) ≡ e ∷ es → FirstMine (d ∷ real) e es = elim [
+        | true ↦ λ t h. record { position = d; rest = real; event = head_is _ _ _ _ h; left = tail_is _ _ _ _ h; foreign = f.1; weave = λ shown w. both d t w }
+        | false ↦ λ t h.
+            let first = first_mine real e es f.1 h in
+            record { position = first.position; rest = first.rest; event = first.event; left = first.left; foreign = first.foreign; weave = λ shown w. skipped d t (f.0 t) (first.weave shown w) }
+      ]
+      in at (mine d.event.fd) refl is
+
+  -- the positions of the projection, in another order that has those on descriptors of i's in the same
+  pub record WovenWith (real : List (Position V)) (events : List Event) : Type 0 where
+    pub shown : List (Position V)
+    pub events_are : events_of shown ≡ events
+    pub woven : Woven i mine real shown
+
+  pub weave : (events : List Event) (real : List (Position V)) → Foreign real → on_mine events ≡ on_mine (events_of real) → WovenWith real events
+  weave [] real f is = record { shown = []; events_are = refl; woven = no_mine real f (sym is) }
+  weave (e ∷ events) real f is =
+      let at : (b : Bool) → mine e.fd ≡ b → cond b (e ∷ on_mine events) (on_mine events) ≡ on_mine (events_of real) → WovenWith real (e ∷ events) = elim [
+        | true ↦ λ t h.
+            let first = first_mine real e (on_mine events) f (sym h) in
+            let rest = weave events first.rest first.foreign (sym first.left) in
+            record { shown = only_position i first.position ∷ rest.shown; events_are = (λ k. first.event k ∷ rest.events_are k); woven = first.weave rest.shown rest.woven }
+        | false ↦ λ t h.
+            let rest = weave events real f h in
+            record { shown = record { event = e; outcome = Nobody } ∷ rest.shown; events_are = ap (λ es. e ∷ es) rest.events_are; woven = added (record { event = e; outcome = Nobody }) t refl rest.woven }
+      ]
+      in at (mine e.fd) refl is
+
+-- woven positions are projected ones
+to_nobody : {V : Type 0} (id : ℕ) (exchanges : Exchanges) (calls : List PollerCall) (after : V) → To id exchanges calls after ≡ Nobody → ⊥
+to_nobody id exchanges calls after e = true≢false (ap is_somebody e)
+  where
+    is_somebody : {V : Type 0} → Outcome V → Bool
+    is_somebody Nobody = false
+    is_somebody (To id exchanges calls after) = true
+
+module _ {V : Type 0} (i : ℕ) where
+  abbrev to_i : List (Position V) → List (Position V)
+  to_i positions = filter (λ position. is_to i position.outcome) positions
+
+  both_alike : (e : Event) (o : Outcome V) (real shown : List (Position V)) → to_i shown ≡ to_i real
+      → to_i (record { event = e; outcome = only_outcome i o } ∷ shown) ≡ to_i (record { event = e; outcome = o } ∷ real)
+  both_alike e Nobody real shown same = same
+  both_alike e (To j exchanges calls after) real shown same =
+      elim (j == i) as (λ b. (j == i) ≡ b → to_i (record { event = e; outcome = if b then To j exchanges calls after else Nobody } ∷ shown) ≡ cond b (record { event = e; outcome = To j exchanges calls after } ∷ to_i real) (to_i real)) [
+        | true ↦ λ t. ap (λ b. cond b (record { event = e; outcome = To j exchanges calls after } ∷ to_i shown) (to_i shown)) t ∙ ap (λ l. record { event = e; outcome = To j exchanges calls after } ∷ l) same
+        | false ↦ λ t. same
+      ] refl
+
+  only_is_only : (o : Outcome V) → IsOnly i (only_outcome i o)
+  only_is_only Nobody = tt
+  only_is_only (To j exchanges calls after) = elim (j == i) as (λ b. (j == i) ≡ b → IsOnly i (if b then To j exchanges calls after else Nobody)) [ true ↦ λ t. eqb-true j i t | false ↦ λ t. tt ] refl
+
+  not_to : (o : Outcome V) → only_outcome i o ≡ Nobody → is_to i o ≡ false
+  not_to Nobody h = refl
+  not_to (To j exchanges calls after) h =
+      elim (j == i) as (λ b. (j == i) ≡ b → (if b then To j exchanges calls after else Nobody) ≡ Nobody → b ≡ false) [ true ↦ λ t g. absurd (to_nobody j exchanges calls after g) | false ↦ λ t g. refl ] refl h
+
+  pub woven_projected : (mine : ℕ → Bool) (real shown : List (Position V)) → Woven i mine real shown → AreProjected i real shown
+  woven_projected mine [] [] ends = record { same = refl; only = tt }
+  woven_projected mine (_ ∷ real) (_ ∷ shown) (both d here w) =
+      let rest = woven_projected mine real shown w in
+      record { same = both_alike d.event d.outcome real shown rest.same; only = (only_is_only d.outcome, rest.only) }
+  woven_projected mine (_ ∷ real) shown (skipped d there nobody w) =
+      let rest = woven_projected mine real shown w in
+      record { same = rest.same ∙ sym (ap (λ b. cond b (d ∷ to_i real) (to_i real)) (not_to d.outcome nobody)); only = rest.only }
+  woven_projected mine real (_ ∷ shown) (added d there nobody w) =
+      let rest = woven_projected mine real shown w in
+      record { same = ap (λ o. cond (is_to i o) (only_position i d ∷ to_i shown) (to_i shown)) nobody ∙ rest.same; only = (only_is_only d.outcome, rest.only) }

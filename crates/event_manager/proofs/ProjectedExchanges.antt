@@ -6,11 +6,12 @@ use Rattle.std.proofs.lemmas.Bool.Decides.{nat_tests, eqb_tells}
 use Rattle.event_manager.specs.Event.{Event}
 use Rattle.event_manager.specs.Registrations.{Registrations, not_on}
 use Rattle.event_manager.specs.PollerCall.{PollerCall}
-use Rattle.event_manager.specs.Exchange.{Answer, Exchanges, Fits, by_manager, by_poller, by_agreement, ExchangesFit, IsRefusedByManager, ReachesPoller, registrations_after, removes, is_removal, agreed}
+use Rattle.event_manager.specs.Exchange.{Answer, Exchanges, Fits, by_manager, by_poller, by_agreement, ExchangesFit, IsAdditionRefused, IsRefusedByManager, ReachesPoller, entered, registrations_after, removes, is_removal, agreed}
+use Rattle.event_manager.specs.Priority.{number_of}
 use Rattle.event_manager.specs.Registry.{is_id}
 use Rattle.event_manager.specs.Projection.{owned_by, projected_registrations, is_add, is_agreed, asks_to_add, adds}
 use Rattle.event_manager.specs.declared.events.Request.{Request}
-use Rattle.event_manager.specs.declared.events.Request.TheVariants.{Add, Modify, Remove}
+use Rattle.event_manager.specs.declared.events.Request.TheVariants.{Add, AddWithPriority, Modify, Remove}
 use Rattle.event_manager.proofs.FiniteMaps.{fd_tells, get-owned_by, owned_by-insert_own, owned_by-insert_other, owned_by-remove, owned_by-remove_other}
 
 pub int_eq_same : (fd : ℕ) → (fd == fd) ≡ true
@@ -28,27 +29,27 @@ own_answer i (Some j) e = grind (arith, nat_tests)
 own_stays : (i : ℕ) (o : Option ℕ) → o ≡ Some i → cond (is_id i o) o None ≡ Some i
 own_stays i o e = rw e (grind (arith, nat_tests))
 
-pub owned_from_projected : (i : ℕ) (owner : FinMap nat_cmp ℕ) (fd : ℕ) → get (owned_by i owner) fd ≡ Some i → get owner fd ≡ Some i
-owned_from_projected i owner fd e = own_answer i (get owner fd) (sym (get-owned_by i owner fd) ∙ e)
+pub owned_from_projected : (i : ℕ) (owner : FinMap nat_cmp ℕ) (fd : ℕ) → get (owned_by i owner owner) fd ≡ Some i → get owner fd ≡ Some i
+owned_from_projected i owner fd e = own_answer i (get owner fd) (sym (get-owned_by i owner owner fd) ∙ e)
 
-pub owned_projected : (i : ℕ) (owner : FinMap nat_cmp ℕ) (fd : ℕ) → get owner fd ≡ Some i → get (owned_by i owner) fd ≡ Some i
-owned_projected i owner fd e = get-owned_by i owner fd ∙ own_stays i (get owner fd) e
+pub owned_projected : (i : ℕ) (owner : FinMap nat_cmp ℕ) (fd : ℕ) → get owner fd ≡ Some i → get (owned_by i owner owner) fd ≡ Some i
+owned_projected i owner fd e = get-owned_by i owner owner fd ∙ own_stays i (get owner fd) e
 
 -- in the projection no one else owns anything
 projected_answer : (i j : ℕ) (o : Option ℕ) → cond (is_id i o) o None ≡ Some j → j ≡ i
 projected_answer i j None e = cc
 projected_answer i j (Some k) e = grind (arith, nat_tests)
 
-pub projected_is_own : (i j : ℕ) (owner : FinMap nat_cmp ℕ) (fd : ℕ) → get (owned_by i owner) fd ≡ Some j → j ≡ i
-projected_is_own i j owner fd e = projected_answer i j (get owner fd) (sym (get-owned_by i owner fd) ∙ e)
+pub projected_is_own : (i j : ℕ) (owner : FinMap nat_cmp ℕ) (fd : ℕ) → get (owned_by i owner owner) fd ≡ Some j → j ≡ i
+projected_is_own i j owner fd e = projected_answer i j (get owner fd) (sym (get-owned_by i owner owner fd) ∙ e)
 
 -- at a descriptor of i's both maps answer the same
 mine_answer : (i : ℕ) (o : Option ℕ) → ((j : ℕ) → j ≢ i → o ≡ Some j → ⊥) → cond (is_id i o) o None ≡ o
 mine_answer i None alien = refl
 mine_answer i (Some j) alien = elim (eqb_tells j i) [ inl p ↦ ap (λ b. cond b (Some j) None) p.0 | inr p ↦ absurd (alien j p.1 refl) ]
 
-pub same_at_mine : (i : ℕ) (mine : ℕ → Bool) (owner : FinMap nat_cmp ℕ) (fd : ℕ) → IsMine i mine owner → mine fd ≡ true → get (owned_by i owner) fd ≡ get owner fd
-same_at_mine i mine owner fd m e = get-owned_by i owner fd ∙ mine_answer i (get owner fd) (λ j differ held. true≢false (sym e ∙ m.other fd j differ held))
+pub same_at_mine : (i : ℕ) (mine : ℕ → Bool) (owner : FinMap nat_cmp ℕ) (fd : ℕ) → IsMine i mine owner → mine fd ≡ true → get (owned_by i owner owner) fd ≡ get owner fd
+same_at_mine i mine owner fd m e = get-owned_by i owner owner fd ∙ mine_answer i (get owner fd) (λ j differ held. true≢false (sym e ∙ m.other fd j differ held))
 
 -- an owner's map stays so
 pub mine-insert_own : (i : ℕ) (mine : ℕ → Bool) (owner : FinMap nat_cmp ℕ) (fd : ℕ) → IsMine i mine owner → mine fd ≡ true → IsMine i mine (insert owner fd i)
@@ -85,38 +86,60 @@ pub record OwnFits (i : ℕ) (mine : ℕ → Bool) (pending : List Event) (regis
   pub fits : Fits i (projected_registrations i pending registrations) request answer calls (projected_registrations i left after)
   pub still : IsMine i mine after.owner
 
-own_unasked : (i : ℕ) (mine : ℕ → Bool) (pending : List Event) (registrations : Registrations) (request : Request) (answer : Answer) → IsMine i mine registrations.owner → ((fd : ℕ) → is_add fd request ≡ true → mine fd ≡ true) → IsRefusedByManager i registrations request answer → IsRefusedByManager i (projected_registrations i pending registrations) request answer
-own_unasked i mine pending registrations (Add e) answer m claimed h =
-    let same = same_at_mine i mine registrations.owner e.fd m (claimed e.fd (int_eq_same e.fd)) in
+own_addition : (i : ℕ) (mine : ℕ → Bool) (pending : List Event) (registrations : Registrations) (e : Event) (answer : Answer) → IsMine i mine registrations.owner → mine e.fd ≡ true → IsAdditionRefused registrations e answer → IsAdditionRefused (projected_registrations i pending registrations) e answer
+own_addition i mine pending registrations e answer m claimed h =
+    let same = same_at_mine i mine registrations.owner e.fd m claimed in
     elim h [
       | inl t ↦ inl ((λ is_free. t.0 (sym same ∙ is_free)), t.1)
       | inr t ↦ inr (elim t [ inl u ↦ inl (same ∙ u.0, u.1, u.2) | inr u ↦ inr (same ∙ u.0, u.1, u.2) ])
     ]
+
+own_unasked : (i : ℕ) (mine : ℕ → Bool) (pending : List Event) (registrations : Registrations) (request : Request) (answer : Answer) → IsMine i mine registrations.owner → ((fd : ℕ) → is_add fd request ≡ true → mine fd ≡ true) → IsRefusedByManager i registrations request answer → IsRefusedByManager i (projected_registrations i pending registrations) request answer
+own_unasked i mine pending registrations (Add e) answer m claimed h = own_addition i mine pending registrations e answer m (claimed e.fd (int_eq_same e.fd)) h
+own_unasked i mine pending registrations (AddWithPriority e priority) answer m claimed h = own_addition i mine pending registrations e answer m (claimed e.fd (int_eq_same e.fd)) h
 own_unasked i mine pending registrations (Modify e) answer m claimed h = ((λ own. h.0 (owned_from_projected i registrations.owner e.fd own)), h.1)
 own_unasked i mine pending registrations (Remove e) answer m claimed h = ((λ own. h.0 (owned_from_projected i registrations.owner e.fd own)), h.1)
 
 own_asked : (i : ℕ) (mine : ℕ → Bool) (pending : List Event) (registrations : Registrations) (request : Request) → IsMine i mine registrations.owner → ((fd : ℕ) → is_add fd request ≡ true → mine fd ≡ true) → ReachesPoller i registrations request → ReachesPoller i (projected_registrations i pending registrations) request
 own_asked i mine pending registrations (Add e) m claimed h = (same_at_mine i mine registrations.owner e.fd m (claimed e.fd (int_eq_same e.fd)) ∙ h.0, h.1)
+own_asked i mine pending registrations (AddWithPriority e priority) m claimed h = (same_at_mine i mine registrations.owner e.fd m (claimed e.fd (int_eq_same e.fd)) ∙ h.0, h.1)
 own_asked i mine pending registrations (Modify e) m claimed h = owned_projected i registrations.owner e.fd h
 own_asked i mine pending registrations (Remove e) m claimed h = owned_projected i registrations.owner e.fd h
 
 abbrev left_after : Request → List Event → List Event
 left_after (Add e) pending = pending
+left_after (AddWithPriority e priority) pending = pending
 left_after (Modify e) pending = pending
 left_after (Remove e) pending = not_on e.fd pending
 
 left_none : (request : Request) (pending : List Event) → pending ≡ [] → left_after request pending ≡ []
 left_none (Add e) pending none = none
+left_none (AddWithPriority e priority) pending none = none
 left_none (Modify e) pending none = none
 left_none (Remove e) pending none = ap (not_on e.fd) none
 
+own_entered : (i : ℕ) (pending : List Event) (registrations : Registrations) (e : Event) (number : ℕ) → projected_registrations i pending (entered i e number registrations) ≡ entered i e number (projected_registrations i pending registrations)
+own_entered i pending registrations e number k = record {
+  owner = owned_by-insert_own i i registrations.owner registrations.owner e.fd k;
+  priority = owned_by-insert_own i number registrations.owner registrations.priority e.fd k;
+  endpoint = registrations.endpoint;
+  pending = pending;
+}
+
 own_after : (i : ℕ) (pending : List Event) (registrations : Registrations) (request : Request) → projected_registrations i (left_after request pending) (registrations_after i request registrations) ≡ registrations_after i request (projected_registrations i pending registrations)
-own_after i pending registrations (Add e) = ap (λ o. record { owner = o; endpoint = registrations.endpoint; pending = pending }) (owned_by-insert_own i registrations.owner e.fd)
+own_after i pending registrations (Add e) = own_entered i pending registrations e 0
+own_after i pending registrations (AddWithPriority e priority) = own_entered i pending registrations e (number_of priority)
 own_after i pending registrations (Modify e) = refl
-own_after i pending registrations (Remove e) = ap (λ o. record { owner = o; endpoint = registrations.endpoint; pending = not_on e.fd pending }) (owned_by-remove i registrations.owner e.fd)
+own_after i pending registrations (Remove e) = λ k. record {
+  owner = owned_by-remove i registrations.owner registrations.owner e.fd k;
+  priority = owned_by-remove i registrations.owner registrations.priority e.fd k;
+  endpoint = registrations.endpoint;
+  pending = not_on e.fd pending;
+}
 
 own_still : (i : ℕ) (mine : ℕ → Bool) (registrations : Registrations) (request : Request) → IsMine i mine registrations.owner → ((fd : ℕ) → is_add fd request ≡ true → mine fd ≡ true) → IsMine i mine (registrations_after i request registrations).owner
 own_still i mine registrations (Add e) m claimed = mine-insert_own i mine registrations.owner e.fd m (claimed e.fd (int_eq_same e.fd))
+own_still i mine registrations (AddWithPriority e priority) m claimed = mine-insert_own i mine registrations.owner e.fd m (claimed e.fd (int_eq_same e.fd))
 own_still i mine registrations (Modify e) m claimed = m
 own_still i mine registrations (Remove e) m claimed = mine-remove i mine registrations.owner e.fd m
 
@@ -148,14 +171,19 @@ pub record OtherFits (i : ℕ) (mine : ℕ → Bool) (registrations : Registrati
 
 pub no_removal : (fd : ℕ) (request : Request) (answer : Answer) (error : _) → answer ≡ Err error → is_removal fd request answer ≡ false
 no_removal fd (Add e) answer error r = refl
+no_removal fd (AddWithPriority e priority) answer error r = refl
 no_removal fd (Modify e) answer error r = refl
 no_removal fd (Remove e) answer error r = rw r refl
 
-pub unasked_is_error : (i : ℕ) (registrations : Registrations) (request : Request) (answer : Answer) → IsRefusedByManager i registrations request answer → (error : _) × (answer ≡ Err error)
-unasked_is_error i registrations (Add e) answer h = elim h [
+addition_is_error : (registrations : Registrations) (e : Event) (answer : Answer) → IsAdditionRefused registrations e answer → (error : _) × (answer ≡ Err error)
+addition_is_error registrations e answer h = elim h [
   | inl t ↦ (_, t.1)
   | inr t ↦ elim t [ inl u ↦ (_, u.2) | inr u ↦ (_, u.2) ]
 ]
+
+pub unasked_is_error : (i : ℕ) (registrations : Registrations) (request : Request) (answer : Answer) → IsRefusedByManager i registrations request answer → (error : _) × (answer ≡ Err error)
+unasked_is_error i registrations (Add e) answer h = addition_is_error registrations e answer h
+unasked_is_error i registrations (AddWithPriority e priority) answer h = addition_is_error registrations e answer h
 unasked_is_error i registrations (Modify e) answer h = (_, h.1)
 unasked_is_error i registrations (Remove e) answer h = (_, h.1)
 
@@ -166,15 +194,29 @@ other_unchanged i mine registrations request answer after m error r e = record {
   apart = λ fd t. no_removal fd request answer error r;
 }
 
-other_agreed : (i j : ℕ) (mine : ℕ → Bool) (registrations : Registrations) (request : Request) → j ≢ i → IsMine i mine registrations.owner → ((fd : ℕ) → is_add fd request ≡ true → mine fd ≡ false) → ReachesPoller j registrations request → OtherFits i mine registrations request agreed (registrations_after j request registrations)
-other_agreed i j mine registrations (Add e) differ m foreign h = record {
-  same = λ p k. record { owner = owned_by-insert_other i j registrations.owner e.fd differ h.0 k; endpoint = registrations.endpoint; pending = p };
-  still = mine-insert_other i j mine registrations.owner e.fd m differ (foreign e.fd (int_eq_same e.fd));
-  apart = λ fd t. refl;
+other_entered : (i j : ℕ) (mine : ℕ → Bool) (registrations : Registrations) (e : Event) (number : ℕ) (request : Request) → j ≢ i → IsMine i mine registrations.owner → mine e.fd ≡ false → get registrations.owner e.fd ≡ None → ((fd : ℕ) → is_removal fd request agreed ≡ false) → OtherFits i mine registrations request agreed (entered j e number registrations)
+other_entered i j mine registrations e number request differ m foreign free none = record {
+  same = λ p k. record {
+    owner = owned_by-insert_other i j j registrations.owner registrations.owner e.fd differ free k;
+    priority = owned_by-insert_other i j number registrations.owner registrations.priority e.fd differ free k;
+    endpoint = registrations.endpoint;
+    pending = p;
+  };
+  still = mine-insert_other i j mine registrations.owner e.fd m differ foreign;
+  apart = λ fd t. none fd;
 }
+
+other_agreed : (i j : ℕ) (mine : ℕ → Bool) (registrations : Registrations) (request : Request) → j ≢ i → IsMine i mine registrations.owner → ((fd : ℕ) → is_add fd request ≡ true → mine fd ≡ false) → ReachesPoller j registrations request → OtherFits i mine registrations request agreed (registrations_after j request registrations)
+other_agreed i j mine registrations (Add e) differ m foreign h = other_entered i j mine registrations e 0 (Add e) differ m (foreign e.fd (int_eq_same e.fd)) h.0 (λ fd. refl)
+other_agreed i j mine registrations (AddWithPriority e priority) differ m foreign h = other_entered i j mine registrations e (number_of priority) (AddWithPriority e priority) differ m (foreign e.fd (int_eq_same e.fd)) h.0 (λ fd. refl)
 other_agreed i j mine registrations (Modify e) differ m foreign h = record { same = λ p. refl; still = m; apart = λ fd t. refl }
 other_agreed i j mine registrations (Remove e) differ m foreign h = record {
-  same = λ p k. record { owner = owned_by-remove_other i j registrations.owner e.fd differ h k; endpoint = registrations.endpoint; pending = p };
+  same = λ p k. record {
+    owner = owned_by-remove_other i j registrations.owner registrations.owner e.fd differ h k;
+    priority = owned_by-remove_other i j registrations.owner registrations.priority e.fd differ h k;
+    endpoint = registrations.endpoint;
+    pending = p;
+  };
   still = mine-remove i mine registrations.owner e.fd m;
   apart = λ fd t. elim (fd_tells e.fd fd) [
     | inl p ↦ absurd (true≢false (sym t ∙ ap mine (sym p.1) ∙ m.other e.fd j differ h))

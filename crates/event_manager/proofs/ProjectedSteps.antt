@@ -1,5 +1,5 @@
 -- The projection of one id's step, and of another's.
-use Rattle.std.proofs.Common.{◌≡◌, ◌≢◌, ℕ, ◌+◌, ◌<◌, ◌≤◌, ◌==◌, cond, Bool, true, false, not, refl, sym, ◌∙◌, ap, ap₂, subst, arith, Some, None, Option, inl, inr, nat_cmp, List, [], true≢false, if◌then◌else◌, eq-eqb, eqb-true, le_of_eq}
+use Rattle.std.proofs.Common.{◌≡◌, ◌≢◌, ℕ, ◌+◌, ◌<◌, ◌≤◌, ◌==◌, cond, Bool, true, false, not, refl, sym, ◌∙◌, ap, subst, arith, Some, None, Option, inl, inr, nat_cmp, List, [], true≢false, if◌then◌else◌, eq-eqb, eqb-true, le_of_eq}
 use Rattle.std.specs.FinMap.{FinMap, get}
 use Rattle.std.proofs.lemmas.Bool.Decides.{eqb_tells}
 use Rattle.event_manager.specs.Registrations.{Registrations}
@@ -18,10 +18,10 @@ disowned_answer i j (Some k) e = elim (eqb_tells k j) [
   | inr p ↦ sym (ap (λ b. cond (not b) (Some k) None) p.0) ∙ e
 ]
 
-pub from_disowned : (j : ℕ) (owner : FinMap nat_cmp ℕ) (fd : ℕ) (k : ℕ) → get (without_owner j owner) fd ≡ Some k → get owner fd ≡ Some k
-from_disowned j owner fd k h = disowned_answer k j (get owner fd) (sym (get-without_owner j owner fd) ∙ h)
+pub from_disowned : (j : ℕ) (owner : FinMap nat_cmp ℕ) (fd : ℕ) (k : ℕ) → get (without_owner j owner owner) fd ≡ Some k → get owner fd ≡ Some k
+from_disowned j owner fd k h = disowned_answer k j (get owner fd) (sym (get-without_owner j owner owner fd) ∙ h)
 
-pub mine-without_owner : (i j : ℕ) (mine : ℕ → Bool) (owner : FinMap nat_cmp ℕ) → IsMine i mine owner → IsMine i mine (without_owner j owner)
+pub mine-without_owner : (i j : ℕ) (mine : ℕ → Bool) (owner : FinMap nat_cmp ℕ) → IsMine i mine owner → IsMine i mine (without_owner j owner owner)
 mine-without_owner i j mine owner m = record { own = λ q h. m.own q (from_disowned j owner q i h); other = λ q k differ h. m.other q k differ (from_disowned j owner q k h) }
 
 -- projected values
@@ -72,6 +72,9 @@ module _ {V : Type 0} (begins : V → Exchanges → V → Type 0) where
         joins = λ le. absurd (omega arith);
       }
 
+  abbrev projected_of : ℕ → ℕ → FinMap nat_cmp V → Registrations → Registry V
+  projected_of i n values registrations = record { values = values; next = n; registrations = registrations }
+
   own_left : (i : ℕ) (mine : ℕ → Bool) (n : ℕ) (before after : Registry V) (value : V) (calls : List PollerCall) → IsMine i mine before.registrations.owner → (before.next ≤ i → n ≡ i) → Steps begins before (Left i value calls) after → OwnStep i mine n before (Left i value calls) after
   own_left i mine n before after value calls m joins (fds, has, is_owner, deletes, e) = record {
     next = n;
@@ -80,7 +83,12 @@ module _ {V : Type 0} (begins : V → Exchanges → V → Type 0) where
       has_projected i before.values value has,
       (is_owner.0, λ fd. ((λ c. owned_projected i before.registrations.owner fd ((is_owner.1 fd).0 c)), λ o. (is_owner.1 fd).1 (owned_from_projected i before.registrations.owner fd o))),
       deletes,
-      ap (projected_registry i n) e ∙ ap₂ (λ (v : FinMap nat_cmp V) (o : FinMap nat_cmp ℕ). record { values = v; next = n; registrations = record { owner = o; endpoint = before.registrations.endpoint; pending = [] } }) (only_outcome-remove_own i before.values) (owned_by-without_owner i before.registrations.owner),
+      ap (projected_registry i n) e ∙ (λ k. projected_of i n (only_outcome-remove_own i before.values k) (record {
+        owner = owned_by-without_owner i before.registrations.owner before.registrations.owner k;
+        priority = owned_by-without_owner i before.registrations.owner before.registrations.priority k;
+        endpoint = before.registrations.endpoint;
+        pending = [];
+      })),
     );
     still = subst (λ (r : Registry V). IsMine i mine r.registrations.owner) (sym e) (mine-without_owner i i mine before.registrations.owner m);
     joins = λ le. joins (subst (λ (r : Registry V). r.next ≤ i) e le);
@@ -138,9 +146,6 @@ module _ {V : Type 0} (begins : V → Exchanges → V → Type 0) where
     pub still : IsMine i mine after.registrations.owner
     pub later : before.next ≤ after.next
 
-  abbrev projected_of : ℕ → ℕ → FinMap nat_cmp V → Registrations → Registry V
-  projected_of i n values registrations = record { values = values; next = n; registrations = registrations }
-
   other_same : (i : ℕ) (mine : ℕ → Bool) (before after : Registry V) → IsMine i mine before.registrations.owner → after ≡ before → OtherStep i mine before after
   other_same i mine before after m e = record {
     same = λ n. ap (projected_registry i n) e;
@@ -164,7 +169,12 @@ module _ {V : Type 0} (begins : V → Exchanges → V → Type 0) where
   other_step i mine before (Left id value calls) after named m foreign (fds, has, is_owner, deletes, e) =
       let differ : id ≢ i = λ s. true≢false (sym (eq-eqb id i s) ∙ named) in
       record {
-        same = λ n. ap (projected_registry i n) e ∙ (λ k. projected_of i n (only_outcome-remove_other i id before.values differ k) (record { owner = owned_by-disowned_other i id before.registrations.owner differ k; endpoint = before.registrations.endpoint; pending = [] }));
+        same = λ n. ap (projected_registry i n) e ∙ (λ k. projected_of i n (only_outcome-remove_other i id before.values differ k) (record {
+          owner = owned_by-disowned_other i id before.registrations.owner before.registrations.owner differ k;
+          priority = owned_by-disowned_other i id before.registrations.owner before.registrations.priority differ k;
+          endpoint = before.registrations.endpoint;
+          pending = [];
+        }));
         still = subst (λ (r : Registry V). IsMine i mine r.registrations.owner) (sym e) (mine-without_owner i id mine before.registrations.owner m);
         later = le_of_eq (sym (ap (λ (r : Registry V). r.next) e));
       }

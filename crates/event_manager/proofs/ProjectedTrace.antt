@@ -1,22 +1,33 @@
 -- The projection of a trace is a trace: non-interference.
-use Rattle.std.proofs.Common.{◌≡◌, ◌≢◌, ℕ, ◌+◌, ◌≤◌, Bool, true, false, ◌||◌, refl, sym, ◌∙◌, ap, subst, Some, None, Option, ◌⊎◌, inl, inr, List, [], ◌∷◌, map, true≢false, if◌then◌else◌, eq-eqb, eqb-true, le-ltb, le_of_eq, arith, Ok, Err, Result}
+use Rattle.std.proofs.Common.{◌≡◌, ◌≢◌, ℕ, ◌+◌, ◌≤◌, Bool, true, false, ◌||◌, refl, sym, ◌∙◌, ap, subst, Some, None, Option, ◌⊎◌, inl, inr, List, [], ◌∷◌, cond, true≢false, if◌then◌else◌, eq-eqb, eqb-true, le-ltb, le_of_eq, arith, Ok, Err, Result}
 use Rattle.std.specs.FinMap.{get}
+use Rattle.std.specs.Bool.{MatchBool}
+use Rattle.std.proofs.lemmas.Bool.Decides.{eqb_tells}
 use Rattle.event_manager.specs.Event.{Event}
 use Rattle.event_manager.specs.Exchange.{Exchanges}
-use Rattle.event_manager.specs.Registrations.{Owns}
+use Rattle.event_manager.specs.Registrations.{Registrations, Owns}
+use Rattle.event_manager.specs.DispatchOrder.{class_by, class_of, IsDispatchOrder}
 use Rattle.event_manager.specs.Registry.{Step, is_id}
 use Rattle.event_manager.specs.Dispatch.{Position, events_of}
 use Rattle.event_manager.specs.Iteration.{ManagerState, JobRun, IsAfterWait, AreRun}
 use Rattle.event_manager.specs.Trace.{Effect, Stepped, Iterated, Entry, Matches, HasEffect, IsTrace}
-use Rattle.event_manager.specs.Projection.{projected_registry, projected_state, only_position, positions_exchanges, effect_exchanges, exchanges_in, asks_to_add, adds, stays, names, projected_effect, projection, projected_next, NonInterference}
+use Rattle.event_manager.specs.Projection.{projected_registrations, projected_registry, projected_state, AreProjected, positions_exchanges, effect_exchanges, exchanges_in, asks_to_add, adds, stays, names, IsProjectedEffect, IsProjection, projected_next, NonInterference}
 use Rattle.vmm_sys.specs.declared.errno.Errno.{Errno}
 use Rattle.event_manager.proofs.ProjectedExchanges.{IsMine, calls_first, calls_then, adds_first, adds_then, or_left, or_right}
 use Rattle.event_manager.proofs.ProjectedSteps.{own_step, other_step}
-use Rattle.event_manager.proofs.ProjectedDispatch.{projected_dispatch, foreign_positions, woven_alike}
+use Rattle.event_manager.proofs.DispatchOrders.{by_class, ordered_by_class, one_order_of_mine}
+use Rattle.event_manager.proofs.FiniteMaps.{get-owned_by}
+use Rattle.event_manager.proofs.ProjectedDispatch.{projected_dispatch, foreign_positions, weave, woven_projected}
 
-pub events_of-only_outcome : {V : Type 0} (i : ℕ) (positions : List (Position V)) → events_of (map (only_position i) positions) ≡ events_of positions
-events_of-only_outcome i [] = refl
-events_of-only_outcome i (d ∷ positions) = ap (λ es. d.event ∷ es) (events_of-only_outcome i positions)
+-- at a descriptor of i's, i's own registrations give the class that all give
+class_answer : (i : ℕ) (o p : Option ℕ) → ((j : ℕ) → j ≢ i → o ≡ Some j → ⊥) → class_by (cond (is_id i o) o None) (cond (is_id i o) p None) ≡ class_by o p
+class_answer i None p alien = refl
+class_answer i (Some j) p alien = elim (eqb_tells j i) [ inl t ↦ ap (λ b. class_by (cond b (Some j) None) (cond b p None)) t.0 | inr t ↦ absurd (alien j t.1 refl) ]
+
+own_class : (i : ℕ) (mine : ℕ → Bool) (pending : List Event) (registrations : Registrations) → IsMine i mine registrations.owner → (fd : ℕ) → mine fd ≡ true → class_of (projected_registrations i pending registrations) fd ≡ class_of registrations fd
+own_class i mine pending registrations m fd e =
+    (λ k. class_by (get-owned_by i registrations.owner registrations.owner fd k) (get-owned_by i registrations.owner registrations.priority fd k))
+    ∙ class_answer i (get registrations.owner fd) (get registrations.priority fd) (λ j differ held. true≢false (sym e ∙ m.other fd j differ held))
 
 module _ {V J R : Type 0} (begins : V → Exchanges → V → Type 0) (serves : V → Event → Exchanges → V → Type 0) (may : J → List (Step V) → R → Type 0) where
   -- jobs are counted
@@ -49,23 +60,34 @@ module _ {V J R : Type 0} (begins : V → Exchanges → V → Type 0) (serves : 
 
     -- an iteration
     record TurnAlone (n : ℕ) (before : ManagerState V) (waited : Result (List Event) Errno) (positions : List (Position V)) (jobs : List (JobRun V J R)) (after : ManagerState V) : Type 0 where
-      fits : IsAfterWait begins serves may (projected_state i n before) waited (map (only_position i) positions) jobs (projected_state i n after)
+      shown : List (Position V)
+      projected : AreProjected i positions shown
+      fits : IsAfterWait begins serves may (projected_state i n before) waited shown jobs (projected_state i n after)
       still : IsMine i mine after.registry.registrations.owner
       next : after.registry.next ≡ before.registry.next
 
     wait_projected : (n : ℕ) (before : ManagerState V) (waited : Result (List Event) Errno) (positions : List (Position V)) (jobs : List (JobRun V J R)) (after : ManagerState V) → after.taken ≡ before.taken → IsMine i mine before.registry.registrations.owner → IsClaimed (positions_exchanges i positions) → Apart (λ j. positions_exchanges j positions) → IsAfterWait begins serves may before waited positions jobs after → TurnAlone n before waited positions jobs after
     wait_projected n before (Err errno) positions jobs after same m claimed apart (no_positions, none, is) = record {
-      fits = (ap (map (only_position i)) no_positions, none, ap (projected_state i n) is);
+      shown = [];
+      projected = subst (λ ps. AreProjected i ps []) (sym no_positions) (record { same = refl; only = tt });
+      fits = (refl, none, ap (projected_state i n) is);
       still = subst (λ (s : ManagerState V). IsMine i mine s.registry.registrations.owner) (sym is) m;
       next = ap (λ (s : ManagerState V). s.registry.next) is;
     }
     wait_projected n before (Ok report) positions jobs after same m claimed apart (mid, dispatch, none, job_run) =
         let idle = no_jobs (record before { registry = mid }) jobs after same job_run in
-        let d = projected_dispatch serves i mine n [] before.registry [] [] positions (map (only_position i) positions) mid (woven_alike serves i mine n positions (foreign_positions serves i mine n before.registry [] positions mid m claimed apart dispatch.1)) m claimed apart (λ fd h. refl) dispatch.1 in
+        let registrations = before.registry.registrations in
+        let own : ℕ → ℕ = λ fd. class_of (projected_registrations i [] registrations) fd in
+        let order = ordered_by_class own report in
+        let mine_alike = one_order_of_mine (λ fd. class_of registrations fd) own mine (own_class i mine [] registrations m) report (events_of positions) (by_class own report) dispatch.0 order in
+        let w = weave serves i mine n (by_class own report) positions (foreign_positions serves i mine n before.registry [] positions mid m claimed apart dispatch.1) mine_alike in
+        let d = projected_dispatch serves i mine n [] before.registry [] [] positions w.shown mid w.woven m claimed apart (λ fd h. refl) dispatch.1 in
         record {
+          shown = w.shown;
+          projected = woven_projected i mine positions w.shown w.woven;
           fits = (
             projected_registry i n mid,
-            (events_of-only_outcome i positions ∙ dispatch.0, d.fits),
+            (subst (λ es. IsDispatchOrder (projected_registrations i [] registrations) report es) (sym w.events_are) order, d.fits),
             none,
             subst (λ js. AreRun begins serves may (record (projected_state i n before) { registry = projected_registry i n mid }) js (projected_state i n after)) (sym idle.0) (ap (projected_state i n) idle.1),
           );
@@ -76,7 +98,9 @@ module _ {V J R : Type 0} (begins : V → Exchanges → V → Type 0) (serves : 
     -- what a call did
     record Kept (n : ℕ) (before : ManagerState V) (effect : Effect V J R) (after : ManagerState V) : Type 0 where
       next : ℕ
-      has_effect : HasEffect begins serves may (projected_state i n before) (projected_effect i effect) (projected_state i next after)
+      shown : Effect V J R
+      projected : IsProjectedEffect i effect shown
+      has_effect : HasEffect begins serves may (projected_state i n before) shown (projected_state i next after)
       still : IsMine i mine after.registry.registrations.owner
       joins : after.registry.next ≤ i → next ≡ i
 
@@ -88,20 +112,20 @@ module _ {V J R : Type 0} (begins : V → Exchanges → V → Type 0) (serves : 
     effect_projected : (n : ℕ) (before : ManagerState V) (effect : Effect V J R) (after : ManagerState V) → after.taken ≡ before.taken → IsMine i mine before.registry.registrations.owner → IsClaimed (effect_exchanges i effect) → Apart (λ j. effect_exchanges j effect) → (before.registry.next ≤ i → n ≡ i) → HasEffect begins serves may before effect after → ((stays i effect ≡ true) × Kept n before effect after) ⊎ ((stays i effect ≡ false) × Dropped n before after)
     effect_projected n before (Iterated iteration) after same m claimed apart joins h =
         let t = wait_projected n before iteration.waited iteration.positions iteration.jobs after same m claimed apart h in
-        inl (refl, record { next = n; has_effect = t.fits; still = t.still; joins = λ le. joins (subst (λ k. k ≤ i) t.next le) })
+        inl (refl, record { next = n; shown = Iterated (record iteration { positions = t.shown }); projected = (t.shown, t.projected, refl); has_effect = t.fits; still = t.still; joins = λ le. joins (subst (λ k. k ≤ i) t.next le) })
     effect_projected n before (Stepped step) after same m claimed apart joins h =
         let at : (b : Bool) → names i step ≡ b → ((b ≡ true) × Kept n before (Stepped step) after) ⊎ ((b ≡ false) × Dropped n before after) = elim [
-          | true ↦ λ e. let s = own_step begins i mine n before.registry step after.registry e m claimed joins h.0 in inl (refl, record { next = s.next; has_effect = (s.fits, h.1); still = s.still; joins = s.joins })
+          | true ↦ λ e. let s = own_step begins i mine n before.registry step after.registry e m claimed joins h.0 in inl (refl, record { next = s.next; shown = Stepped step; projected = refl; has_effect = (s.fits, h.1); still = s.still; joins = s.joins })
           | false ↦ λ e. let s = other_step begins i mine before.registry step after.registry e m apart h.0 in inr (refl, record { same = (λ k. record { registry = s.same n k; taken = h.1 k }); still = s.still; joins = λ le. joins (let l = s.later in omega arith) })
         ]
         in at (names i step) refl
 
-    matches_projected : (effect : Effect V J R) (c : _) (r : _) → Matches effect c r → Matches (projected_effect i effect) c r
-    matches_projected (Stepped step) c r h = h
-    matches_projected (Iterated iteration) c r h = h
+    matches_projected : (effect shown : Effect V J R) (c : _) (r : _) → IsProjectedEffect i effect shown → Matches effect c r → Matches shown c r
+    matches_projected (Stepped step) shown c r is h = subst (λ s. Matches s c r) (sym is) h
+    matches_projected (Iterated iteration) shown c r (positions, are, is) h = subst (λ s. Matches s c r) (sym is) h
 
-    pub trace_projected : (n : ℕ) (before : ManagerState V) (trace : List (Entry V J R)) (after : ManagerState V) → after.taken ≡ before.taken → IsMine i mine before.registry.registrations.owner → IsClaimed (exchanges_in i trace) → Apart (λ j. exchanges_in j trace) → (before.registry.next ≤ i → n ≡ i) → IsTrace begins serves may before trace after → (next : ℕ) × IsTrace begins serves may (projected_state i n before) (projection i trace) (projected_state i next after)
-    trace_projected n before [] after same m claimed apart joins is = (n, ap (projected_state i n) is)
+    pub trace_projected : (n : ℕ) (before : ManagerState V) (trace : List (Entry V J R)) (after : ManagerState V) → after.taken ≡ before.taken → IsMine i mine before.registry.registrations.owner → IsClaimed (exchanges_in i trace) → Apart (λ j. exchanges_in j trace) → (before.registry.next ≤ i → n ≡ i) → IsTrace begins serves may before trace after → (next : ℕ) × (projected : List (Entry V J R)) × IsProjection i trace projected × IsTrace begins serves may (projected_state i n before) projected (projected_state i next after)
+    trace_projected n before [] after same m claimed apart joins is = (n, [], refl, ap (projected_state i n) is)
     trace_projected n before (entry ∷ trace) after same m claimed apart joins (mid, made, has_effect, more) =
         let a = does_grow before entry.effect mid has_effect in
         let b = trace_grows mid trace after more in
@@ -115,14 +139,20 @@ module _ {V J R : Type 0} (begins : V → Exchanges → V → Type 0) (serves : 
           | inl p ↦
               let rest = trace_projected (p.1).next mid trace after rest_same (p.1).still claimed2 apart2 (p.1).joins more in (
                 rest.0,
-                subst (λ b. IsTrace begins serves may (projected_state i n before) (if b then record entry { effect = projected_effect i entry.effect } ∷ projection i trace else projection i trace) (projected_state i rest.0 after)) (sym p.0)
-                    (projected_state i (p.1).next mid, matches_projected entry.effect entry.call entry.reply made, (p.1).has_effect, rest.1),
+                record entry { effect = (p.1).shown } ∷ rest.1,
+                subst (λ b. MatchBool b
+                    ((effect : Effect V J R) × (others : List (Entry V J R)) × IsProjectedEffect i entry.effect effect × IsProjection i trace others × (record entry { effect = (p.1).shown } ∷ rest.1 ≡ record entry { effect = effect } ∷ others))
+                    (IsProjection i trace (record entry { effect = (p.1).shown } ∷ rest.1))) (sym p.0) ((p.1).shown, rest.1, (p.1).projected, rest.2, refl),
+                (projected_state i (p.1).next mid, matches_projected entry.effect (p.1).shown entry.call entry.reply (p.1).projected made, (p.1).has_effect, rest.3),
               )
           | inr p ↦
               let rest = trace_projected n mid trace after rest_same (p.1).still claimed2 apart2 (p.1).joins more in (
                 rest.0,
-                subst (λ b. IsTrace begins serves may (projected_state i n before) (if b then record entry { effect = projected_effect i entry.effect } ∷ projection i trace else projection i trace) (projected_state i rest.0 after)) (sym p.0)
-                    (subst (λ s. IsTrace begins serves may s (projection i trace) (projected_state i rest.0 after)) (p.1).same rest.1),
+                rest.1,
+                subst (λ b. MatchBool b
+                    ((effect : Effect V J R) × (others : List (Entry V J R)) × IsProjectedEffect i entry.effect effect × IsProjection i trace others × (rest.1 ≡ record entry { effect = effect } ∷ others))
+                    (IsProjection i trace rest.1)) (sym p.0) rest.2,
+                subst (λ s. IsTrace begins serves may s rest.1 (projected_state i rest.0 after)) (p.1).same rest.3,
               )
         ]
 

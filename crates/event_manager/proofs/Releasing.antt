@@ -4,8 +4,8 @@ use Rattle.std.proofs.lemmas.List.{take_more, take_all}
 use Rattle.vmm_sys.specs.declared.errno.Errno.{Errno}
 use Rattle.vmm_sys.specs.declared.epoll.ControlOperation.TheVariants as operation
 use Rattle.event_manager.specs.PollerCall.{PollerCall, Control, Controls, Waits, Leads}
-use Rattle.event_manager.specs.Registry.{AreDeletes, AreOwnedBy, without_owner, empty_event}
-use Rattle.event_manager.specs.RegistrationState.{registrations_of}
+use Rattle.event_manager.specs.Registry.{AreDeletes, AreOwnedBy, empty_event}
+use Rattle.event_manager.specs.RegistrationState.{registrations_of, left_in}
 use Rattle.event_manager.specs.Releasing.{HasReleased}
 use Rattle.event_manager.specs.declared.epoll.EpollWrapper.{EpollWrapper}
 use Rattle.event_manager.proofs.ExchangeLemmas.{leads_join}
@@ -39,7 +39,7 @@ module _ {P : Type 0} (controls : Controls P) (waits : Waits P) (fds : List ℕ)
       }
 
   -- the descriptors were freed, and then one Delete was asked for each
-  pub released : (i k : ℕ) (before now after : EpollWrapper P) → AreOwnedBy i (registrations_of before.registrations) fds → now.registrations ≡ record before.registrations { owner = without_owner i before.registrations.owner } → after.registrations ≡ now.registrations
+  pub released : (i k : ℕ) (before now after : EpollWrapper P) → AreOwnedBy i (registrations_of before.registrations) fds → now.registrations ≡ left_in i before.registrations → after.registrations ≡ now.registrations
       → length fds ≤ k → DeletedSoFar controls waits fds k before.poller after.poller → HasReleased controls waits before after i
   released i k before now after owned freed same all so_far = record {
     fds = fds;

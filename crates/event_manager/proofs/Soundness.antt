@@ -1,49 +1,84 @@
 -- What holds of every state that a trace reaches, and of the ids that it gives.
-use Rattle.std.proofs.Common.{IfSome, ◌≡◌, ◌≢◌, ℕ, ◌+◌, ◌<◌, ◌==◌, cond, Bool, true, false, not, refl, sym, ◌∙◌, ap, subst, Some, None, Option, ◌⊎◌, inl, inr, nat_cmp, List, [], ◌∷◌, ◌++◌, true≢false, eq-eqb, arith, Ok, Err, Result, append_assoc, lt_irrefl, is_eq, Equal}
+use Rattle.std.proofs.Common.{IfSome, ◌≡◌, ◌≢◌, ℕ, ◌+◌, ◌<◌, ◌≤◌, ◌==◌, cond, Bool, true, false, not, refl, sym, ◌∙◌, ap, subst, Some, None, Option, ◌⊎◌, inl, inr, nat_cmp, List, [], ◌∷◌, ◌++◌, true≢false, eq-eqb, arith, Ok, Err, Result, append_assoc, lt_irrefl, is_eq, Equal}
 use Rattle.std.specs.FinMap.{FinMap, get, insert, remove, get-insert, get-remove, get-empty}
 use Rattle.std.specs.Cmp.{nat_cmp_total, nat_cmp_is}
+use Rattle.std.specs.Ordering.{eq_by_cmp}
 use Rattle.std.proofs.lemmas.Bool.Decides.{eqb_tells}
 use Rattle.event_manager.specs.Event.{Event}
 use Rattle.event_manager.specs.Registrations.{Registrations, Owns, IsFree}
 use Rattle.event_manager.specs.PollerCall.{PollerCall}
-use Rattle.event_manager.specs.Exchange.{Answer, Exchanges, Fits, by_manager, by_poller, by_agreement, ExchangesFit, ReachesPoller, registrations_after}
+use Rattle.event_manager.specs.Exchange.{Answer, Exchanges, Fits, by_manager, by_poller, by_agreement, ExchangesFit, ReachesPoller, entered, registrations_after}
 use Rattle.event_manager.specs.Registry.{acts_on, removed_by, Registry, Step, Joined, NotJoined, Left, NotLeft, Replaced, NotReplaced, Requested, NotRequested, Steps, is_id, without_owner, HasId, LacksId}
 use Rattle.event_manager.specs.Dispatch.{Outcome, Nobody, To, Position, IsOutcome, AreDispatched, still_pending, events_of}
 use Rattle.event_manager.specs.Iteration.{ManagerState, JobRun, IsAfterWait, AreRun, AllSteps}
 use Rattle.event_manager.specs.Trace.{Effect, Stepped, Iterated, Entry, HasEffect, IsTrace, new_state}
-use Rattle.event_manager.specs.Guarantees.{IsSound, steps_of_jobs, steps_of_effect, steps_of, AreGiven, AreRefusedTo, RemovedStayGone}
+use Rattle.event_manager.specs.Guarantees.{IsSound, HasPriority, steps_of_jobs, steps_of_effect, steps_of, AreGiven, AreRefusedTo, RemovedStayGone}
 use Rattle.vmm_sys.specs.declared.errno.Errno.{Errno}
 use Rattle.event_manager.specs.declared.events.Request.{Request}
-use Rattle.event_manager.specs.declared.events.Request.TheVariants.{Add, Modify, Remove}
+use Rattle.event_manager.specs.declared.events.Request.TheVariants.{Add, AddWithPriority, Modify, Remove}
+use Rattle.event_manager.specs.declared.priority.Priority.{Priority}
+use Rattle.event_manager.specs.declared.priority.Priority.TheVariants.{Lowest, Low, High, Highest}
+use Rattle.event_manager.specs.Priority.{number_of}
 use Rattle.event_manager.proofs.FiniteMaps.{fd_tells, get-without_owner}
 use Rattle.event_manager.proofs.ProjectedSteps.{from_disowned}
 use Rattle.event_manager.proofs.Isolation.{insert_other_value, remove_other_value}
+
+-- a priority stays with its owner
+HasPriority-at : (o p : Option ℕ) (a b : Option ℕ) → a ≡ o → b ≡ p → HasPriority o p → HasPriority a b
+HasPriority-at o p a b same alike h = subst (λ x. HasPriority x b) (sym same) (subst (λ x. HasPriority o x) (sym alike) h)
+
+given_priority : (i n : ℕ) (o p : Option ℕ) (b : Bool) → n ≤ 3 → HasPriority o p → HasPriority (cond b (Some i) o) (cond b (Some n) p)
+given_priority i n o p true le h = (n, refl, le)
+given_priority i n o p false le h = h
+
+taken_priority : (o p : Option ℕ) (b : Bool) → HasPriority o p → HasPriority (cond b None o) (cond b None p)
+taken_priority o p true h = refl
+taken_priority o p false h = h
+
+left_priority : (o p : Option ℕ) (b : Bool) → HasPriority o p → HasPriority (cond b o None) (cond b p None)
+left_priority o p true h = h
+left_priority o p false h = refl
+
+at_most_3 : (priority : Priority) → number_of priority ≤ 3
+at_most_3 Lowest = omega arith
+at_most_3 Low = omega arith
+at_most_3 High = omega arith
+at_most_3 Highest = omega arith
+
+abbrev HavePriorities : Registrations → Type 0
+HavePriorities registrations = (fd : ℕ) → HasPriority (get registrations.owner fd) (get registrations.priority fd)
 
 -- what the exchanges of id i do to the owners
 record OwnersAfter (i : ℕ) (before after : Registrations) : Type 0 where
   from : (fd : ℕ) (j : ℕ) → Owns j after fd → Owns j before fd ⊎ (j ≡ i)
   endpoint_free : IsFree before before.endpoint → IsFree after after.endpoint
+  priorities : HavePriorities before → HavePriorities after
 
 owners_same : (i : ℕ) (registrations : Registrations) → OwnersAfter i registrations registrations
-owners_same i registrations = record { from = λ fd j h. inl h; endpoint_free = λ h. h }
+owners_same i registrations = record { from = λ fd j h. inl h; endpoint_free = λ h. h; priorities = λ h. h }
 
 owners_then : (i : ℕ) (a b c : Registrations) → OwnersAfter i a b → OwnersAfter i b c → OwnersAfter i a c
-owners_then i a b c h k = record { from = λ fd j o. elim (k.from fd j o) [ inl p ↦ h.from fd j p | inr p ↦ inr p ]; endpoint_free = λ f. k.endpoint_free (h.endpoint_free f) }
+owners_then i a b c h k = record { from = λ fd j o. elim (k.from fd j o) [ inl p ↦ h.from fd j p | inr p ↦ inr p ]; endpoint_free = λ f. k.endpoint_free (h.endpoint_free f); priorities = λ p. k.priorities (h.priorities p) }
 
 some_same : (i j : ℕ) → ◌≡◌ {A = Option ℕ} (Some i) (Some j) → j ≡ i
 some_same i j e = cc
 
-owners_after : (i : ℕ) (registrations : Registrations) (request : Request) → ReachesPoller i registrations request → OwnersAfter i registrations (registrations_after i request registrations)
-owners_after i registrations (Add e) h = record {
+owners_entered : (i number : ℕ) (registrations : Registrations) (e : Event) → number ≤ 3 → ¬ (e.fd ≡ registrations.endpoint) → OwnersAfter i registrations (entered i e number registrations)
+owners_entered i number registrations e le apart = record {
   from = λ fd j o. elim (fd_tells fd e.fd) [
     | inl t ↦ inr (some_same i j (sym (get-insert nat_cmp_total registrations.owner e.fd i fd ∙ ap (λ b. cond b (Some i) (get registrations.owner fd)) t.0) ∙ o))
     | inr t ↦ inl (sym (get-insert nat_cmp_total registrations.owner e.fd i fd ∙ ap (λ b. cond b (Some i) (get registrations.owner fd)) t.0) ∙ o)
   ];
   endpoint_free = λ f. elim (fd_tells registrations.endpoint e.fd) [
-    | inl t ↦ absurd (h.1 (sym t.1))
+    | inl t ↦ absurd (apart (sym t.1))
     | inr t ↦ get-insert nat_cmp_total registrations.owner e.fd i registrations.endpoint ∙ ap (λ b. cond b (Some i) (get registrations.owner registrations.endpoint)) t.0 ∙ f
   ];
+  priorities = λ h fd. HasPriority-at _ _ _ _ (get-insert nat_cmp_total registrations.owner e.fd i fd) (get-insert nat_cmp_total registrations.priority e.fd number fd) (given_priority i number (get registrations.owner fd) (get registrations.priority fd) (eq_by_cmp nat_cmp fd e.fd) le (h fd));
 }
+
+owners_after : (i : ℕ) (registrations : Registrations) (request : Request) → ReachesPoller i registrations request → OwnersAfter i registrations (registrations_after i request registrations)
+owners_after i registrations (Add e) h = owners_entered i 0 registrations e (omega arith) h.1
+owners_after i registrations (AddWithPriority e priority) h = owners_entered i (number_of priority) registrations e (at_most_3 priority) h.1
 owners_after i registrations (Modify e) h = owners_same i registrations
 owners_after i registrations (Remove e) h = record {
   from = λ fd j o. elim (fd_tells fd e.fd) [
@@ -54,6 +89,7 @@ owners_after i registrations (Remove e) h = record {
     | inl t ↦ get-remove nat_cmp_total registrations.owner e.fd registrations.endpoint ∙ ap (λ b. cond b None (get registrations.owner registrations.endpoint)) t.0
     | inr t ↦ get-remove nat_cmp_total registrations.owner e.fd registrations.endpoint ∙ ap (λ b. cond b None (get registrations.owner registrations.endpoint)) t.0 ∙ f
   ];
+  priorities = λ h fd. HasPriority-at _ _ _ _ (get-remove nat_cmp_total registrations.owner e.fd fd) (get-remove nat_cmp_total registrations.priority e.fd fd) (taken_priority (get registrations.owner fd) (get registrations.priority fd) (eq_by_cmp nat_cmp fd e.fd) (h fd));
 }
 
 owners_fit : (i : ℕ) (registrations : Registrations) (request : Request) (answer : Answer) (calls : List PollerCall) (after : Registrations) → Fits i registrations request answer calls after → OwnersAfter i registrations after
@@ -74,8 +110,8 @@ gone_answer i (Some j) = elim (j == i) as (λ b. is_id i (cond (not b) (Some j) 
     ends true = refl
     ends false = refl
 
-gone : (i : ℕ) (owner : FinMap nat_cmp ℕ) (fd : ℕ) → is_id i (get (without_owner i owner) fd) ≡ false
-gone i owner fd = ap (is_id i) (get-without_owner i owner fd) ∙ gone_answer i (get owner fd)
+gone : (i : ℕ) (owner : FinMap nat_cmp ℕ) (fd : ℕ) → is_id i (get (without_owner i owner owner) fd) ≡ false
+gone i owner fd = ap (is_id i) (get-without_owner i owner owner fd) ∙ gone_answer i (get owner fd)
 
 still_free : (i : ℕ) (o : Option ℕ) → o ≡ None → cond (not (is_id i o)) o None ≡ None
 still_free i o e = rw e refl
@@ -120,8 +156,8 @@ module _ {V : Type 0} where
   sound_at before made e s = subst (λ (r : Registry V). IsSound r) (sym e) s
 
   -- an id in the map has exchanges, and holds a value after them
-  sound_exchanges : (before : Registry V) (i next : ℕ) (held : V) (exchanges : Exchanges) (calls : List PollerCall) (from registrations : Registrations) → IsSound before → from.owner ≡ before.registrations.owner → from.endpoint ≡ before.registrations.endpoint → (i < next) → (before.next < next + 1) → ExchangesFit i from exchanges calls registrations → IsSound (record { values = insert before.values i held; next = next; registrations = registrations })
-  sound_exchanges before i next held exchanges calls from registrations s same same_end below up fits =
+  sound_exchanges : (before : Registry V) (i next : ℕ) (held : V) (exchanges : Exchanges) (calls : List PollerCall) (from registrations : Registrations) → IsSound before → from.owner ≡ before.registrations.owner → from.priority ≡ before.registrations.priority → from.endpoint ≡ before.registrations.endpoint → (i < next) → (before.next < next + 1) → ExchangesFit i from exchanges calls registrations → IsSound (record { values = insert before.values i held; next = next; registrations = registrations })
+  sound_exchanges before i next held exchanges calls from registrations s same alike same_end below up fits =
       let o = owners_exchanges i from exchanges calls registrations fits in
       record {
         owners = λ fd j h. elim (o.from fd j h) [
@@ -133,11 +169,12 @@ module _ {V : Type 0} where
           | inr p ↦ let b = s.given j v p in omega arith
         ];
         endpoint_free = o.endpoint_free ((λ k. get (same k) (same_end k)) ∙ s.endpoint_free);
+        priorities = o.priorities (λ fd. HasPriority-at _ _ _ _ (ap (λ (w : FinMap nat_cmp ℕ). get w fd) same) (ap (λ (w : FinMap nat_cmp ℕ). get w fd) alike) (s.priorities fd));
       }
 
   sound_step : (begins : V → Exchanges → V → Type 0) (before : Registry V) (step : Step V) (after : Registry V) → IsSound before → Steps begins before step after → IsSound after
   sound_step begins before (Joined value id exchanges calls held) after s (registrations, capacity, is, fits, beg, e) =
-      sound_at after _ e (sound_exchanges before id (before.next + 1) held exchanges calls before.registrations registrations s refl refl (omega arith) (omega arith) fits)
+      sound_at after _ e (sound_exchanges before id (before.next + 1) held exchanges calls before.registrations registrations s refl refl refl (omega arith) (omega arith) fits)
   sound_step begins before (NotJoined value error) after s h = sound_at after before h.1 s
   sound_step begins before (Left id value calls) after s (fds, has, is_owner, deletes, e) = sound_at after _ e (record {
     owners = λ fd j h.
@@ -145,7 +182,9 @@ module _ {V : Type 0} where
         let differ : j ≢ id = λ t. true≢false (sym (ap (is_id id) h ∙ ap (λ k. k == id) t ∙ eq-eqb id id refl) ∙ gone id before.registrations.owner fd) in
         let v = s.owners fd j o in (v.0, remove_other_value id j before.values differ ∙ v.1);
     given = λ j v h. s.given j v (from_remove j id before.values v h);
-    endpoint_free = get-without_owner id before.registrations.owner before.registrations.endpoint ∙ still_free id (get before.registrations.owner before.registrations.endpoint) s.endpoint_free;
+    endpoint_free = get-without_owner id before.registrations.owner before.registrations.owner before.registrations.endpoint ∙ still_free id (get before.registrations.owner before.registrations.endpoint) s.endpoint_free;
+    priorities = λ fd. HasPriority-at _ _ _ _ (get-without_owner id before.registrations.owner before.registrations.owner fd) (get-without_owner id before.registrations.owner before.registrations.priority fd)
+        (left_priority (get before.registrations.owner fd) (get before.registrations.priority fd) (not (is_id id (get before.registrations.owner fd))) (s.priorities fd));
   })
   sound_step begins before (NotLeft id) after s h = sound_at after before h.1 s
   sound_step begins before (Replaced id old new) after s (has, e) = sound_at after _ e (record {
@@ -155,6 +194,7 @@ module _ {V : Type 0} where
       | inr p ↦ s.given j v p
     ];
     endpoint_free = s.endpoint_free;
+    priorities = s.priorities;
   })
   sound_step begins before (NotReplaced id) after s h = sound_at after before h.1 s
   sound_step begins before (Requested id exchanges calls) after s (value, registrations, has, fits, e) =
@@ -163,17 +203,18 @@ module _ {V : Type 0} where
         owners = λ fd j h. elim (o.from fd j h) [ inl p ↦ s.owners fd j p | inr p ↦ (value, ap (get before.values) p ∙ has) ];
         given = s.given;
         endpoint_free = o.endpoint_free s.endpoint_free;
+        priorities = o.priorities s.priorities;
       })
   sound_step begins before (NotRequested id) after s h = sound_at after before h.1 s
 
   sound_outcome : (serves : V → Event → Exchanges → V → Type 0) (before : Registry V) (earlier : List (Position V)) (e : Event) (later : List Event) (outcome : Outcome V) (after : Registry V) → IsSound before → IsOutcome serves before earlier e later outcome after → IsSound after
-  sound_outcome serves before earlier e later Nobody after s (nobody, is) = sound_at after _ is (record { owners = s.owners; given = s.given; endpoint_free = s.endpoint_free })
+  sound_outcome serves before earlier e later Nobody after s (nobody, is) = sound_at after _ is (record { owners = s.owners; given = s.given; endpoint_free = s.endpoint_free; priorities = s.priorities })
   sound_outcome serves before earlier e later (To i exchanges calls held) after s (value, registrations, for, serving, fits, is) =
       let below = s.given i value for.2 in
-      sound_at after _ is (sound_exchanges before i before.next held exchanges calls (record before.registrations { pending = still_pending earlier later }) registrations s refl refl below (omega arith) fits)
+      sound_at after _ is (sound_exchanges before i before.next held exchanges calls (record before.registrations { pending = still_pending earlier later }) registrations s refl refl refl below (omega arith) fits)
 
   sound_positions : (serves : V → Event → Exchanges → V → Type 0) (before : Registry V) (earlier positions : List (Position V)) (after : Registry V) → IsSound before → AreDispatched serves before earlier positions after → IsSound after
-  sound_positions serves before earlier [] after s is = sound_at after _ is (record { owners = s.owners; given = s.given; endpoint_free = s.endpoint_free })
+  sound_positions serves before earlier [] after s is = sound_at after _ is (record { owners = s.owners; given = s.given; endpoint_free = s.endpoint_free; priorities = s.priorities })
   sound_positions serves before earlier (d ∷ positions) after s (mid, out, more) = sound_positions serves mid (earlier ++ d ∷ []) positions after (sound_outcome serves before earlier d.event (events_of positions) d.outcome mid s out) more
 
   -- the next id
@@ -322,4 +363,5 @@ new_is_sound {V} endpoint = record {
   owners = λ fd i h. let s : None ≡ Some i = sym (get-empty nat_cmp fd) ∙ h in cc;
   given = λ i v h. let s : None ≡ Some v = sym (get-empty nat_cmp i) ∙ h in cc;
   endpoint_free = get-empty nat_cmp endpoint;
+  priorities = λ fd. HasPriority-at None None _ _ (get-empty nat_cmp fd) (get-empty nat_cmp fd) refl;
 }

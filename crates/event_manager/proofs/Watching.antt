@@ -116,8 +116,14 @@ module _ (owner owners : FinMap nat_cmp ℕ) (watched : WatchLists) (i : ℕ) (a
   swapped true o = refl
   swapped false o = refl
 
-  pub owners_taken : owners ≡ without_owner i owner
-  owners_taken = same_map nat_cmp_total nat_cmp-IsAntisymmetric _ _ (λ q. owner_after q ∙ swapped (is_id i (get owner q)) (get owner q) ∙ sym (get-without_owner i owner q))
+  -- what each descriptor has beside its owner goes with it
+  pub entries_taken : (entries after : FinMap nat_cmp ℕ) → IsWithout fds entries after → after ≡ without_owner i owner entries
+  entries_taken entries after lost = same_map nat_cmp_total nat_cmp-IsAntisymmetric _ _ (λ q.
+      lost q
+      ∙ ap (λ n. cond (nat_lt 0 n) None (get entries q)) (ap (λ l. times_in l q) is ∙ are i q)
+      ∙ is_one (is_id i (get owner q)) (get entries q)
+      ∙ swapped (is_id i (get owner q)) (get entries q)
+      ∙ sym (get-without_owner i owner entries q))
 
 -- one more descriptor taken out
 without_answer : (b : Bool) (n : ℕ) (o : Option ℕ) → cond b None (cond (nat_lt 0 n) None o) ≡ cond (nat_lt 0 (n + cond b 1 0)) None o

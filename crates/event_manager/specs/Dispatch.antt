@@ -3,6 +3,7 @@ use Rattle.std.specs.Prelude.{◌≡◌, ℕ, Bool, false, not, ◌||◌, List, 
 use Rattle.std.specs.FinMap as finite
 use Rattle.event_manager.specs.Event.{Event}
 use Rattle.event_manager.specs.Registrations.{Registrations, Owns}
+use Rattle.event_manager.specs.DispatchOrder.{IsDispatchOrder}
 use Rattle.event_manager.specs.PollerCall.{PollerCall}
 use Rattle.event_manager.specs.Exchange.{Exchanges, ExchangesFit, removes}
 use Rattle.event_manager.specs.Registry.{Registry, HasId}
@@ -12,7 +13,7 @@ pub data Outcome (V : Type 0) : Type 0 where
   Nobody : Outcome V
   To : (id : ℕ) (exchanges : Exchanges) (calls : List PollerCall) (after : V) → Outcome V
 
--- a position of the batch: the event as it was reported, and its outcome
+-- a position of the batch, in the order of dispatch: the event as it was reported, and its outcome
 pub record Position (V : Type 0) : Type 0 where
   pub event : Event
   pub outcome : Outcome V
@@ -37,10 +38,6 @@ events_of positions = map (λ position. position.event) positions
 abbrev pub IsFor : {V : Type 0} → Registry V → List (Position V) → Event → ℕ → V → Type 0
 IsFor registry earlier event i value = Owns i registry.registrations event.fd × (is_removed event.fd earlier ≡ false) × HasId registry i value
 
--- The order in which the positions of a report are dispatched: that of the report.
-abbrev pub dispatch_order : {V : Type 0} → Registrations → List (Position V) → List (Position V)
-dispatch_order registrations positions = positions
-
 -- serves: which exchanges a subscriber may have on an event, from its value before to its value after.
 module _ {V : Type 0} (serves : V → Event → Exchanges → V → Type 0) where
   -- the outcome of one position, between the earlier ones and the later events
@@ -59,6 +56,6 @@ module _ {V : Type 0} (serves : V → Event → Exchanges → V → Type 0) wher
   AreDispatched before earlier (position ∷ later) after =
       (mid : Registry V) × IsOutcome before earlier position.event (events_of later) position.outcome mid × AreDispatched mid (earlier ++ position ∷ []) later after
 
-  -- a dispatch of the report: an outcome for each of its positions
+  -- a dispatch of the report: an outcome for each of its events, which come by the classes that they have before it
   abbrev pub IsDispatch : Registry V → List Event → List (Position V) → Registry V → Type 0
-  IsDispatch before report positions after = (events_of positions ≡ report) × AreDispatched before [] (dispatch_order before.registrations positions) after
+  IsDispatch before report positions after = IsDispatchOrder before.registrations report (events_of positions) × AreDispatched before [] positions after

@@ -2,6 +2,9 @@ pub mod PollerRelations
 pub mod Owners
 pub mod Cancelled
 pub mod Consistency
+pub mod Priority
+pub mod DispatchOrder
+pub mod Classes
 pub mod Dispatch
 pub mod Event
 pub mod Example

@@ -22,7 +22,7 @@ pub record LoopState (S P : Type 0) : Type 0 where
 -- a new one
 abbrev pub new_loop : {S P : Type 0} → ℕ → P → ℕ → LoopState S P
 new_loop endpoint poller capacity = record {
-  registry = record { values = map.empty; next = 1; registrations = record { owner = map.empty; endpoint = endpoint; pending = [] } };
+  registry = record { values = map.empty; next = 1; registrations = record { owner = map.empty; priority = map.empty; endpoint = endpoint; pending = [] } };
   taken = 0;
   poller = poller;
   capacity = capacity;

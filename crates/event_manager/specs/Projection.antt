@@ -1,6 +1,7 @@
 -- The projection of a trace to one id: all that belongs to other ids is taken out.
-use Rattle.std.specs.Prelude.{◌≡◌, ◌≢◌, ℕ, nat_lt, ◌==◌, Bool, true, false, ◌||◌, List, [], ◌∷◌, ◌++◌, map, Ok, Err, IsTrue, ◌⊎◌, if◌then◌else◌}
+use Rattle.std.specs.Prelude.{◌≡◌, ◌≢◌, ℕ, nat_lt, ◌==◌, Bool, true, false, ◌||◌, List, [], ◌∷◌, ◌++◌, filter, Ok, Err, IsTrue, ◌⊎◌, if◌then◌else◌}
 use Rattle.std.specs.FinMap as finite
+use Rattle.std.specs.Bool.{MatchBool}
 use Rattle.std.specs.Ordering.{nat_cmp}
 use Rattle.event_manager.specs.Event.{Event}
 use Rattle.event_manager.specs.Registrations.{Registrations, Owns}
@@ -11,18 +12,23 @@ use Rattle.event_manager.specs.Iteration.{ManagerState}
 use Rattle.event_manager.specs.Trace.{Effect, Stepped, Iterated, Entry, IsTrace}
 use Rattle.event_manager.specs.declared.calls.Reply.{Reply}
 use Rattle.event_manager.specs.declared.events.Request.{Request}
-use Rattle.event_manager.specs.declared.events.Request.TheVariants.{Add, Modify, Remove}
+use Rattle.event_manager.specs.declared.events.Request.TheVariants.{Add, AddWithPriority, Modify, Remove}
 
--- only the descriptors of id i
-abbrev pub owned_by : ℕ → finite.FinMap nat_cmp ℕ → finite.FinMap nat_cmp ℕ
-owned_by i owner = finite.retain_keys owner (λ fd. is_id i (finite.get owner fd))
+-- only the entries at descriptors of id i
+abbrev pub owned_by : ℕ → finite.FinMap nat_cmp ℕ → finite.FinMap nat_cmp ℕ → finite.FinMap nat_cmp ℕ
+owned_by i owner entries = finite.retain_keys entries (λ fd. is_id i (finite.get owner fd))
 
 -- only the value of id i
 abbrev pub only_values : {V : Type 0} → ℕ → finite.FinMap nat_cmp V → finite.FinMap nat_cmp V
 only_values i values = finite.retain_keys values (λ j. j == i)
 
 abbrev pub projected_registrations : ℕ → List Event → Registrations → Registrations
-projected_registrations i pending registrations = record { owner = owned_by i registrations.owner; endpoint = registrations.endpoint; pending = pending }
+projected_registrations i pending registrations = record {
+  owner = owned_by i registrations.owner registrations.owner;
+  priority = owned_by i registrations.owner registrations.priority;
+  endpoint = registrations.endpoint;
+  pending = pending;
+}
 
 -- the registry without the values and descriptors of other ids; nothing is pending
 abbrev pub projected_registry : {V : Type 0} → ℕ → ℕ → Registry V → Registry V
@@ -35,13 +41,23 @@ projected_state i next state = record { registry = projected_registry i next sta
 abbrev pub projected_next : {V : Type 0} → ℕ → ManagerState V → ℕ
 projected_next i state = if nat_lt i state.registry.next then state.registry.next else i
 
--- what other ids got becomes nobody's
-abbrev pub only_outcome : {V : Type 0} → ℕ → Outcome V → Outcome V
-only_outcome i Nobody = Nobody
-only_outcome i (To j exchanges calls after) = if j == i then To j exchanges calls after else Nobody
+-- whether id i got the event; nobody but i got it
+abbrev pub is_to : {V : Type 0} → ℕ → Outcome V → Bool
+is_to i Nobody = false
+is_to i (To j exchanges calls after) = j == i
 
-abbrev pub only_position : {V : Type 0} → ℕ → Position V → Position V
-only_position i position = record { event = position.event; outcome = only_outcome i position.outcome }
+abbrev pub IsOnly : {V : Type 0} → ℕ → Outcome V → Type 0
+IsOnly i Nobody = Unit {0}
+IsOnly i (To j exchanges calls after) = j ≡ i
+
+abbrev pub AreOnly : {V : Type 0} → ℕ → List (Position V) → Type 0
+AreOnly i [] = Unit {0}
+AreOnly i (position ∷ positions) = IsOnly i position.outcome × AreOnly i positions
+
+-- what id i got, it gets, in the same order; what other ids got becomes nobody's
+pub record AreProjected {V : Type 0} (i : ℕ) (positions projected : List (Position V)) : Type 0 where
+  pub same : filter (λ position. is_to i position.outcome) projected ≡ filter (λ position. is_to i position.outcome) positions
+  pub only : AreOnly i projected
 
 -- whether the effect stays: a step that names i, or the join that gave it; each iteration
 abbrev pub names : {V : Type 0} → ℕ → Step V → Bool
@@ -51,14 +67,19 @@ abbrev pub stays : {V J R : Type 0} → ℕ → Effect V J R → Bool
 stays i (Stepped step) = names i step
 stays i (Iterated iteration) = true
 
-abbrev pub projected_effect : {V J R : Type 0} → ℕ → Effect V J R → Effect V J R
-projected_effect i (Stepped step) = Stepped step
-projected_effect i (Iterated iteration) = Iterated (record iteration { positions = map (only_position i) iteration.positions })
+-- an effect with what belongs to other ids taken out; the positions come in the order that i's own registrations give them
+abbrev pub IsProjectedEffect : {V J R : Type 0} → ℕ → Effect V J R → Effect V J R → Type 0
+IsProjectedEffect i (Stepped step) projected = projected ≡ Stepped step
+IsProjectedEffect {V} i (Iterated iteration) projected =
+    (positions : List (Position V)) × AreProjected i iteration.positions positions × (projected ≡ Iterated (record iteration { positions = positions }))
 
--- the projection to i
-abbrev pub projection : {V J R : Type 0} → ℕ → List (Entry V J R) → List (Entry V J R)
-projection i [] = []
-projection i (entry ∷ trace) = if stays i entry.effect then record entry { effect = projected_effect i entry.effect } ∷ projection i trace else projection i trace
+-- a projection to i: the effects that stay are projected, the others left out
+abbrev pub IsProjection : {V J R : Type 0} → ℕ → List (Entry V J R) → List (Entry V J R) → Type 0
+IsProjection i [] projected = projected ≡ []
+IsProjection {V} {J} {R} i (entry ∷ trace) projected =
+    MatchBool (stays i entry.effect)
+    ((effect : Effect V J R) × (rest : List (Entry V J R)) × IsProjectedEffect i entry.effect effect × IsProjection i trace rest × (projected ≡ record entry { effect = effect } ∷ rest))
+    (IsProjection i trace projected)
 
 -- the exchanges of id i in a trace, in order
 abbrev pub step_exchanges : {V : Type 0} → ℕ → Step V → Exchanges
@@ -85,6 +106,7 @@ exchanges_in i (entry ∷ trace) = effect_exchanges i entry.effect ++ exchanges_
 -- whether an Add of the descriptor is asked; whether one is agreed
 abbrev pub is_add : ℕ → Request → Bool
 is_add fd (Add e) = e.fd == fd
+is_add fd (AddWithPriority e priority) = e.fd == fd
 is_add fd (Modify e) = false
 is_add fd (Remove e) = false
 
@@ -136,14 +158,15 @@ abbrev pub replies_to : {V J R : Type 0} → ℕ → List (Entry V J R) → List
 replies_to i [] = []
 replies_to i (entry ∷ trace) = if is_for i entry.effect then entry.reply ∷ replies_to i trace else replies_to i trace
 
--- Non-interference: of a trace in which no job ran, the projection to each i that is apart is itself a trace.
+-- Non-interference: of a trace in which no job ran, a projection to each i that is apart is itself a trace.
 abbrev pub NonInterference : {V J R : Type 0} → (V → Exchanges → V → Type 0) → (V → Event → Exchanges → V → Type 0) → (J → List (Step V) → R → Type 0) → ManagerState V → List (Entry V J R) → ManagerState V → Type 0
-NonInterference begins serves may before trace after =
+NonInterference {V} {J} {R} begins serves may before trace after =
     (i : ℕ) → after.taken ≡ before.taken → IsApart i before trace
-    → (next : ℕ) × IsTrace begins serves may (projected_state i (projected_next i before) before) (projection i trace) (projected_state i next after)
+    → (next : ℕ) × (projected : List (Entry V J R)) × IsProjection i trace projected × IsTrace begins serves may (projected_state i (projected_next i before) before) projected (projected_state i next after)
 
--- The projection has the same replies to i, the same deliveries to i and the same exchanges of i, and ends with the same value of i.
+-- A projection has the same replies to i, the same deliveries to i and the same exchanges of i, and ends with the same value of i.
 abbrev pub ProjectionKeeps : {V J R : Type 0} → List (Entry V J R) → ManagerState V → Type 0
-ProjectionKeeps trace after =
-    (i next : ℕ) → (replies_to i (projection i trace) ≡ replies_to i trace) × (deliveries i (projection i trace) ≡ deliveries i trace) × (exchanges_in i (projection i trace) ≡ exchanges_in i trace)
+ProjectionKeeps {V} {J} {R} trace after =
+    (i next : ℕ) (projected : List (Entry V J R)) → IsProjection i trace projected
+    → (replies_to i projected ≡ replies_to i trace) × (deliveries i projected ≡ deliveries i trace) × (exchanges_in i projected ≡ exchanges_in i trace)
     × (finite.get (projected_state i next after).registry.values i ≡ finite.get after.registry.values i)

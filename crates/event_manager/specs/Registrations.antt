@@ -1,13 +1,14 @@
--- Who owns which descriptor, and which events of the current batch are pending.
+-- Who owns which descriptor and at which priority, and which events of the current batch are pending.
 use Rattle.std.specs.Prelude.{◌≡◌, ℕ, ◌==◌, not, List, filter, Some, None}
 use Rattle.std.specs.FinMap as map
 use Rattle.std.specs.Ordering.{nat_cmp}
 use Rattle.event_manager.specs.Event.{Event}
 
--- Which id owns each descriptor; the endpoint's descriptor; the events of the current
--- batch that are still to come and aren't cancelled (none outside a loop iteration).
+-- Which id owns each descriptor, and the number of the priority at which it does; the endpoint's descriptor;
+-- the events of the current batch that are still to come and aren't cancelled (none outside a loop iteration).
 pub record Registrations : Type 0 where
   pub owner : map.FinMap nat_cmp ℕ
+  pub priority : map.FinMap nat_cmp ℕ
   pub endpoint : ℕ
   pub pending : List Event
 

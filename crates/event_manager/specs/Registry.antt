@@ -33,9 +33,15 @@ abbrev pub is_id : ℕ → Option ℕ → Bool
 is_id i None = false
 is_id i (Some j) = j == i
 
--- without the descriptors of id i
-abbrev pub without_owner : ℕ → map.FinMap nat_cmp ℕ → map.FinMap nat_cmp ℕ
-without_owner i owner = map.retain_keys owner (λ fd. not (is_id i (map.get owner fd)))
+-- the entries without those at descriptors of id i; the registrations once id i left
+abbrev pub without_owner : ℕ → map.FinMap nat_cmp ℕ → map.FinMap nat_cmp ℕ → map.FinMap nat_cmp ℕ
+without_owner i owner entries = map.retain_keys entries (λ fd. not (is_id i (map.get owner fd)))
+
+abbrev pub left_by : ℕ → Registrations → Registrations
+left_by i registrations = record registrations {
+  owner = without_owner i registrations.owner registrations.owner;
+  priority = without_owner i registrations.owner registrations.priority;
+}
 
 abbrev pub empty_event : Event
 empty_event = record { fd = 0; payload = 0; set = 0 }
@@ -70,7 +76,7 @@ module _ {V : Type 0} (begins : V → Exchanges → V → Type 0) where
       (((before.next ≡ ids_end) × (error ≡ IdsUsedUp)) ⊎ ((before.next < ids_end) × (error ≡ OutOfMemory))) × (after ≡ before)
   Steps before (Left id value calls) after =
       (fds : List ℕ) × HasId before id value × AreOwnedBy id before.registrations fds × AreDeletes fds calls
-      × (after ≡ record before { values = map.remove before.values id; registrations = record before.registrations { owner = without_owner id before.registrations.owner } })
+      × (after ≡ record before { values = map.remove before.values id; registrations = left_by id before.registrations })
   Steps before (NotLeft id) after = LacksId before id × (after ≡ before)
   Steps before (Replaced id old new) after = HasId before id old × (after ≡ record before { values = map.insert before.values id new })
   Steps before (NotReplaced id) after = LacksId before id × (after ≡ before)

@@ -8,7 +8,7 @@ use Rattle.event_manager.specs.Registrations.{Owns}
 use Rattle.event_manager.specs.Registry.{HasId}
 use Rattle.event_manager.specs.Registry as model
 use Rattle.event_manager.specs.RegistrationState.{registrations_of, not_cancelled, cancel_removed}
-use Rattle.event_manager.specs.Dispatch.{Outcome, Nobody, To, Position, exchanges_of, IsDispatch}
+use Rattle.event_manager.specs.Dispatch.{Outcome, Nobody, To, Position, exchanges_of, events_of, AreDispatched}
 use Rattle.vmm_sys.specs.declared.errno.Errno.{Errno}
 use Rattle.event_manager.specs.Iteration.{calls_of_outcome, calls_of_positions, answer_of, is_reported}
 use Rattle.event_manager.specs.LoopState.{LoopState, IsDispatchedAfter}
@@ -54,14 +54,15 @@ module _ {S P : Type 0} where
       pub same_endpoint : after.ops.epoll.registrations.endpoint ≡ before.ops.epoll.registrations.endpoint
       pub noticed : is_endpoint ≡ (event.fd == before.ops.epoll.registrations.endpoint)
 
-    -- the batch was dispatched; `endpoint_ready` says whether one of its events was on the endpoint's descriptor
-    pub record IsDispatched (controls : Controls P) (waits : Waits P) (before after : Registry S P) (report : List Event) (endpoint_ready : Bool) : Type 0 where
+    -- the events of a batch were dispatched in this order; `endpoint_ready` says whether one of them was on the endpoint's descriptor
+    pub record IsDispatched (controls : Controls P) (waits : Waits P) (before after : Registry S P) (ordered : List Event) (endpoint_ready : Bool) : Type 0 where
       pub positions : List (Position S)
-      pub dispatched : IsDispatch serves (registry_of before) report positions (registry_of after)
+      pub events : events_of positions ≡ ordered
+      pub dispatched : AreDispatched serves (registry_of before) [] positions (registry_of after)
       pub led : Leads controls waits before.ops.epoll.poller (calls_of_positions positions) after.ops.epoll.poller
       pub same_capacity : after.ops.epoll.registrations.capacity ≡ before.ops.epoll.registrations.capacity
       pub over : after.ops.epoll.registrations.ready ≡ []
-      pub noticed : endpoint_ready ≡ is_reported before.ops.epoll.registrations.endpoint report
+      pub noticed : endpoint_ready ≡ is_reported before.ops.epoll.registrations.endpoint ordered
 
 -- the count of a batch, or the refusal
 abbrev pub count_of : Result Batch Error → Result ℕ Error

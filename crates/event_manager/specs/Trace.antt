@@ -61,6 +61,6 @@ calls_of_trace capacity (entry ∷ trace) = calls_of_effect capacity entry.effec
 -- a new manager, by its endpoint's descriptor
 abbrev pub new_state : {V : Type 0} → ℕ → ManagerState V
 new_state endpoint = record {
-  registry = record { values = finite.empty; next = 1; registrations = record { owner = finite.empty; endpoint = endpoint; pending = [] } };
+  registry = record { values = finite.empty; next = 1; registrations = record { owner = finite.empty; priority = finite.empty; endpoint = endpoint; pending = [] } };
   taken = 0;
 }

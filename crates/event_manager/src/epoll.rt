@@ -1,19 +1,21 @@
 //! The registrations beside the poller that keeps the interest list.
 
-ghost use Rattle.std.specs.Prelude.{◌≡◌, ◌≤◌, ◌<◌, ◌^◌, List, [], ◌∷◌, OnOk, IfErr, IfOk, IfSome, Result, Bool, IsTrue, ◌↔◌, ◌==◌, MatchOption, All};
+ghost use Rattle.std.specs.Prelude.{◌≡◌, ◌≤◌, ◌<◌, ◌^◌, List, [], ◌∷◌, None, OnOk, IfErr, IfOk, IfSome, Result, Bool, IsTrue, ◌↔◌, ◌==◌, MatchOption, All};
 ghost use Rattle.std.specs.FinMap as map;
 ghost use Rattle.event_manager.specs.Event.{Event};
 ghost use Rattle.event_manager.specs.PollerCall.{Control, Wait, Leads};
 ghost use Rattle.event_manager.specs.Registrations.{Owns, IsFree};
-ghost use Rattle.event_manager.specs.Registry.{AreOwnedBy, without_owner};
+ghost use Rattle.event_manager.specs.Registry.{AreOwnedBy};
+ghost use Rattle.event_manager.specs.Priority.{number_of};
 ghost use Rattle.event_manager.specs.Exchange.{IsVacant};
-ghost use Rattle.event_manager.specs.Owners.{owner_id};
+ghost use Rattle.event_manager.specs.Owners.{owner_id, with_none_at, AreCounted};
 ghost use Rattle.event_manager.specs.ReadyList.{event_of_entry};
-ghost use Rattle.event_manager.specs.RegistrationState.{registrations_of, cancel_on, HasWaited};
-ghost use Rattle.event_manager.specs.Releasing.{IsWithout, HasReleased};
+ghost use Rattle.event_manager.specs.RegistrationState.{registrations_of, cancel_on, left_in, HasWaited};
+ghost use Rattle.event_manager.specs.Releasing.{AreWithout, HasReleased};
 ghost use Rattle.vmm_sys.specs.declared.errno.Errno.{Errno};
 
 use crate::cancelled::{cancelled_at, enter};
+use crate::dispatch_order::{ClassedEntry, order_by_class};
 use crate::events::Events;
 use crate::owners::{Owner, Owners};
 use crate::poller::EventPoller;
@@ -31,27 +33,30 @@ pub(crate) fn fd_of(entry: &EpollEvent) -> u32
     (entry.data() % 4294967296) as u32
 }
 
-/// Takes out the owner of one descriptor, if it has one, and counts the owned ones.
-fn disown(owners: &mut Owners, owned: &mut usize, fd: u32)
-    requires { owned.old ≡ map.len owners.old }
-    ensures disowned { owners.new ≡ map.remove owners.old fd }
-    ensures counted { owned.new ≡ map.len owners.new }
+/// Takes out the owner of one descriptor, if it has one, and counts the owned and the raised ones.
+fn disown(owners: &mut Owners, owned: &mut usize, raised: &mut usize, fd: u32)
+    requires { AreCounted owners.old owned.old raised.old }
+    ensures disowned { owners.new ≡ with_none_at fd owners.old }
+    ensures counted { AreCounted owners.new owned.new raised.new }
     ensures fewer { owned.new ≤ owned.old }
 {
-    if owners.remove(fd).is_some() {
+    if let Some(owner) = owners.remove(fd) {
         *owned -= 1;
+        if owner.priority.is_raised() {
+            *raised -= 1;
+        }
     }
 }
 
-/// Takes out the owners of the descriptors, and counts the owned ones.
-fn disown_all(owners: &mut Owners, owned: &mut usize, fds: &[u32])
-    requires { owned.old ≡ map.len owners.old }
-    ensures disowned { IsWithout fds.now owners.old owners.new }
-    ensures counted { owned.new ≡ map.len owners.new }
+/// Takes out the owners of the descriptors, and counts the owned and the raised ones.
+fn disown_all(owners: &mut Owners, owned: &mut usize, raised: &mut usize, fds: &[u32])
+    requires { AreCounted owners.old owned.old raised.old }
+    ensures disowned { AreWithout fds.now owners.old owners.new }
+    ensures counted { AreCounted owners.new owned.new raised.new }
     ensures fewer { owned.new ≤ owned.old }
 {
     for fd in fds {
-        disown(owners, owned, *fd);
+        disown(owners, owned, raised, *fd);
     }
 }
 
@@ -65,14 +70,17 @@ pub(crate) struct ReadyEntry {
 
 /// Who owns which descriptor, both ways, and what is still to come of the current batch.
 ///
-/// The list of cancelled descriptors has room for those in it and for all owned ones, so that a removal takes no memory.
+/// The list of cancelled descriptors has room for those in it and for all owned ones, so that a removal takes no memory;
+/// the list of classed entries has room for a whole buffer, so that no wait takes any.
 #[derive(Drop)]
 pub(crate) struct Registrations {
     owners: Owners,
     owned: usize,
+    raised: usize,
     watched: WatchLists,
     endpoint: u32,
     buffer: Vec<EpollEvent>,
+    classed: Vec<ClassedEntry>,
     cancelled: Vec<RawFd>,
     at: usize,
     count: usize,
@@ -89,13 +97,14 @@ impl Model for Registrations {
     ghost coded = { registration_state_code };
 
     ghost view = { λ b. record {
-      owner = b.owners;
+      owner = b.owners.owner;
+      priority = b.owners.priority;
       endpoint = b.endpoint;
       capacity = vec_len b.buffer;
       ready = ready_of b.buffer.items b.cancelled.items b.at b.count;
     } };
 
-    ghost invariant = { λ b. (b.at ≤ b.count) × (b.count ≤ vec_len b.buffer) × AreConsistent b.owners b.owned b.watched b.cancelled.items (vec_len b.cancelled) (vec_capacity b.cancelled) };
+    ghost invariant = { λ b. (b.at ≤ b.count) × (b.count ≤ vec_len b.buffer) × (vec_len b.buffer ≤ vec_capacity b.classed) × AreConsistent b.owners b.owned b.raised b.watched b.cancelled.items (vec_len b.cancelled) (vec_capacity b.cancelled) };
 }
 
 impl Registrations {
@@ -105,15 +114,18 @@ impl Registrations {
         endpoint: u32,
         capacity: usize,
     ) -> std::result::Result<Self, AllocError>
-        ensures { IfOk result (λ r. r ≡ record { owner = map.empty; endpoint = endpoint; capacity = capacity; ready = [] }) }
+        ensures { IfOk result (λ r. r ≡ record { owner = map.empty; priority = map.empty; endpoint = endpoint; capacity = capacity; ready = [] }) }
     {
         let buffer = vec![in alloc; EpollEvent::new(EventSet::empty(), 0); capacity]?;
+        let classed = Vec::with_capacity(alloc, capacity)?;
         Ok(Registrations {
             owners: Owners::new(alloc),
             owned: 0,
+            raised: 0,
             watched: WatchLists::new(alloc),
             endpoint,
             buffer,
+            classed,
             cancelled: Vec::new(alloc),
             at: 0,
             count: 0,
@@ -122,7 +134,8 @@ impl Registrations {
 
     /// Whether the descriptor may be added, as far as the registrations say.
     pub(crate) fn check_vacant(&self, events: Events) -> Result<()>
-        ensures { IsVacant (registrations_of self.now) events result }
+        ensures vacant { IsVacant (registrations_of self.now) events result }
+        ensures no_priority { OnOk result (map.get self.now.priority events.fd ≡ None) }
     {
         let fd = events.number();
         if self.owners.get(fd).is_some() {
@@ -147,8 +160,9 @@ impl Registrations {
     /// Enters the owner of the descriptor, and the descriptor in the watch list of the owner's id; makes the room that a
     /// removal needs. Where memory is refused, all stays as it was.
     pub(crate) fn register(&mut self, events: Events, owner: Owner) -> Result<()>
-        requires { IsFree (registrations_of self.old) events.fd }
-        ensures ok { OnOk result (self.new ≡ record self.old { owner = map.insert self.old.owner events.fd owner.id }) }
+        requires free { IsFree (registrations_of self.old) events.fd }
+        requires no_priority { map.get self.old.priority events.fd ≡ None }
+        ensures ok { OnOk result (self.new ≡ record self.old { owner = map.insert self.old.owner events.fd owner.id; priority = map.insert self.old.priority events.fd (number_of owner.priority) }) }
         ensures err { IfErr result (λ e. (e ≡ Error.OutOfMemory) × (self.new ≡ self.old)) }
     {
         let fd = events.number();
@@ -163,6 +177,9 @@ impl Registrations {
         match self.watched.insert(owner.id, fd) {
             Ok(()) => {
                 self.owned += 1;
+                if owner.priority.is_raised() {
+                    self.raised += 1;
+                }
                 Ok(())
             }
             Err(_) => {
@@ -175,22 +192,22 @@ impl Registrations {
     /// Frees a descriptor of the id's. Takes no memory.
     pub(crate) fn unregister(&mut self, events: Events, id: u64)
         requires { Owns id (registrations_of self.old) events.fd }
-        ensures { self.new ≡ record self.old { owner = map.remove self.old.owner events.fd } }
+        ensures { self.new ≡ record self.old { owner = map.remove self.old.owner events.fd; priority = map.remove self.old.priority events.fd } }
     {
         let fd = events.number();
         self.watched.remove(id, fd);
-        disown(&mut self.owners, &mut self.owned, fd);
+        disown(&mut self.owners, &mut self.owned, &mut self.raised, fd);
     }
 
     /// Frees a descriptor of the id's, and cancels its events that are still to come; where none is, no descriptor is
     /// entered as cancelled. Takes no memory.
     pub(crate) fn remove(&mut self, events: Events, id: u64)
         requires { Owns id (registrations_of self.old) events.fd }
-        ensures { self.new ≡ record self.old { owner = map.remove self.old.owner events.fd; ready = cancel_on events.fd self.old.ready } }
+        ensures { self.new ≡ record self.old { owner = map.remove self.old.owner events.fd; priority = map.remove self.old.priority events.fd; ready = cancel_on events.fd self.old.ready } }
     {
         let fd = events.number();
         self.watched.remove(id, fd);
-        disown(&mut self.owners, &mut self.owned, fd);
+        disown(&mut self.owners, &mut self.owned, &mut self.raised, fd);
         if self.at < self.count {
             enter(&mut self.cancelled, events.fd());
         }
@@ -200,10 +217,10 @@ impl Registrations {
     pub(crate) fn take_watched(&mut self, id: u64) -> Vec<u32>
         ensures owned { AreOwnedBy id (registrations_of self.old) result.items }
         ensures are_descriptors { All (λ fd. fd < 2 ^ 31) result.items }
-        ensures freed { self.new ≡ record self.old { owner = without_owner id self.old.owner } }
+        ensures freed { self.new ≡ left_in id self.old }
     {
         let fds = self.watched.take(id);
-        disown_all(&mut self.owners, &mut self.owned, &fds);
+        disown_all(&mut self.owners, &mut self.owned, &mut self.raised, &fds);
         fds
     }
 
@@ -236,7 +253,8 @@ impl Registrations {
         self.owners.get(fd_of(entry))
     }
 
-    /// Waits for a batch, which takes the place of the one before, with no descriptor cancelled. Takes no memory.
+    /// Waits for a batch, which takes the place of the one before, with no descriptor cancelled, and puts it in the order of
+    /// dispatch. Takes no memory.
     pub(crate) fn wait<P: EventPoller>(
         &mut self,
         poller: &mut P,
@@ -251,6 +269,9 @@ impl Registrations {
         match poller.wait_into(ms, &mut self.buffer) {
             Ok(count) => {
                 self.cancelled.clear();
+                if self.raised > 0 {
+                    order_by_class(&self.owners, &mut self.buffer, count, &mut self.classed);
+                }
                 self.count = count;
                 Ok(count)
             }

@@ -12,6 +12,7 @@ ghost use Rattle.vmm_sys.specs.EventSet.{bits_of};
 use crate::epoll::EpollWrapper;
 use crate::owners::Owner;
 use crate::poller::EventPoller;
+use crate::priority::Priority;
 use crate::{Error, Result};
 use std::marker::Model;
 use vmm_sys::epoll::{AsRawFd, ControlOperation, EpollEvent, EventSet, RawFd};
@@ -152,6 +153,8 @@ pub fn are_equal(a: &Events, b: &Events) -> bool
 pub enum Request {
     /// [`EventOps::add`].
     Add(Events),
+    /// [`EventOps::add_with_priority`].
+    AddWithPriority(Events, Priority),
     /// [`EventOps::modify`].
     Modify(Events),
     /// [`EventOps::remove`].
@@ -171,14 +174,24 @@ pub struct EventOps<P> {
 }
 
 impl<P: EventPoller> EventOps<P> {
-    /// Registers the descriptor for the subscriber: a number, which the poller takes for a descriptor of its own, also
-    /// where it is that of a counter of another table.
+    /// Registers the descriptor for the subscriber, at the lowest priority: a number, which the poller takes for a
+    /// descriptor of its own, also where it is that of a counter of another table.
     ///
     /// Refused, in this order: `FdAlreadyRegistered` where a subscriber owns the descriptor, this one included;
     /// `Epoll(EEXIST)` where it is the endpoint's; `OutOfMemory`, since room is made before the poller is asked;
     /// `Epoll` with the number that the poller answers.
     pub fn add(&mut self, events: Events) -> Result<()>
         ensures { (calls : List PollerCall) × AreMadeThrough P.controls P.waits self.old self.new ((Request.Add events, result) ∷ []) calls }
+    {
+        self.add_with_priority(events, Priority::Lowest)
+    }
+
+    /// Registers the descriptor for the subscriber, at a priority, which it keeps until it is removed: from the next wait
+    /// on its events are dispatched before those of a lower one. The poller isn't told of it. Not in the Rust crate.
+    ///
+    /// Refused as [`add`](EventOps::add) is, and in its order.
+    pub fn add_with_priority(&mut self, events: Events, priority: Priority) -> Result<()>
+        ensures { (calls : List PollerCall) × AreMadeThrough P.controls P.waits self.old self.new ((Request.AddWithPriority events priority, result) ∷ []) calls }
     {
         let epoll = &mut self.epoll;
         match epoll.registrations.check_vacant(events) {
@@ -188,6 +201,7 @@ impl<P: EventPoller> EventOps<P> {
         let owner = Owner {
             id: self.id,
             place: self.place,
+            priority,
         };
         match epoll.registrations.register(events, owner) {
             Ok(()) => {}
@@ -202,8 +216,8 @@ impl<P: EventPoller> EventOps<P> {
         }
     }
 
-    /// Changes the wanted set and the data of a descriptor of the subscriber's. Pending events stay as they were
-    /// reported. Takes no memory.
+    /// Changes the wanted set and the data of a descriptor of the subscriber's, which keeps its priority. Pending events
+    /// stay as they were reported. Takes no memory.
     ///
     /// Refused, in this order: `Epoll(ENOENT)` where the descriptor isn't the subscriber's own; `Epoll` with the number
     /// that the poller answers.
@@ -269,6 +283,7 @@ impl<P: EventPoller> EventOps<P> {
     {
         match request {
             Request::Add(events) => self.add(events),
+            Request::AddWithPriority(events, priority) => self.add_with_priority(events, priority),
             Request::Modify(events) => self.modify(events),
             Request::Remove(events) => self.remove(events),
         }

@@ -2,10 +2,14 @@
 
 ghost use Rattle.std.specs.Hash as fed;
 ghost use Rattle.std.specs.List.{fold};
+ghost use Rattle.std.specs.Ordering.{nat_cmp};
+ghost use Rattle.std.specs.List.Sorted.{IsPermutation};
 ghost use Rattle.std.specs.Prelude.{IsTrue, ◌↔◌, ◌≡◌, ◌≢◌, ℕ, false, List, [], ◌∷◌, ◌++◌};
 ghost use Rattle.event_manager.specs.Event.{Event};
 ghost use Rattle.event_manager.specs.PollerCall.{PollerCall};
 ghost use Rattle.event_manager.specs.Registrations.{Registrations};
+ghost use Rattle.event_manager.specs.Priority.{number_of};
+ghost use Rattle.event_manager.specs.DispatchOrder.{class_of, IsDispatchOrder};
 ghost use Rattle.event_manager.specs.Exchange.{Exchanges, ExchangesFit};
 ghost use Rattle.event_manager.specs.Registry.{Registry, Step, Steps, Left};
 ghost use Rattle.event_manager.specs.Dispatch.{Position, Outcome, To, IsOutcome, still_pending};
@@ -16,10 +20,12 @@ ghost use Rattle.event_manager.specs.Guarantees.{AreGiven, steps_of, RemovedStay
 ghost use Rattle.event_manager.specs.Example.{any_begins, any_serves, any_may, joins, iterates};
 
 use crate::jobs::Job;
+use crate::priority::Priority;
 use crate::subscribers::{MutEventSubscriber, SubscriberId};
+use std::cmp::Ordering;
 use std::hash::{Hash, Hasher};
 
-/// Non-interference: of a trace in which no job ran, the projection to each id that is apart from its neighbours (no
+/// Non-interference: of a trace in which no job ran, a projection to each id that is apart from its neighbours (no
 /// other id owns at the start, or adds with success, a descriptor that the id owns at the start or asks to add) is
 /// itself a trace, with the same replies to that id, the same deliveries and exchanges, and the same value at the end.
 pub fn non_interference<S: MutEventSubscriber, J: Job<S>>()
@@ -37,8 +43,8 @@ pub fn ids_are_given_once<S: MutEventSubscriber, J: Job<S>>()
         IsTrace S.begins S.serves J.may before trace after → IsSound before.registry → RemovedStayGone (steps_of trace) }
 {}
 
-/// In every trace of a new manager each owner of a descriptor is in the map of subscribers, and nobody owns the
-/// endpoint's descriptor.
+/// In every trace of a new manager each owner of a descriptor is in the map of subscribers, nobody owns the endpoint's
+/// descriptor, and each owned descriptor has a priority from 0 to 3, and no other one has any.
 pub fn owners_are_subscribers<S: MutEventSubscriber, J: Job<S>>()
     ensures new { (endpoint : ℕ) → IsSound (new_state {V = S} endpoint).registry }
     ensures kept { (before : ManagerState S) (trace : List (Entry S J J.Reply)) (after : ManagerState S) →
@@ -56,6 +62,18 @@ pub fn others_are_untouched<S: MutEventSubscriber>()
         (j : ℕ) → j ≢ i → IsUntouched j (record before { registrations = record before.registrations { pending = still_pending earlier later } }) after }
     ensures leaving { (before after : Registry S) (i : ℕ) (value : S) (calls : List PollerCall) →
         Steps S.begins before (Left i value calls) after → FreesExactly i before.registrations after.registrations }
+{}
+
+/// Each report has exactly one order of dispatch. It has the events of the report, each as often; and it is the report
+/// where no descriptor has a class above 0.
+pub fn one_dispatch_order()
+    ensures exists { (registrations : Registrations) (report : List Event) → (ordered : List Event) × IsDispatchOrder registrations report ordered }
+    ensures unique { (registrations : Registrations) (report one other : List Event) →
+        IsDispatchOrder registrations report one → IsDispatchOrder registrations report other → one ≡ other }
+    ensures all { (registrations : Registrations) (report ordered : List Event) →
+        IsDispatchOrder registrations report ordered → IsPermutation report ordered }
+    ensures lowest { (registrations : Registrations) (report : List Event) →
+        ((fd : ℕ) → class_of registrations fd ≡ 0) → IsDispatchOrder registrations report report }
 {}
 
 /// What is pending after a position: the later events whose descriptor no exchange so far removed.
@@ -79,6 +97,13 @@ pub fn a_repeated_entry()
     ensures { (joined : ManagerState ℕ) × (iterated : ManagerState ℕ)
         × HasEffect any_begins any_serves any_may (new_state 9) joins joined × HasEffect any_begins any_serves any_may joined iterates iterated }
 {}
+
+/// Priorities compare as their numbers do.
+pub fn compare_priorities(a: &Priority, b: &Priority) -> Ordering
+    ensures { result ≡ nat_cmp (number_of a.now) (number_of b.now) }
+{
+    a.cmp(b)
+}
 
 /// Equality of ids is that of their numbers.
 pub fn ids_are_equal(a: &SubscriberId, b: &SubscriberId) -> bool

@@ -1,13 +1,14 @@
 //! An event loop for virtual machine monitors: a port of the Rust crate `event-manager` 0.4.2 with proofs.
 //!
 //! Subscribers register descriptors with a poller through an [`EventOps`]. Each run of an [`EventManager`] waits once
-//! and hands each event of the report, in order, to the subscriber that owns its descriptor at that moment, unless the
-//! descriptor was removed since the poll. Then it runs the jobs that a [`RemoteEndpoint`] has sent, each once.
+//! and hands each event of the report, by the priority of its descriptor and then in the order of the report, to the
+//! subscriber that owns its descriptor at that moment, unless the descriptor was removed since the poll. Then it runs the jobs that a [`RemoteEndpoint`] has sent, each once.
 #![tactic(auto)]
 
 pub mod boxed_subscriber;
 pub mod calls;
 mod cancelled;
+mod dispatch_order;
 pub mod drive;
 pub mod endpoint;
 pub mod epoll;
@@ -19,6 +20,7 @@ pub mod manager;
 mod owners;
 mod places;
 pub mod poller;
+pub mod priority;
 #[cfg(test)]
 mod subscriber_tests;
 pub mod subscribers;
@@ -38,6 +40,7 @@ pub use job_tickets::tickets::Ticket;
 pub use jobs::{Job, NoJob};
 pub use manager::{EventManager, MAX_READY_EVENTS_CAPACITY, SubscriberOps};
 pub use poller::{BoxedPoller, EventPoller, PlainPoller};
+pub use priority::Priority;
 pub use subscribers::{EventSubscriber, MutEventSubscriber, Registry, SubscriberId};
 pub use vmm_sys::epoll::EventSet;
 pub use wrappers::{Either, Locked};

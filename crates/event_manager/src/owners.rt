@@ -1,9 +1,10 @@
-//! Who owns which descriptor.
+//! Who owns which descriptor, and at which priority.
 
 ghost use Rattle.std.specs.Prelude.{◌≡◌, ◌<◌, ◌≤◌, length, None, Some, OnOk, OnErr};
-ghost use Rattle.std.specs.FinMap as map;
-ghost use Rattle.event_manager.specs.Owners.{owner_id, id_at, HasOwnerAt};
+ghost use Rattle.event_manager.specs.Priority.{number_of};
+ghost use Rattle.event_manager.specs.Owners.{no_owners, with_owner_at, with_none_at, owner_at, HasOwnerAt, IsOwnerAt, class_in};
 
+use crate::priority::Priority;
 use std::alloc::{AllocError, Global};
 use std::collections::HashMap;
 use std::marker::Model;
@@ -11,12 +12,13 @@ use std::marker::Model;
 /// Descriptors below this number are low: their owners stand in a vector, by descriptor.
 const LOW_DESCRIPTORS: u32 = 65536;
 
-/// Who owns a descriptor: the id of a subscriber, and the place where the registry was holding it when it added the
-/// descriptor.
+/// Who owns a descriptor: the id of a subscriber, the place where the registry was holding it when it added the
+/// descriptor, and the priority that it then gave.
 #[derive(Clone, Copy)]
 pub(crate) struct Owner {
     pub(crate) id: u64,
     pub(crate) place: usize,
+    pub(crate) priority: Priority,
 }
 
 /// The owners of the descriptors. A look-up of a low descriptor reads one place of a vector, which is as long as the
@@ -28,15 +30,11 @@ pub(crate) struct Owners {
 }
 
 impl Model for Owners {
-    ghost use Rattle.std.specs.Prelude.{ℕ};
-    ghost use Rattle.std.specs.FinMap as map;
-    ghost use Rattle.std.specs.Ordering.{nat_cmp};
-    ghost use Rattle.std.specs.Coded.{coded_ℕ};
-    ghost use Rattle.event_manager.specs.Owners.{owners_in, AreApart};
+    ghost use Rattle.event_manager.specs.Owners.{OwnerMaps, owner_maps_code, owners_in, AreApart};
 
-    ghost Value = { map.FinMap nat_cmp ℕ };
+    ghost Value = { OwnerMaps };
 
-    ghost coded = { map.code coded_ℕ coded_ℕ };
+    ghost coded = { owner_maps_code };
 
     ghost view = { λ o. owners_in o.low.items o.high.entries };
 
@@ -46,7 +44,7 @@ impl Model for Owners {
 impl Owners {
     /// No owner.
     pub(crate) fn new(alloc: Global) -> Self
-        ensures { result ≡ map.empty }
+        ensures { result ≡ no_owners }
     {
         Owners {
             low: Vec::new(alloc),
@@ -56,17 +54,27 @@ impl Owners {
 
     /// The owner of the descriptor.
     pub(crate) fn get(&self, fd: u32) -> Option<Owner>
-        ensures { owner_id result ≡ map.get self.now fd }
+        ensures { IsOwnerAt self.now fd result }
     {
         if fd < LOW_DESCRIPTORS {
-            return owner_at(&self.low, fd as usize);
+            return copy_at(&self.low, fd as usize);
         }
         self.high.get(&fd).copied()
     }
 
+    /// The class of the descriptor: its priority, the lowest where it has no owner.
+    pub(crate) fn class(&self, fd: u32) -> Priority
+        ensures { number_of result ≡ class_in self.now fd }
+    {
+        match self.get(fd) {
+            Some(owner) => owner.priority,
+            None => Priority::Lowest,
+        }
+    }
+
     /// Enters the owner of a descriptor. Where memory is refused, all owners stay as they were.
     pub(crate) fn insert(&mut self, fd: u32, owner: Owner) -> std::result::Result<(), AllocError>
-        ensures ok { OnOk result (self.new ≡ map.insert self.old fd owner.id) }
+        ensures ok { OnOk result (self.new ≡ with_owner_at fd owner self.old) }
         ensures err { OnErr result (self.new ≡ self.old) }
     {
         if fd < LOW_DESCRIPTORS {
@@ -82,8 +90,8 @@ impl Owners {
 
     /// Takes out the owner of the descriptor, and answers it. Takes no memory.
     pub(crate) fn remove(&mut self, fd: u32) -> Option<Owner>
-        ensures value { owner_id result ≡ map.get self.old fd }
-        ensures removed { self.new ≡ map.remove self.old fd }
+        ensures value { IsOwnerAt self.old fd result }
+        ensures removed { self.new ≡ with_none_at fd self.old }
     {
         if fd < LOW_DESCRIPTORS {
             return take_at(&mut self.low, fd as usize);
@@ -100,7 +108,7 @@ fn put_at(
 ) -> std::result::Result<(), AllocError>
     requires { fd < 65536 }
     ensures len { length low.old.items ≤ 65536 → length low.new.items ≤ 65536 }
-    ensures ok { OnOk result (HasOwnerAt low.old.items fd (Some owner.id) low.new.items) }
+    ensures ok { OnOk result (HasOwnerAt low.old.items fd (Some owner) low.new.items) }
     ensures err { OnErr result (low.new.items ≡ low.old.items) }
 {
     if fd >= low.len() {
@@ -111,8 +119,8 @@ fn put_at(
 }
 
 /// The owner at a descriptor.
-fn owner_at(low: &[Option<Owner>], fd: usize) -> Option<Owner>
-    ensures { owner_id result ≡ id_at low.now fd }
+fn copy_at(low: &[Option<Owner>], fd: usize) -> Option<Owner>
+    ensures { result ≡ owner_at low.now fd }
 {
     match low.get(fd) {
         Some(owner) => *owner,
@@ -122,7 +130,7 @@ fn owner_at(low: &[Option<Owner>], fd: usize) -> Option<Owner>
 
 /// Takes out the owner at a descriptor, and answers it.
 fn take_at(low: &mut Vec<Option<Owner>>, fd: usize) -> Option<Owner>
-    ensures value { owner_id result ≡ id_at low.old.items fd }
+    ensures value { result ≡ owner_at low.old.items fd }
     ensures taken { HasOwnerAt low.old.items fd None low.new.items }
     ensures len { length low.new.items ≡ length low.old.items }
 {

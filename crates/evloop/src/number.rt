@@ -1,10 +1,12 @@
 //! Numbers of a script: decimal digits, with any count of leading zeros.
 
-ghost use Rattle.std.specs.Prelude.{◌≡◌, ◌≤◌, ◌<◌, ◌^◌, pos};
+ghost use Rattle.std.specs.Prelude.{◌≡◌, ◌≤◌, ◌<◌, ◌^◌, pos, MatchOption};
+ghost use Rattle.event_manager.specs.Priority.{number_of};
 ghost use Rattle.std.specs.Option.{SomeIff};
 ghost use Rattle.std.specs.Str.Parse.{IsNumeral, digits_value, starts_with_minus, signed_digits_value};
 ghost use Rattle.evloop.specs.Number.{without_leading_minus, IsReported};
 
+use event_manager::Priority;
 use vmm_sys::epoll::RawFd;
 use vmm_sys::errno::Errno;
 
@@ -51,6 +53,16 @@ pub fn payload(word: &str) -> Option<u32>
     ensures { SomeIff result (IsNumeral 10 word.now × (digits_value 10 word.now < 2 ^ 32)) (digits_value 10 word.now) }
 {
     number(word, u32::MAX)
+}
+
+/// A priority: a number from 0 to 3.
+pub fn priority(word: &str) -> Option<Priority>
+    ensures { MatchOption result (¬ (IsNumeral 10 word.now × (digits_value 10 word.now ≤ 3))) (λ priority. IsNumeral 10 word.now × (number_of priority ≡ digits_value 10 word.now)) }
+{
+    match number(word, 3) {
+        Some(value) => Priority::new(value as u8),
+        None => None,
+    }
 }
 
 /// An error number: from 1 to 4095.
@@ -109,6 +121,9 @@ mod tests {
         assert_eq!(rt; payload("0"), Some(0));
         assert_eq!(rt; payload("4294967295"), Some(4294967295));
         assert_eq!(rt; payload("4294967296"), None);
+        assert_eq!(rt; priority("0"), Some(Priority::Lowest));
+        assert_eq!(rt; priority("003"), Some(Priority::Highest));
+        assert_eq!(rt; priority("4"), None);
         assert_eq!(rt; errno("0"), None);
         assert_eq!(rt; errno("1"), Some(Errno(1)));
         assert_eq!(rt; errno("4095"), Some(Errno(4095)));

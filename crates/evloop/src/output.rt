@@ -55,6 +55,7 @@ pub enum OutputLine<'a> {
 fn operation(request: &Request) -> &'static str {
     match request {
         Request::Add(_) => "add",
+        Request::AddWithPriority(..) => "addp",
         Request::Modify(_) => "modify",
         Request::Remove(_) => "remove",
     }
@@ -63,6 +64,7 @@ fn operation(request: &Request) -> &'static str {
 fn descriptor(request: &Request) -> i32 {
     match request {
         Request::Add(events) => events.fd(),
+        Request::AddWithPriority(events, _) => events.fd(),
         Request::Modify(events) => events.fd(),
         Request::Remove(events) => events.fd(),
     }

@@ -16,7 +16,7 @@ use vmm_sys::errno::Errno;
 /// One call of the manager. A subscriber is named by the place of its join among the joins, from 0.
 #[derive(PartialEq, Drop)]
 pub enum Call<'a> {
-    /// A subscriber joins; its `init` makes these requests, each an `Add`.
+    /// A subscriber joins; its `init` makes these requests, each an addition.
     Join {
         name: &'a str,
         requests: Vec<Request>,

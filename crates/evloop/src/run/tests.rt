@@ -395,6 +395,92 @@ fn a_cancelled_event_takes_no_reaction(rt: HostRuntime) -> Result<(), Fail> {
 }
 
 #[test]
+fn higher_priorities_are_delivered_first(rt: HostRuntime) -> Result<(), Fail> {
+    writes(
+        &rt,
+        "sub a add 3 IN 0 addp 4 IN 7 2\nsub b addp 5 OUT 1 3 add 6 IN 0\nbatch 3:IN:0 4:IN:7 6:IN:0 5:OUT:1 8:IN:0 4:IN:7\nrun\n",
+        "reply a add 3: ok\nreply a addp 4: ok\nsub a: 1\nreply b addp 5: ok\nreply b add 6: ok\nsub b: 2\ndeliver b 5 OUT 1\ndeliver a 4 IN 7\ndeliver a 4 IN 7\ndeliver a 3 IN 0\ndeliver b 6 IN 0\nrun: 6\n",
+    )
+}
+
+#[test]
+fn a_higher_event_cancels_a_lower_one(rt: HostRuntime) -> Result<(), Fail> {
+    writes(
+        &rt,
+        "sub a add 3 IN 0 addp 4 IN 0 1\non a 4 remove 3\nbatch 3:IN:0 4:IN:0\nrun\n",
+        "reply a add 3: ok\nreply a addp 4: ok\nsub a: 1\ndeliver a 4 IN 0\nreply a remove 3: ok\nrun: 2\n",
+    )
+}
+
+#[test]
+fn a_priority_given_in_a_batch_counts_from_the_next_wait(rt: HostRuntime) -> Result<(), Fail> {
+    writes(
+        &rt,
+        "sub a addp 3 IN 0 3 add 4 IN 0 add 5 IN 0\non a 3 remove 5 addp 5 IN 0 3\nbatch 4:IN:0 5:IN:0 3:IN:0\nbatch 4:IN:0 5:IN:0\nrun\nrun\n",
+        "reply a addp 3: ok\nreply a add 4: ok\nreply a add 5: ok\nsub a: 1\ndeliver a 3 IN 0\nreply a remove 5: ok\nreply a addp 5: ok\ndeliver a 4 IN 0\nrun: 3\ndeliver a 5 IN 0\ndeliver a 4 IN 0\nrun: 2\n",
+    )
+}
+
+#[test]
+fn an_entry_that_nobody_owned_at_the_wait_stays_low(rt: HostRuntime) -> Result<(), Fail> {
+    writes(
+        &rt,
+        "sub a add 3 IN 0\non a 3 addp 6 IN 0 3\nbatch 6:OUT:4 3:IN:0 6:OUT:5\nrun\n",
+        "reply a add 3: ok\nsub a: 1\ndeliver a 3 IN 0\nreply a addp 6: ok\ndeliver a 6 OUT 5\nrun: 3\n",
+    )
+}
+
+#[test]
+fn another_priority_in_a_batch_takes_the_place_of_the_old(rt: HostRuntime) -> Result<(), Fail> {
+    writes(
+        &rt,
+        "sub a addp 3 IN 0 1 addp 4 IN 0 2 add 5 IN 0\non a 4 remove 3 addp 3 IN 0 3\nbatch 5:IN:0 3:IN:0 4:IN:0\nbatch 5:IN:1 4:IN:1 3:IN:1\nrun\nrun\n",
+        "reply a addp 3: ok\nreply a addp 4: ok\nreply a add 5: ok\nsub a: 1\ndeliver a 4 IN 0\nreply a remove 3: ok\nreply a addp 3: ok\ndeliver a 5 IN 0\nrun: 3\ndeliver a 3 IN 1\ndeliver a 4 IN 1\ndeliver a 5 IN 1\nrun: 3\n",
+    )
+}
+
+#[test]
+fn a_join_between_two_runs_changes_the_order(rt: HostRuntime) -> Result<(), Fail> {
+    writes(
+        &rt,
+        "sub a add 3 IN 0\nbatch 3:IN:0 5:IN:0\nbatch 3:IN:1 5:IN:1\nrun\nsub b addp 5 IN 0 1\nrun\n",
+        "reply a add 3: ok\nsub a: 1\ndeliver a 3 IN 0\nrun: 2\nreply b addp 5: ok\nsub b: 2\ndeliver b 5 IN 1\ndeliver a 3 IN 1\nrun: 2\n",
+    )
+}
+
+#[test]
+fn a_change_keeps_a_priority_and_a_leave_forgets_it(rt: HostRuntime) -> Result<(), Fail> {
+    writes(
+        &rt,
+        "sub a add 3 IN 0 addp 4 IN 0 1\nask a modify 4 OUT 5\nbatch 3:IN:0 4:OUT:5\nbatch 3:IN:0 4:IN:0\nrun\ndrop a\nsub b add 3 IN 0 add 4 IN 0\nrun\n",
+        "reply a add 3: ok\nreply a addp 4: ok\nsub a: 1\nreply a modify 4: ok\ndeliver a 4 OUT 5\ndeliver a 3 IN 0\nrun: 2\ndrop a: ok\nreply b add 3: ok\nreply b add 4: ok\nsub b: 2\ndeliver b 3 IN 0\ndeliver b 4 IN 0\nrun: 2\n",
+    )
+}
+
+#[test]
+fn an_addition_with_a_priority_is_refused_as_one_without(rt: HostRuntime) -> Result<(), Fail> {
+    writes(
+        &rt,
+        "refuse add 3 12\nsub a addp 3 IN 0 1 addp 9 IN 0 1\nask a addp 3 IN 0 1 addp 3 IN 0 2\n",
+        "reply a addp 3: event_manager: failed to manage epoll file descriptor: os error 12\nreply a addp 9: event_manager: failed to manage epoll file descriptor: os error 17\nsub a: 1\nreply a addp 3: ok\nreply a addp 3: event_manager: file descriptor has already been registered\n",
+    )
+}
+
+#[test]
+fn a_neighbours_priority_leaves_a_subscribers_order(rt: HostRuntime) -> Result<(), Fail> {
+    writes(
+        &rt,
+        "sub a addp 3 IN 0 1 add 4 IN 0\nsub b addp 5 IN 0 2\non b 5 remove 5 addp 5 IN 2 3\nbatch 4:IN:0 5:IN:0 3:IN:1 5:IN:0\nrun\n",
+        "reply a addp 3: ok\nreply a add 4: ok\nsub a: 1\nreply b addp 5: ok\nsub b: 2\ndeliver b 5 IN 0\nreply b remove 5: ok\nreply b addp 5: ok\ndeliver a 3 IN 1\ndeliver a 4 IN 0\nrun: 4\n",
+    )?;
+    writes(
+        &rt,
+        "sub a addp 3 IN 0 1 add 4 IN 0\nbatch 4:IN:0 5:IN:0 3:IN:1 5:IN:0\nrun\n",
+        "reply a addp 3: ok\nreply a add 4: ok\nsub a: 1\ndeliver a 3 IN 1\ndeliver a 4 IN 0\nrun: 4\n",
+    )
+}
+
+#[test]
 fn a_leave_of_nobody_and_requests_of_nobody_are_told(rt: HostRuntime) -> Result<(), Fail> {
     writes(
         &rt,
@@ -418,6 +504,8 @@ fn a_bad_script_runs_nothing(rt: HostRuntime) -> Result<(), Fail> {
         ("run now", 1),
         ("sub a add 3 IN 0\nrun\n\nrun now\n", 4),
         ("sub a\nrun\non b 3 remove 3\n", 3),
+        ("sub a addp 3 IN 0 4", 1),
+        ("sub a addp 3 IN 0", 1),
     ];
     for (script, line) in table {
         let (fault, text) = outcome(&rt, script, ALL)?;

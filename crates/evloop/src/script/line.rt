@@ -10,7 +10,7 @@ ghost use Rattle.std.specs.Str.Parse.{digits_value};
 ghost use Rattle.vmm_sys.specs.EpollEvent.{low_half_signed};
 
 use crate::names::event_set;
-use crate::number::{descriptor, errno, payload, signed_descriptor};
+use crate::number::{descriptor, errno, payload, priority, signed_descriptor};
 use crate::script::Refusal;
 use event_manager::{Events, Request};
 use std::alloc::{AllocError, AllocFailed, Global};
@@ -142,6 +142,10 @@ fn leading_request(words: &[&str]) -> Option<(Request, usize)>
 {
     match words {
         ["add", fd, set, data, ..] => Some((Request::Add(registration(fd, set, data)?), 4)),
+        ["addp", fd, set, data, level, ..] => {
+            let events = registration(fd, set, data)?;
+            Some((Request::AddWithPriority(events, priority(level)?), 5))
+        }
         ["modify", fd, set, data, ..] => Some((Request::Modify(registration(fd, set, data)?), 4)),
         ["remove", fd, ..] => Some((Request::Remove(Events::empty_raw(descriptor(fd)?)), 2)),
         _ => None,
@@ -167,10 +171,10 @@ fn additions(alloc: Global, words: &[&str]) -> Result<Vec<Request>, LineError>
     ensures { IfOk result (λ requests. All IsAddition requests.items) }
 {
     let requests = requests(alloc, words)?;
-    if requests
-        .iter()
-        .all(|request| matches!(request, Request::Add(_)))
-    {
+    if requests.iter().all(|request| matches!(
+        request,
+        Request::Add(_) | Request::AddWithPriority(..)
+    )) {
         return Ok(requests);
     }
     Err(LineError::Bad)

@@ -99,6 +99,7 @@ fn push_requests(text: &mut String, requests: &[Request]) -> Result<(), Fail> {
     for request in requests {
         let (operation, events) = match request {
             Request::Add(events) => ("add", events),
+            Request::AddWithPriority(events, _) => ("addp", events),
             Request::Modify(events) => ("modify", events),
             Request::Remove(events) => ("remove", events),
         };

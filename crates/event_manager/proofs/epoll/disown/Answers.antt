@@ -1,19 +1,29 @@
-use Rattle.std.proofs.Common.{sym, ap, ◌∙◌, arith, ◌-◌, true, false}
-use Rattle.std.specs.FinMap.{len}
-use Rattle.event_manager.proofs.Counting.{answered, held_one, one_fewer, none_fewer}
+use Rattle.std.proofs.Common.{sym, subst, ◌∙◌, ◌-◌}
+use Rattle.event_manager.specs.Owners.{IsOwnerAt, AreCounted}
+use Rattle.event_manager.proofs.RaisedOwners.{owned_some, raised_some, lost_raised, lost_lowest, lost_none}
 use Rattle.event_manager.proofs.epoll.disown.Goals as goal
 
 pub overflow_sub-owned : goal.overflow_sub-owned
 overflow_sub-owned c =
-    let held = answered c.args.owners.now c.args.fd c.remove.result true c.remove.ensures.value (sym c.is_some.ensures ∙ c.if-is_some.true) in
-    omega (arith, c.requires, held_one c.args.owners.now c.args.fd held)
+    let has = subst (λ o. IsOwnerAt c.args.owners.now c.args.fd o) c.in-Some.is c.remove.ensures.value in
+    owned_some c.args.owners.now c.args.owned.now c.args.raised.now c.requires c.args.fd c.in-Some.owner has
 
-pub returns-then-is_some-clause-counted : goal.returns-then-is_some-clause-counted
-returns-then-is_some-clause-counted c =
-    let held = answered c.args.owners.now c.args.fd c.remove.result true c.remove.ensures.value (sym c.is_some.ensures ∙ c.if-is_some.true) in
-    ap (λ n. n - 1) c.requires ∙ sym (ap len c.remove.ensures.removed ∙ one_fewer c.args.owners.now c.args.fd held)
+pub overflow_sub-raised : goal.overflow_sub-raised
+overflow_sub-raised c =
+    let has = subst (λ o. IsOwnerAt c.args.owners.now c.args.fd o) c.in-Some.is c.remove.ensures.value in
+    raised_some c.args.owners.now c.args.owned.now c.args.raised.now c.requires c.args.fd c.in-Some.owner has (sym c.is_raised.ensures ∙ c.if-is_raised.true)
 
-pub returns-else-is_some-clause-counted : goal.returns-else-is_some-clause-counted
-returns-else-is_some-clause-counted c =
-    let free = answered c.args.owners.now c.args.fd c.remove.result false c.remove.ensures.value (sym c.is_some.ensures ∙ c.if-is_some.false) in
-    c.requires ∙ sym (ap len c.remove.ensures.removed ∙ none_fewer c.args.owners.now c.args.fd free)
+pub returns-then-is_raised-clause-counted : goal.returns-then-is_raised-clause-counted
+returns-then-is_raised-clause-counted c =
+    let has = subst (λ o. IsOwnerAt c.args.owners.now c.args.fd o) c.in-Some.is c.remove.ensures.value in
+    subst (λ m. AreCounted m (c.args.owned.now - 1) (c.args.raised.now - 1)) (sym c.remove.ensures.removed) (lost_raised c.args.owners.now c.args.owned.now c.args.raised.now c.requires c.args.fd c.in-Some.owner has (sym c.is_raised.ensures ∙ c.if-is_raised.true))
+
+pub returns-else-is_raised-clause-counted : goal.returns-else-is_raised-clause-counted
+returns-else-is_raised-clause-counted c =
+    let has = subst (λ o. IsOwnerAt c.args.owners.now c.args.fd o) c.in-Some.is c.remove.ensures.value in
+    subst (λ m. AreCounted m (c.args.owned.now - 1) c.args.raised.now) (sym c.remove.ensures.removed) (lost_lowest c.args.owners.now c.args.owned.now c.args.raised.now c.requires c.args.fd c.in-Some.owner has (sym c.is_raised.ensures ∙ c.if-is_raised.false))
+
+pub returns-in_default-clause-counted : goal.returns-in_default-clause-counted
+returns-in_default-clause-counted c =
+    let has = subst (λ o. IsOwnerAt c.args.owners.now c.args.fd o) c.in_default.is c.remove.ensures.value in
+    subst (λ m. AreCounted m c.args.owned.now c.args.raised.now) (sym c.remove.ensures.removed) (lost_none c.args.owners.now c.args.owned.now c.args.raised.now c.requires c.args.fd has)

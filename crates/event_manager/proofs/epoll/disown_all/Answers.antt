@@ -1,13 +1,19 @@
-use Rattle.std.proofs.Common.{subst, arith, take, ◌+◌, sym}
-use Rattle.event_manager.specs.Releasing.{IsWithout}
+use Rattle.std.proofs.Common.{subst, arith, take, ◌+◌, sym, get_or}
+use Rattle.event_manager.specs.Owners.{with_none_at}
+use Rattle.event_manager.specs.Releasing.{AreWithout}
 use Rattle.event_manager.proofs.Watching.{without_more}
 use Rattle.event_manager.proofs.epoll.disown_all.Goals as goal
 
 pub loop-fd-preserved : goal.loop-fd-preserved
 loop-fd-preserved c =
     let inv = c.loop-fd.invariant in
+    let fds = c.args.fds.now in
+    let more : AreWithout (take (c.loop-fd.fd-index + 1) fds) c.args.owners.now (with_none_at (get_or fds c.loop-fd.fd-index 0) c.loop-fd.owners) = (
+      without_more c.args.owners.now.owner c.loop-fd.owners.owner fds c.loop-fd.fd-index c.loop-fd-test.true inv.disowned.0,
+      without_more c.args.owners.now.priority c.loop-fd.owners.priority fds c.loop-fd.fd-index c.loop-fd-test.true inv.disowned.1,
+    ) in
     record {
-      disowned = subst (λ m. IsWithout (take (c.loop-fd.fd-index + 1) c.args.fds.now) c.args.owners.now m) (sym c.disown.ensures.disowned) (without_more c.args.owners.now c.loop-fd.owners c.args.fds.now c.loop-fd.fd-index c.loop-fd-test.true inv.disowned);
+      disowned = subst (λ m. AreWithout (take (c.loop-fd.fd-index + 1) fds) c.args.owners.now m) (sym c.disown.ensures.disowned) more;
       counted = c.disown.ensures.counted;
       fewer = omega (arith, inv.fewer, c.disown.ensures.fewer);
     }

@@ -1,17 +1,16 @@
-use Rattle.std.proofs.Common.{refl, sym, ap, ◌∙◌, None}
-use Rattle.event_manager.specs.Owners.{owner_id}
-use Rattle.event_manager.proofs.OwnerMaps.{low_owner, high_owner, take_low, take_high, still_apart}
+use Rattle.std.proofs.Common.{refl, None}
+use Rattle.event_manager.proofs.OwnerMaps.{low_owner, high_owner, owner_taken_low, owner_taken_high, still_apart}
 use Rattle.event_manager.proofs.owners.Owners.remove.Goals as goal
 
 pub returns-then-fd-lt-LOW_DESCRIPTORS-clause-value : goal.returns-then-fd-lt-LOW_DESCRIPTORS-clause-value
 returns-then-fd-lt-LOW_DESCRIPTORS-clause-value c =
     let b = c.self.inside in
-    rw (← c.self.view_is) (c.take_at.ensures.value ∙ sym (low_owner b.low.items b.high.entries c.args.fd c.self.invariant c.if-fd-lt-LOW_DESCRIPTORS.true))
+    rw (← c.self.view_is) (low_owner b.low.items b.high.entries c.args.fd _ c.self.invariant c.if-fd-lt-LOW_DESCRIPTORS.true c.take_at.ensures.value)
 
 pub returns-then-fd-lt-LOW_DESCRIPTORS-clause-removed : goal.returns-then-fd-lt-LOW_DESCRIPTORS-clause-removed
 returns-then-fd-lt-LOW_DESCRIPTORS-clause-removed c =
     let b = c.self.inside in
-    rw (← c.self.view_is) (take_low b.low.items c.take_at.new.low.items b.high.entries b.high.entries c.args.fd c.self.invariant c.if-fd-lt-LOW_DESCRIPTORS.true c.take_at.ensures.taken)
+    rw (← c.self.view_is) (owner_taken_low b.low.items c.take_at.new.low.items b.high.entries b.high.entries c.args.fd c.self.invariant c.if-fd-lt-LOW_DESCRIPTORS.true c.take_at.ensures.taken)
 
 pub invariant_of-self-2 : goal.invariant_of-self-2
 invariant_of-self-2 c =
@@ -21,9 +20,9 @@ invariant_of-self-2 c =
 pub returns-clause-value : goal.returns-clause-value
 returns-clause-value c =
     let b = c.self.inside in
-    rw (← c.self.view_is) (ap owner_id c.remove.ensures.value ∙ sym (high_owner b.low.items b.high.entries c.args.fd c.self.invariant c.if-fd-lt-LOW_DESCRIPTORS.false))
+    rw (← c.self.view_is) (high_owner b.low.items b.high.entries c.args.fd _ c.self.invariant c.if-fd-lt-LOW_DESCRIPTORS.false c.remove.ensures.value)
 
 pub returns-clause-removed : goal.returns-clause-removed
 returns-clause-removed c =
     let b = c.self.inside in
-    rw (← c.self.view_is) (take_high b.low.items b.low.items b.high.entries c.remove.new.self.entries c.args.fd c.self.invariant None c.if-fd-lt-LOW_DESCRIPTORS.false c.remove.ensures.updates.0 refl)
+    rw (← c.self.view_is) (owner_taken_high b.low.items b.low.items b.high.entries c.remove.new.self.entries c.args.fd c.self.invariant None c.if-fd-lt-LOW_DESCRIPTORS.false c.remove.ensures.updates.0 refl)

@@ -1,0 +1,15 @@
+use Rattle.event_manager.specs.DispatchOrder.{class_of}
+use Rattle.event_manager.proofs.DispatchOrders.{by_class, ordered_by_class, one_order, ordered_permutation, ordered_in_class_0}
+use Rattle.event_manager.proofs.laws.one_dispatch_order.Goals as goal
+
+pub returns-clause-exists : goal.returns-clause-exists
+returns-clause-exists c = λ registrations report. (by_class (λ fd. class_of registrations fd) report, ordered_by_class (λ fd. class_of registrations fd) report)
+
+pub returns-clause-unique : goal.returns-clause-unique
+returns-clause-unique c = λ registrations report one other. one_order (λ fd. class_of registrations fd) report one other
+
+pub returns-clause-all : goal.returns-clause-all
+returns-clause-all c = λ registrations report ordered. ordered_permutation (λ fd. class_of registrations fd) report ordered
+
+pub returns-clause-lowest : goal.returns-clause-lowest
+returns-clause-lowest c = λ registrations report. ordered_in_class_0 (λ fd. class_of registrations fd) report
