@@ -4,7 +4,7 @@ use crate::call_name::CallName;
 use crate::descriptors::open_counter;
 use crate::fault::{Fault, Refusal, expect, named};
 use crate::host::{Host, Loop, mark};
-use crate::joins::{heard, join};
+use crate::joins::{ask_with_priority, heard, join};
 use crate::making::{Body, Manager, open_table, over_table};
 use event_manager::{EventPoller, EventSet, Events, SubscriberId, SubscriberOps};
 use std::alloc::Global;
@@ -53,6 +53,27 @@ impl<R: Loop> Bracketing<'_, R> {
         println!(rt; "between marks: remove")?;
         Ok(())
     }
+
+    /// Adds the descriptor at a priority, runs, and removes it.
+    fn run_with_priority<L: Ledger, T: Ledger, P: EventPoller>(
+        &self,
+        manager: &mut Manager<L, T, P>,
+        id: SubscriberId,
+        own: Events,
+    ) -> Result<(), Fault> {
+        let rt = self.rt;
+        ask_with_priority(manager, id, own)?;
+        println!(rt; "EventOps::add_with_priority: ok")?;
+        mark(rt)?;
+        let ran = manager.run(rt);
+        mark(rt)?;
+        expect(CallName::Run, ran == Ok(1) && heard(manager, id)? == 2)?;
+        println!(rt; "between marks: run with one event at a priority")?;
+        match manager.event_ops(id) {
+            Ok(ops) => named(CallName::Remove, ops.remove(own)),
+            Err(error) => Err(error.of_call(CallName::EventOps)),
+        }
+    }
 }
 
 impl<R: Loop> Body for Bracketing<'_, R> {
@@ -69,6 +90,7 @@ impl<R: Loop> Body for Bracketing<'_, R> {
         expect(CallName::Run, ran == Ok(1) && heard(&mut manager, id)? == 1)?;
         println!(rt; "between marks: run with one event")?;
         self.request(&mut manager, id, own)?;
+        self.run_with_priority(&mut manager, id, own)?;
         let last = join(&mut manager, own, self.alloc)?;
         mark(rt)?;
         let removed = manager.remove_subscriber(last);

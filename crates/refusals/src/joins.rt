@@ -7,7 +7,7 @@ use crate::fault::{Fault, Refusal, expect, expect_unchanged, named};
 use crate::host::{Host, Loop};
 use crate::making::{Body, Manager, open_table, over_table};
 use crate::watcher::Watcher;
-use event_manager::{Error, EventPoller, EventSet, Events, SubscriberId, SubscriberOps};
+use event_manager::{Error, EventPoller, EventSet, Events, Priority, SubscriberId, SubscriberOps};
 use std::alloc::Global;
 use std::sync::ledger::Ledger;
 use vmm_sys::epoll::{Epoll, RawFd};
@@ -89,6 +89,29 @@ pub fn ask<L: Ledger, T: Ledger, P: EventPoller>(
     again!(
         CallName::EventOpsAdd,
         add(manager, id, events),
+        is_not_own(manager, id, events)
+    )
+}
+
+fn add_with_priority<L: Ledger, T: Ledger, P: EventPoller>(
+    manager: &mut Manager<L, T, P>,
+    id: SubscriberId,
+    events: Events,
+) -> event_manager::Result<()> {
+    manager
+        .event_ops(id)?
+        .add_with_priority(events, Priority::High)
+}
+
+/// Adds the descriptor for the subscriber at a priority, from outside a batch.
+pub fn ask_with_priority<L: Ledger, T: Ledger, P: EventPoller>(
+    manager: &mut Manager<L, T, P>,
+    id: SubscriberId,
+    events: Events,
+) -> Result<(), Fault> {
+    again!(
+        CallName::EventOpsAddWithPriority,
+        add_with_priority(manager, id, events),
         is_not_own(manager, id, events)
     )
 }
