@@ -1,6 +1,6 @@
 -- What holds of every state that a trace reaches, and of the ids that it gives.
 use Rattle.std.proofs.Common.{IfSome, ◌≡◌, ◌≢◌, ℕ, ◌+◌, ◌<◌, ◌≤◌, ◌==◌, cond, Bool, true, false, not, refl, sym, ◌∙◌, ap, subst, Some, None, Option, ◌⊎◌, inl, inr, nat_cmp, List, [], ◌∷◌, ◌++◌, true≢false, eq-eqb, arith, Ok, Err, Result, append_assoc, lt_irrefl, is_eq, Equal}
-use Rattle.std.specs.FinMap.{FinMap, get, insert, remove, get-insert, get-remove, get-empty}
+use Rattle.std.specs.FinMap.{FinMap, get, insert, remove, get-insert, get-remove, get-empty, empty}
 use Rattle.std.specs.Cmp.{nat_cmp_total, nat_cmp_is}
 use Rattle.std.specs.Ordering.{eq_by_cmp}
 use Rattle.std.proofs.lemmas.Bool.Decides.{eqb_tells}
@@ -8,11 +8,11 @@ use Rattle.event_manager.specs.Event.{Event}
 use Rattle.event_manager.specs.Registrations.{Registrations, Owns, IsFree}
 use Rattle.event_manager.specs.PollerCall.{PollerCall}
 use Rattle.event_manager.specs.Exchange.{Answer, Exchanges, Fits, by_manager, by_poller, by_agreement, ExchangesFit, ReachesPoller, entered, registrations_after}
-use Rattle.event_manager.specs.Registry.{acts_on, removed_by, Registry, Step, Joined, NotJoined, Left, NotLeft, Replaced, NotReplaced, Requested, NotRequested, Steps, is_id, without_owner, HasId, LacksId}
+use Rattle.event_manager.specs.Registry.{acts_on, removed_by, Registry, Step, Joined, NotJoined, Left, NotLeft, Replaced, NotReplaced, Requested, NotRequested, Steps, is_id, without_owner, left_by, HasId, LacksId}
 use Rattle.event_manager.specs.Dispatch.{Outcome, Nobody, To, Position, IsOutcome, AreDispatched, still_pending, events_of}
 use Rattle.event_manager.specs.Iteration.{ManagerState, JobRun, IsAfterWait, AreRun, AllSteps}
 use Rattle.event_manager.specs.Trace.{Effect, Stepped, Iterated, Entry, HasEffect, IsTrace, new_state}
-use Rattle.event_manager.specs.Guarantees.{IsSound, HasPriority, steps_of_jobs, steps_of_effect, steps_of, AreGiven, AreRefusedTo, RemovedStayGone}
+use Rattle.event_manager.specs.Guarantees.{IsSound, HasPriority, HavePriorities, steps_of_jobs, steps_of_effect, steps_of, AreGiven, AreRefusedTo, RemovedStayGone}
 use Rattle.vmm_sys.specs.declared.errno.Errno.{Errno}
 use Rattle.event_manager.specs.declared.events.Request.{Request}
 use Rattle.event_manager.specs.declared.events.Request.TheVariants.{Add, AddWithPriority, Modify, Remove}
@@ -44,9 +44,6 @@ at_most_3 Lowest = omega arith
 at_most_3 Low = omega arith
 at_most_3 High = omega arith
 at_most_3 Highest = omega arith
-
-abbrev HavePriorities : Registrations → Type 0
-HavePriorities registrations = (fd : ℕ) → HasPriority (get registrations.owner fd) (get registrations.priority fd)
 
 -- what the exchanges of id i do to the owners
 record OwnersAfter (i : ℕ) (before after : Registrations) : Type 0 where
@@ -116,6 +113,11 @@ gone i owner fd = ap (is_id i) (get-without_owner i owner owner fd) ∙ gone_ans
 still_free : (i : ℕ) (o : Option ℕ) → o ≡ None → cond (not (is_id i o)) o None ≡ None
 still_free i o e = rw e refl
 
+left_priorities : (id : ℕ) (registrations : Registrations) → HavePriorities registrations → HavePriorities (left_by id registrations)
+left_priorities id registrations h fd =
+    HasPriority-at _ _ _ _ (get-without_owner id registrations.owner registrations.owner fd) (get-without_owner id registrations.owner registrations.priority fd)
+    (left_priority (get registrations.owner fd) (get registrations.priority fd) (not (is_id id (get registrations.owner fd))) (h fd))
+
 module _ {V : Type 0} where
   -- values
   inserted_value : (k : ℕ) (values : FinMap nat_cmp V) (v : V) → get (insert values k v) k ≡ Some v
@@ -156,8 +158,8 @@ module _ {V : Type 0} where
   sound_at before made e s = subst (λ (r : Registry V). IsSound r) (sym e) s
 
   -- an id in the map has exchanges, and holds a value after them
-  sound_exchanges : (before : Registry V) (i next : ℕ) (held : V) (exchanges : Exchanges) (calls : List PollerCall) (from registrations : Registrations) → IsSound before → from.owner ≡ before.registrations.owner → from.priority ≡ before.registrations.priority → from.endpoint ≡ before.registrations.endpoint → (i < next) → (before.next < next + 1) → ExchangesFit i from exchanges calls registrations → IsSound (record { values = insert before.values i held; next = next; registrations = registrations })
-  sound_exchanges before i next held exchanges calls from registrations s same alike same_end below up fits =
+  sound_exchanges : (before : Registry V) (i next : ℕ) (held : V) (exchanges : Exchanges) (calls : List PollerCall) (from registrations : Registrations) → IsSound before → from.owner ≡ before.registrations.owner → from.endpoint ≡ before.registrations.endpoint → (i < next) → (before.next < next + 1) → ExchangesFit i from exchanges calls registrations → IsSound (record { values = insert before.values i held; next = next; registrations = registrations })
+  sound_exchanges before i next held exchanges calls from registrations s same same_end below up fits =
       let o = owners_exchanges i from exchanges calls registrations fits in
       record {
         owners = λ fd j h. elim (o.from fd j h) [
@@ -169,12 +171,11 @@ module _ {V : Type 0} where
           | inr p ↦ let b = s.given j v p in omega arith
         ];
         endpoint_free = o.endpoint_free ((λ k. get (same k) (same_end k)) ∙ s.endpoint_free);
-        priorities = o.priorities (λ fd. HasPriority-at _ _ _ _ (ap (λ (w : FinMap nat_cmp ℕ). get w fd) same) (ap (λ (w : FinMap nat_cmp ℕ). get w fd) alike) (s.priorities fd));
       }
 
   sound_step : (begins : V → Exchanges → V → Type 0) (before : Registry V) (step : Step V) (after : Registry V) → IsSound before → Steps begins before step after → IsSound after
   sound_step begins before (Joined value id exchanges calls held) after s (registrations, capacity, is, fits, beg, e) =
-      sound_at after _ e (sound_exchanges before id (before.next + 1) held exchanges calls before.registrations registrations s refl refl refl (omega arith) (omega arith) fits)
+      sound_at after _ e (sound_exchanges before id (before.next + 1) held exchanges calls before.registrations registrations s refl refl (omega arith) (omega arith) fits)
   sound_step begins before (NotJoined value error) after s h = sound_at after before h.1 s
   sound_step begins before (Left id value calls) after s (fds, has, is_owner, deletes, e) = sound_at after _ e (record {
     owners = λ fd j h.
@@ -183,8 +184,6 @@ module _ {V : Type 0} where
         let v = s.owners fd j o in (v.0, remove_other_value id j before.values differ ∙ v.1);
     given = λ j v h. s.given j v (from_remove j id before.values v h);
     endpoint_free = get-without_owner id before.registrations.owner before.registrations.owner before.registrations.endpoint ∙ still_free id (get before.registrations.owner before.registrations.endpoint) s.endpoint_free;
-    priorities = λ fd. HasPriority-at _ _ _ _ (get-without_owner id before.registrations.owner before.registrations.owner fd) (get-without_owner id before.registrations.owner before.registrations.priority fd)
-        (left_priority (get before.registrations.owner fd) (get before.registrations.priority fd) (not (is_id id (get before.registrations.owner fd))) (s.priorities fd));
   })
   sound_step begins before (NotLeft id) after s h = sound_at after before h.1 s
   sound_step begins before (Replaced id old new) after s (has, e) = sound_at after _ e (record {
@@ -194,7 +193,6 @@ module _ {V : Type 0} where
       | inr p ↦ s.given j v p
     ];
     endpoint_free = s.endpoint_free;
-    priorities = s.priorities;
   })
   sound_step begins before (NotReplaced id) after s h = sound_at after before h.1 s
   sound_step begins before (Requested id exchanges calls) after s (value, registrations, has, fits, e) =
@@ -203,19 +201,42 @@ module _ {V : Type 0} where
         owners = λ fd j h. elim (o.from fd j h) [ inl p ↦ s.owners fd j p | inr p ↦ (value, ap (get before.values) p ∙ has) ];
         given = s.given;
         endpoint_free = o.endpoint_free s.endpoint_free;
-        priorities = o.priorities s.priorities;
       })
   sound_step begins before (NotRequested id) after s h = sound_at after before h.1 s
 
   sound_outcome : (serves : V → Event → Exchanges → V → Type 0) (before : Registry V) (earlier : List (Position V)) (e : Event) (later : List Event) (outcome : Outcome V) (after : Registry V) → IsSound before → IsOutcome serves before earlier e later outcome after → IsSound after
-  sound_outcome serves before earlier e later Nobody after s (nobody, is) = sound_at after _ is (record { owners = s.owners; given = s.given; endpoint_free = s.endpoint_free; priorities = s.priorities })
+  sound_outcome serves before earlier e later Nobody after s (nobody, is) = sound_at after _ is (record { owners = s.owners; given = s.given; endpoint_free = s.endpoint_free })
   sound_outcome serves before earlier e later (To i exchanges calls held) after s (value, registrations, for, serving, fits, is) =
       let below = s.given i value for.2 in
-      sound_at after _ is (sound_exchanges before i before.next held exchanges calls (record before.registrations { pending = still_pending earlier later }) registrations s refl refl refl below (omega arith) fits)
+      sound_at after _ is (sound_exchanges before i before.next held exchanges calls (record before.registrations { pending = still_pending earlier later }) registrations s refl refl below (omega arith) fits)
 
   sound_positions : (serves : V → Event → Exchanges → V → Type 0) (before : Registry V) (earlier positions : List (Position V)) (after : Registry V) → IsSound before → AreDispatched serves before earlier positions after → IsSound after
-  sound_positions serves before earlier [] after s is = sound_at after _ is (record { owners = s.owners; given = s.given; endpoint_free = s.endpoint_free; priorities = s.priorities })
+  sound_positions serves before earlier [] after s is = sound_at after _ is (record { owners = s.owners; given = s.given; endpoint_free = s.endpoint_free })
   sound_positions serves before earlier (d ∷ positions) after s (mid, out, more) = sound_positions serves mid (earlier ++ d ∷ []) positions after (sound_outcome serves before earlier d.event (events_of positions) d.outcome mid s out) more
+
+  -- priorities stay
+  priorities_at : (after made : Registry V) → after ≡ made → HavePriorities made.registrations → HavePriorities after.registrations
+  priorities_at after made e h = subst (λ (r : Registry V). HavePriorities r.registrations) (sym e) h
+
+  priorities_step : (begins : V → Exchanges → V → Type 0) (before : Registry V) (step : Step V) (after : Registry V) → HavePriorities before.registrations → Steps begins before step after → HavePriorities after.registrations
+  priorities_step begins before (Joined value id exchanges calls held) after h (registrations, capacity, is, fits, beg, e) = priorities_at after _ e ((owners_exchanges id before.registrations exchanges calls registrations fits).priorities h)
+  priorities_step begins before (NotJoined value error) after h s = priorities_at after before s.1 h
+  priorities_step begins before (Left id value calls) after h (fds, has, is_owner, deletes, e) = priorities_at after _ e (left_priorities id before.registrations h)
+  priorities_step begins before (NotLeft id) after h s = priorities_at after before s.1 h
+  priorities_step begins before (Replaced id old new) after h (has, e) = priorities_at after _ e h
+  priorities_step begins before (NotReplaced id) after h s = priorities_at after before s.1 h
+  priorities_step begins before (Requested id exchanges calls) after h (value, registrations, has, fits, e) = priorities_at after _ e ((owners_exchanges id before.registrations exchanges calls registrations fits).priorities h)
+  priorities_step begins before (NotRequested id) after h s = priorities_at after before s.1 h
+
+  priorities_outcome : (serves : V → Event → Exchanges → V → Type 0) (before : Registry V) (earlier : List (Position V)) (e : Event) (later : List Event) (outcome : Outcome V) (after : Registry V) → HavePriorities before.registrations → IsOutcome serves before earlier e later outcome after → HavePriorities after.registrations
+  priorities_outcome serves before earlier e later Nobody after h (nobody, is) = priorities_at after _ is h
+  priorities_outcome serves before earlier e later (To i exchanges calls held) after h (value, registrations, for, serving, fits, is) =
+      priorities_at after _ is ((owners_exchanges i (record before.registrations { pending = still_pending earlier later }) exchanges calls registrations fits).priorities h)
+
+  priorities_positions : (serves : V → Event → Exchanges → V → Type 0) (before : Registry V) (earlier positions : List (Position V)) (after : Registry V) → HavePriorities before.registrations → AreDispatched serves before earlier positions after → HavePriorities after.registrations
+  priorities_positions serves before earlier [] after h is = priorities_at after _ is h
+  priorities_positions serves before earlier (d ∷ positions) after h (mid, out, more) =
+      priorities_positions serves mid (earlier ++ d ∷ []) positions after (priorities_outcome serves before earlier d.event (events_of positions) d.outcome mid h out) more
 
   -- the next id
   next_outcome : (serves : V → Event → Exchanges → V → Type 0) (before : Registry V) (earlier : List (Position V)) (e : Event) (later : List Event) (outcome : Outcome V) (after : Registry V) → IsOutcome serves before earlier e later outcome after → after.next ≡ before.next
@@ -306,6 +327,7 @@ module _ {V J R : Type 0} (begins : V → Exchanges → V → Type 0) (serves : 
     pub given : AreGiven before.next steps after.next
     pub gone : (i : ℕ) → IsGone i before → AreRefusedTo i steps × IsGone i after
     pub removed : IsSound before → RemovedStayGone steps
+    pub prioritised : HavePriorities before.registrations → HavePriorities after.registrations
 
   follows_none : (before after : Registry V) → after ≡ before → Follows before [] after
   follows_none before after e = record {
@@ -313,6 +335,7 @@ module _ {V J R : Type 0} (begins : V → Exchanges → V → Type 0) (serves : 
     given = ap (λ (r : Registry V). r.next) e;
     gone = λ i g. (tt, gone_at i after before e g);
     removed = λ s. tt;
+    prioritised = priorities_at after before e;
   }
 
   -- one step first
@@ -322,6 +345,7 @@ module _ {V J R : Type 0} (begins : V → Exchanges → V → Type 0) (serves : 
     given = given_join before.next mid.next after.next (step ∷ []) steps (given_step begins before step mid h) k.given;
     gone = λ i g. let a = gone_step begins i before step mid g h in let b = k.gone i a.1 in ((a.0, b.0), b.1);
     removed = λ s. (stays_gone begins before step mid steps s h (λ i g. (k.gone i g).0), k.removed (sound_step begins before step mid s h));
+    prioritised = λ p. k.prioritised (priorities_step begins before step mid p h);
   }
 
   -- what leads to any continuation
@@ -331,6 +355,7 @@ module _ {V J R : Type 0} (begins : V → Exchanges → V → Type 0) (serves : 
     given = subst (λ n. AreGiven n steps after.next) (next_positions serves before [] positions mid h) k.given;
     gone = λ i g. k.gone i (gone_positions serves i before [] positions mid g h);
     removed = λ s. k.removed (sound_positions serves before [] positions mid s h);
+    prioritised = λ p. k.prioritised (priorities_positions serves before [] positions mid p h);
   }
 
   follows_steps : (before : Registry V) (steps : List (Step V)) (mid : Registry V) (more : List (Step V)) (after : Registry V) → AllSteps begins before steps mid → Follows mid more after → Follows before (steps ++ more) after
@@ -363,5 +388,7 @@ new_is_sound {V} endpoint = record {
   owners = λ fd i h. let s : None ≡ Some i = sym (get-empty nat_cmp fd) ∙ h in cc;
   given = λ i v h. let s : None ≡ Some v = sym (get-empty nat_cmp i) ∙ h in cc;
   endpoint_free = get-empty nat_cmp endpoint;
-  priorities = λ fd. HasPriority-at None None _ _ (get-empty nat_cmp fd) (get-empty nat_cmp fd) refl;
 }
+
+pub new_has_priorities : (endpoint : ℕ) → HavePriorities (record { owner = empty; priority = empty; endpoint = endpoint; pending = [] })
+new_has_priorities endpoint fd = HasPriority-at None None _ _ (get-empty nat_cmp fd) (get-empty nat_cmp fd) refl

@@ -91,6 +91,7 @@ module _ {S J R P : Type 0} (begins : S → Exchanges → S → Type 0) (serves 
         given = follows.given;
         removed = follows.removed;
         sound = follows.sound;
+        priorities = follows.prioritised;
         non_interference = non_interference begins serves may before trace after is;
         projection_keeps = projection_keeps trace after;
         isolated_step = λ from step onto h. isolated_step begins from step onto h;

@@ -10,7 +10,7 @@ use Rattle.event_manager.specs.Iteration.{ManagerState}
 use Rattle.event_manager.specs.LoopState.{LoopState, manager_state}
 use Rattle.event_manager.specs.Trace.{Effect, Entry, HasEffect, IsTrace, calls_of_effect, calls_of_trace}
 use Rattle.event_manager.specs.Projection.{NonInterference, ProjectionKeeps, names}
-use Rattle.event_manager.specs.Guarantees.{IsSound, AreGiven, RemovedStayGone, IsUntouched, FreesExactly, steps_of}
+use Rattle.event_manager.specs.Guarantees.{IsSound, HavePriorities, AreGiven, RemovedStayGone, IsUntouched, FreesExactly, steps_of}
 use Rattle.event_manager.specs.declared.error.Error.{Error}
 use Rattle.event_manager.specs.declared.error.Error.TheVariants.{InvalidId}
 use Rattle.event_manager.specs.declared.events.Request.{Request}
@@ -54,12 +54,13 @@ module _ {S J R : Type 0} (begins : S → Exchanges → S → Type 0) (serves : 
       pub same_capacity : after.capacity ≡ before.capacity
 
   -- Of a trace: ids are given in order, each once; what was removed is refused from then on; each owner is held, and the endpoint
-  -- is never owned; the projection to an id that is apart is itself a trace, with the same replies, deliveries and values. Of each
+  -- is never owned; each owned descriptor has a priority; a projection to an id that is apart is itself a trace, with the same replies, deliveries and values. Of each
   -- step and delivery in it: the other ids keep their value, descriptors and pending events; a leave frees exactly its descriptors.
   pub record IsGuaranteed (before : ManagerState S) (trace : List (Entry S J R)) (after : ManagerState S) : Type 0 where
     pub given : AreGiven before.registry.next (steps_of trace) after.registry.next
     pub removed : IsSound before.registry → RemovedStayGone (steps_of trace)
     pub sound : IsSound before.registry → IsSound after.registry
+    pub priorities : HavePriorities before.registry.registrations → HavePriorities after.registry.registrations
     pub non_interference : NonInterference begins serves may before trace after
     pub projection_keeps : ProjectionKeeps trace after
     pub isolated_step : (from : Registry S) (step : Step S) (onto : Registry S) → Steps begins from step onto → (j : ℕ) → names j step ≡ false → IsUntouched j from onto

@@ -16,18 +16,20 @@ abbrev pub IsUntouched : {V : Type 0} → ℕ → Registry V → Registry V → 
 IsUntouched j before after =
     (map.get after.values j ≡ map.get before.values j) × ((fd : ℕ) → Owns j after.registrations fd ↔ Owns j before.registrations fd) × (pending_of j after.registrations ≡ pending_of j before.registrations)
 
+-- Each owner is in the map, each id in the map was given, and the endpoint's descriptor is never owned.
+pub record IsSound {V : Type 0} (registry : Registry V) : Type 0 where
+  pub owners : (fd : ℕ) (i : ℕ) → Owns i registry.registrations fd → (value : V) × HasId registry i value
+  pub given : (i : ℕ) (value : V) → HasId registry i value → i < registry.next
+  pub endpoint_free : IsFree registry.registrations registry.registrations.endpoint
+
 -- what a descriptor has as the number of its priority, by its owner: one up to 3; none where nobody owns it
 abbrev pub HasPriority : Option ℕ → Option ℕ → Type 0
 HasPriority None priority = priority ≡ None
 HasPriority (Some id) priority = (number : ℕ) × (priority ≡ Some number) × (number ≤ 3)
 
--- Each owner is in the map, each id in the map was given, and the endpoint's descriptor is never owned; each owned
--- descriptor has a priority.
-pub record IsSound {V : Type 0} (registry : Registry V) : Type 0 where
-  pub owners : (fd : ℕ) (i : ℕ) → Owns i registry.registrations fd → (value : V) × HasId registry i value
-  pub given : (i : ℕ) (value : V) → HasId registry i value → i < registry.next
-  pub endpoint_free : IsFree registry.registrations registry.registrations.endpoint
-  pub priorities : (fd : ℕ) → HasPriority (map.get registry.registrations.owner fd) (map.get registry.registrations.priority fd)
+-- each owned descriptor has a priority, and no other one
+abbrev pub HavePriorities : Registrations → Type 0
+HavePriorities registrations = (fd : ℕ) → HasPriority (map.get registrations.owner fd) (map.get registrations.priority fd)
 
 -- all steps of a trace, those of its jobs too
 abbrev pub steps_of_jobs : {V J R : Type 0} → List (JobRun V J R) → List (Step V)

@@ -16,7 +16,7 @@ ghost use Rattle.event_manager.specs.Dispatch.{Position, Outcome, To, IsOutcome,
 ghost use Rattle.event_manager.specs.Iteration.{ManagerState};
 ghost use Rattle.event_manager.specs.Trace.{Entry, HasEffect, IsTrace, new_state};
 ghost use Rattle.event_manager.specs.Projection.{NonInterference, ProjectionKeeps, names};
-ghost use Rattle.event_manager.specs.Guarantees.{AreGiven, steps_of, RemovedStayGone, IsSound, IsUntouched, FreesExactly};
+ghost use Rattle.event_manager.specs.Guarantees.{AreGiven, steps_of, RemovedStayGone, IsSound, HavePriorities, IsUntouched, FreesExactly};
 ghost use Rattle.event_manager.specs.Example.{any_begins, any_serves, any_may, joins, iterates};
 
 use crate::jobs::Job;
@@ -43,12 +43,19 @@ pub fn ids_are_given_once<S: MutEventSubscriber, J: Job<S>>()
         IsTrace S.begins S.serves J.may before trace after → IsSound before.registry → RemovedStayGone (steps_of trace) }
 {}
 
-/// In every trace of a new manager each owner of a descriptor is in the map of subscribers, nobody owns the endpoint's
-/// descriptor, and each owned descriptor has a priority from 0 to 3, and no other one has any.
+/// In every trace of a new manager each owner of a descriptor is in the map of subscribers, and nobody owns the
+/// endpoint's descriptor.
 pub fn owners_are_subscribers<S: MutEventSubscriber, J: Job<S>>()
     ensures new { (endpoint : ℕ) → IsSound (new_state {V = S} endpoint).registry }
     ensures kept { (before : ManagerState S) (trace : List (Entry S J J.Reply)) (after : ManagerState S) →
         IsTrace S.begins S.serves J.may before trace after → IsSound before.registry → IsSound after.registry }
+{}
+
+/// In every trace of a new manager each owned descriptor has a priority from 0 to 3, and no other one has any.
+pub fn owned_descriptors_have_priorities<S: MutEventSubscriber, J: Job<S>>()
+    ensures new { (endpoint : ℕ) → HavePriorities (new_state {V = S} endpoint).registry.registrations }
+    ensures kept { (before : ManagerState S) (trace : List (Entry S J J.Reply)) (after : ManagerState S) →
+        IsTrace S.begins S.serves J.may before trace after → HavePriorities before.registry.registrations → HavePriorities after.registry.registrations }
 {}
 
 /// Isolation: a step for one id, or a delivery to it, leaves the values, descriptors and pending events of all others;
