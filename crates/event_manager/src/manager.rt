@@ -202,12 +202,13 @@ impl<S: MutEventSubscriber, J: Job<S>, L: Ledger, T: Ledger, P: EventPoller> Eve
     /// Waits once, for at most `ms` milliseconds (negative: without a limit), dispatches what is reported, and then runs
     /// the jobs that wait.
     ///
-    /// Each event goes, in the order of the report and once, to the subscriber that owns its descriptor at its turn,
-    /// unless a `remove` of that descriptor has succeeded since the wait; else to nobody. Events on the endpoint's
-    /// descriptor go to nobody; where there was one, then after all deliveries the endpoint's `EventFd` is read once, all
-    /// jobs that wait are taken, and each is run once, in the order of the tickets. The queue's lock is free while they
-    /// run; a job that is sent meanwhile waits for a later run. Answers how many events were reported, cancelled ones and
-    /// those of nobody included.
+    /// The events of a higher priority go first, by the [`Priority`](crate::Priority) that each descriptor held after the
+    /// wait (0 where nobody owned it), and those of one priority in the order of the report. Each goes once, to the
+    /// subscriber that owns its descriptor at its turn, unless a `remove` of that descriptor has succeeded since the wait;
+    /// else to nobody. Events on the endpoint's descriptor go to nobody; where there was one, then after all deliveries
+    /// the endpoint's `EventFd` is read once, all jobs that wait are taken, and each is run once, in the order of the
+    /// tickets. The queue's lock is free while they run; a job that is sent meanwhile waits for a later run. Answers how
+    /// many events were reported, cancelled ones and those of nobody included.
     ///
     /// An interrupted wait (`EINTR`) answers 0; one that is refused with another number is `Epoll` with it. Then nobody
     /// is called and nothing changes but the poller. A run whose wait succeeded answers `Ok`, and takes no memory of
