@@ -11,7 +11,7 @@ use Rattle.event_manager.specs.DispatchOrder.{of_class, IsOrdered}
 use Rattle.event_manager.specs.declared.dispatch_order.ClassedEntry.{ClassedEntry}
 use Rattle.event_manager.specs.declared.priority.Priority.{Priority}
 use Rattle.event_manager.specs.declared.priority.Priority.TheVariants.{Lowest, Low, High, Highest}
-use Rattle.event_manager.proofs.DispatchOrders.{AreAtMost, lowest_descends, ordered_already, ordered_by_passes}
+use Rattle.event_manager.proofs.DispatchOrders.{nil_cons, head_is, tail_is, AreAtMost, lowest_descends, ordered_already, ordered_by_passes}
 
 -- class: the number of the class of an item; entry: its entry
 module _ {C E : Type 0} (class : C → ℕ) (entry : C → E) (n : ℕ) where
@@ -57,16 +57,6 @@ module _ {C E : Type 0} (class : C → ℕ) (entry : C → E) (n : ℕ) where
           take_more_set now to (entry (get_or items k d)) room ∙ ap (λ l. l ++ entry (get_or items k d) ∷ []) so_far ∙ append_assoc (take from buffer) (those (take k items)) (entry (get_or items k d) ∷ [])
           ∙ ap (λ l. take from buffer ++ l) (sym one_is)
 
--- an entry of each list
-nil_cons : {A : Type 0} (x : A) (xs : List A) → [] ≡ x ∷ xs → ⊥
-nil_cons x xs e = cc
-
-head_is : {A : Type 0} (x y : A) (xs ys : List A) → x ∷ xs ≡ y ∷ ys → x ≡ y
-head_is x y xs ys e = cc
-
-tail_is : {A : Type 0} (x y : A) (xs ys : List A) → x ∷ xs ≡ y ∷ ys → xs ≡ ys
-tail_is x y xs ys e = cc
-
 -- each entry is of one of the four classes
 one_of_class : (n : ℕ) (one : ClassedEntry) (classed : List ClassedEntry) → length (entries_of n (one ∷ classed)) ≡ cond (number_of one.class == n) 1 0 + length (entries_of n classed)
 one_of_class n one classed =
@@ -88,7 +78,8 @@ pub all_classes : (classed : List ClassedEntry) → length (entries_of 3 classed
 all_classes [] = refl
 all_classes (one ∷ classed) = omega (arith, one_of_class 3 one classed, one_of_class 2 one classed, one_of_class 1 one classed, one_of_class 0 one classed, one_class one.class, all_classes classed)
 
-at_most_3 : (class : Priority) → number_of class ≤ 3
+-- a priority's number is at most 3
+pub at_most_3 : (class : Priority) → number_of class ≤ 3
 at_most_3 Lowest = omega arith
 at_most_3 Low = omega arith
 at_most_3 High = omega arith

@@ -9,13 +9,13 @@ use Rattle.event_manager.specs.Event.{Event}
 use Rattle.event_manager.specs.Iteration.{is_reported}
 use Rattle.event_manager.specs.DispatchOrder.{of_class, IsOrdered}
 
-nil_cons : {A : Type 0} (x : A) (xs : List A) → [] ≡ x ∷ xs → ⊥
+pub nil_cons : {A : Type 0} (x : A) (xs : List A) → [] ≡ x ∷ xs → ⊥
 nil_cons x xs e = cc
 
-head_is : {A : Type 0} (x y : A) (xs ys : List A) → x ∷ xs ≡ y ∷ ys → x ≡ y
+pub head_is : {A : Type 0} (x y : A) (xs ys : List A) → x ∷ xs ≡ y ∷ ys → x ≡ y
 head_is x y xs ys e = cc
 
-tail_is : {A : Type 0} (x y : A) (xs ys : List A) → x ∷ xs ≡ y ∷ ys → xs ≡ ys
+pub tail_is : {A : Type 0} (x y : A) (xs ys : List A) → x ∷ xs ≡ y ∷ ys → xs ≡ ys
 tail_is x y xs ys e = cc
 
 cond_swap : (x : Event) (l : List Event) (p q : Event → Bool) (a b : Bool) (fp fq : List Event) → p x ≡ a → q x ≡ b → filter p fq ≡ l → filter q fp ≡ l → filter p (cond b (x ∷ fq) fq) ≡ filter q (cond a (x ∷ fp) fp)

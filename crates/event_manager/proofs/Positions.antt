@@ -7,7 +7,7 @@ use Rattle.std.specs.FinMap.{get, insert}
 use Rattle.event_manager.specs.Event.{Event}
 use Rattle.event_manager.specs.Registrations.{Owns}
 use Rattle.event_manager.specs.DispatchOrder.{class_of, IsDispatchOrder}
-use Rattle.event_manager.proofs.DispatchOrders.{reported_in_order}
+use Rattle.event_manager.proofs.DispatchOrders.{nil_cons, head_is, tail_is, reported_in_order}
 use Rattle.event_manager.specs.PollerCall.{PollerCall, Wait}
 use Rattle.event_manager.specs.Exchange.{Exchanges, ExchangesFit, removes}
 use Rattle.event_manager.specs.RegistrationState.{RegistrationState, not_cancelled, registrations_of, cancel_removed, all_pending, HasWaited}
@@ -129,18 +129,9 @@ reported_more : {V : Type 0} (fd : ℕ) (positions : List (Position V)) (d : Pos
 reported_more fd [] d = or_false (d.event.fd == fd)
 reported_more fd (x ∷ positions) d = ap (λ b. (x.event.fd == fd) || b) (reported_more fd positions d) ∙ or_assoc (x.event.fd == fd) (is_reported fd (events_of positions)) (d.event.fd == fd)
 
-nil_cons : {A : Type 0} (x : A) (xs : List A) → [] ≡ x ∷ xs → ⊥
-nil_cons x xs e = cc
-
 no_events : {V : Type 0} (positions : List (Position V)) (later : List Event) → cancelled_by positions later ≡ [] → later ≡ []
 no_events positions [] e = refl
 no_events positions (x ∷ later) e = absurd (nil_cons _ _ (sym e))
-
-head_is : {A : Type 0} (x y : A) (xs ys : List A) → x ∷ xs ≡ y ∷ ys → x ≡ y
-head_is x y xs ys e = cc
-
-tail_is : {A : Type 0} (x y : A) (xs ys : List A) → x ∷ xs ≡ y ∷ ys → xs ≡ ys
-tail_is x y xs ys e = cc
 
 true_false : (b : Bool) → b ≡ true → b ≡ false → ⊥
 true_false b e f = cc

@@ -8,6 +8,7 @@ use Rattle.event_manager.specs.Exchange.{Exchanges, removes}
 use Rattle.event_manager.specs.Registry.{Registry}
 use Rattle.event_manager.specs.Dispatch.{Outcome, Nobody, To, Position, exchanges_of, is_removed, still_pending, events_of, IsFor, IsOutcome, AreDispatched}
 use Rattle.event_manager.specs.Projection.{owned_by, only_values, projected_registrations, projected_registry, is_to, IsOnly, AreProjected, outcome_exchanges, positions_exchanges, asks_to_add, adds}
+use Rattle.event_manager.proofs.DispatchOrders.{nil_cons, head_is, tail_is}
 use Rattle.event_manager.proofs.FiniteMaps.{only_outcome-insert_own, only_outcome-insert_other}
 use Rattle.event_manager.proofs.ProjectedExchanges.{IsMine, own_exchanges, other_exchanges, owned_projected, owned_from_projected, projected_is_own, or_assoc, calls_first, calls_then, adds_first, adds_then}
 use Rattle.event_manager.proofs.ProjectedSteps.{has_projected, has_from_projected}
@@ -31,15 +32,6 @@ pub data Woven {V : Type 0} (i : ℕ) (mine : ℕ → Bool) : List (Position V) 
 -- the projected registry, with these events pending
 abbrev projected_with : {V : Type 0} → ℕ → ℕ → List Event → Registry V → Registry V
 projected_with i n pending r = record { values = only_values i r.values; next = n; registrations = projected_registrations i pending r.registrations }
-
-cons_nil : {A : Type 0} (x : A) (xs : List A) → x ∷ xs ≡ [] → ⊥
-cons_nil x xs e = cc
-
-head_is : {A : Type 0} (x y : A) (xs ys : List A) → x ∷ xs ≡ y ∷ ys → x ≡ y
-head_is x y xs ys e = cc
-
-tail_is : {A : Type 0} (x y : A) (xs ys : List A) → x ∷ xs ≡ y ∷ ys → xs ≡ ys
-tail_is x y xs ys e = cc
 
 or_ends : (a : Bool) → (a || false) ≡ a
 or_ends true = refl
@@ -219,7 +211,7 @@ module _ {V : Type 0} (serves : V → Event → Exchanges → V → Type 0) (i :
   no_mine [] f none = ends
   no_mine (d ∷ real) f none =
       let at : (b : Bool) → mine d.event.fd ≡ b → cond b (d.event ∷ on_mine (events_of real)) (on_mine (events_of real)) ≡ [] → Woven i mine (d ∷ real) [] = elim [
-        | true ↦ λ e is. absurd (cons_nil d.event (on_mine (events_of real)) is)
+        | true ↦ λ e is. absurd (nil_cons _ _ (sym is))
         | false ↦ λ e is. skipped d e (f.0 e) (no_mine real f.1 is)
       ]
       in at (mine d.event.fd) refl none
@@ -235,7 +227,7 @@ module _ {V : Type 0} (serves : V → Event → Exchanges → V → Type 0) (i :
 
   first_mine : (real : List (Position V)) (e : Event) (es : List Event) → Foreign real → on_mine (events_of real) ≡ e ∷ es → FirstMine real e es
   unfolding Foreign
-  first_mine [] e es f is = absurd (cons_nil e es (sym is))
+  first_mine [] e es f is = absurd (nil_cons _ _ is)
   first_mine (d ∷ real) e es f is =
       let at : (b : Bool) → mine d.event.fd ≡ b → cond b (d.event ∷ on_mine (events_of real)) (on_mine (events_of real)) ≡ e ∷ es → FirstMine (d ∷ real) e es = elim [
         | true ↦ λ t h. record { position = d; rest = real; event = head_is _ _ _ _ h; left = tail_is _ _ _ _ h; foreign = f.1; weave = λ shown w. both d t w }

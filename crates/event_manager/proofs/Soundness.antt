@@ -16,11 +16,10 @@ use Rattle.event_manager.specs.Guarantees.{IsSound, HasPriority, HavePriorities,
 use Rattle.vmm_sys.specs.declared.errno.Errno.{Errno}
 use Rattle.event_manager.specs.declared.events.Request.{Request}
 use Rattle.event_manager.specs.declared.events.Request.TheVariants.{Add, AddWithPriority, Modify, Remove}
-use Rattle.event_manager.specs.declared.priority.Priority.{Priority}
-use Rattle.event_manager.specs.declared.priority.Priority.TheVariants.{Lowest, Low, High, Highest}
 use Rattle.event_manager.specs.Priority.{number_of}
 use Rattle.event_manager.proofs.FiniteMaps.{fd_tells, get-without_owner}
 use Rattle.event_manager.proofs.ProjectedSteps.{from_disowned}
+use Rattle.event_manager.proofs.ClassEntries.{at_most_3}
 use Rattle.event_manager.proofs.Isolation.{insert_other_value, remove_other_value}
 
 -- a priority stays with its owner
@@ -38,12 +37,6 @@ taken_priority o p false h = h
 left_priority : (o p : Option ℕ) (b : Bool) → HasPriority o p → HasPriority (cond b o None) (cond b p None)
 left_priority o p true h = h
 left_priority o p false h = refl
-
-at_most_3 : (priority : Priority) → number_of priority ≤ 3
-at_most_3 Lowest = omega arith
-at_most_3 Low = omega arith
-at_most_3 High = omega arith
-at_most_3 Highest = omega arith
 
 -- what the exchanges of id i do to the owners
 record OwnersAfter (i : ℕ) (before after : Registrations) : Type 0 where
