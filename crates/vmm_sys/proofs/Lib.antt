@@ -5,3 +5,4 @@ pub mod Picks
 pub mod Places
 pub mod Queued
 pub mod Service
+pub mod Walks

@@ -1,5 +1,5 @@
 -- The interests of a table: the event of each descriptor that has one, and these descriptors in a queue.
-use Rattle.std.specs.Prelude.{ℕ, ◌≡◌, ◌≤◌, List, [], ◌∷◌, length, map, slice_index_or, Option, Some, None, IsSome}
+use Rattle.std.specs.Prelude.{ℕ, ◌≡◌, ◌≢◌, ◌≤◌, List, [], ◌∷◌, ◌++◌, length, map, slice_index_or, Option, Some, None, IsSome}
 use Rattle.std.specs.Option.{unwrap_or}
 use Rattle.vmm_sys.specs.declared.epoll.EpollEvent.{EpollEvent}
 use Rattle.vmm_sys.specs.declared.table.Interest.{Interest}
@@ -35,3 +35,15 @@ pub record AreQueued (events : List (Option EpollEvent)) (queue : QueueState) : 
   pub different : AreDifferent queue.numbers
   pub queued : HaveEvents events queue.numbers
   pub others : (n : ℕ) → NotIn (Some n) queue.numbers → event_of events n ≡ None
+
+-- the last of these interests is of this descriptor, and no other one is
+pub record IsOfLast (last : Option ℕ) (interests : List Interest) : Type 0 where
+  pub it : (ms : List Interest) (i : Interest) → interests ≡ ms ++ i ∷ [] → last ≡ Some i.descriptor
+  pub others : (ms ns : List Interest) (i j : Interest) → interests ≡ ms ++ i ∷ (j ∷ ns) → last ≢ Some i.descriptor
+
+-- a walk over some of the interests has come to `from`, and goes on over `ahead`, up to the one of the descriptor `last`
+pub record GoesOver (interests : List Interest) (last : Option ℕ) (from : Interest) (ahead : List Interest) : Type 0 where
+  pub before : List Interest
+  pub behind : List Interest
+  pub whole : interests ≡ before ++ from ∷ (ahead ++ behind)
+  pub end : IsOfLast last (from ∷ ahead)

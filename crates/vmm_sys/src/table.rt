@@ -1,8 +1,9 @@
 //! The in-process table: counters and lines, and a list of interests in them.
 
-ghost use Rattle.std.specs.Prelude.{◌≡◌, ◌≢◌, ◌<◌, ◌≤◌, ◌^◌, List, length, ◌++◌, ◌∷◌, take, drop, filter, map, slice_get, Some, None, IsSome};
+ghost use Rattle.std.specs.Prelude.{◌≡◌, ◌≢◌, ◌<◌, ◌≤◌, ◌^◌, List, length, ◌++◌, ◌∷◌, take, drop, filter, find, map, slice_get, Some, None, IsSome};
 ghost use Rattle.vmm_sys.specs.EventSet.{bits_of};
 ghost use Rattle.vmm_sys.specs.Table.{new_table, state_of, state_at, is_ready, entry_of as entry_in, opened, source_of as source_in, with_source, place_of as place_in, changed, has_mode, Answers, AnswersWithMemory, ctl_of, wait_of, write_of, read_of, set_line_of, open_of, add_counter_of, add_line_of, filled, counted, chosen, moved_back, first_ready, first_ready_last};
+ghost use Rattle.vmm_sys.specs.Interests.{GoesOver};
 ghost use Rattle.vmm_sys.specs.ServiceBound.{Ctl, Wait, MovesForward, EachStepMovesForward, ReportedWithinRooms, ReportedWithinWaits};
 ghost use Rattle.vmm_sys.specs.TablePoller.{table_code, MayCtl, MayWait};
 
@@ -356,16 +357,45 @@ fn entry_of(sources: &[Source], interest: Interest) -> EpollEvent
     EpollEvent::new(wanted.intersection(state), interest.event.data())
 }
 
-// The interest to look at after one: none after the descriptor of the last.
+// Whether an interest is ready.
+fn is_ready(sources: &[Source], interest: Interest) -> bool
+    ensures { result ≡ is_ready sources.now interest }
+{
+    !entry_of(sources, interest).event_set().is_empty()
+}
+
+// The interest right after one, up to that of the descriptor `last`.
 fn following(interests: &Interests, interest: Interest, last: Option<usize>) -> Option<Interest>
-    requires { (ms ns : List Interest) × (interests.now.list ≡ ms ++ interest ∷ ns) }
-    ensures stop { last ≡ Some interest.descriptor → result ≡ None }
-    ensures on { (ms ns : List Interest) → last ≢ Some interest.descriptor → interests.now.list ≡ ms ++ interest ∷ ns → result ≡ slice_get ns 0 }
+    requires { (ahead : List Interest) × GoesOver interests.now.list last interest ahead }
+    ensures { (ahead : List Interest) → GoesOver interests.now.list last interest ahead → result ≡ slice_get ahead 0 }
 {
     match last {
         Some(descriptor) if descriptor == interest.descriptor => None,
         _ => interests.after(interest),
     }
+}
+
+// The first ready interest from one on, up to that of the descriptor `last`. It is a loop of its own
+// since one that writes nothing keeps the vectors' addresses in registers: with the moves in it a look
+// took half as long again.
+fn ready_from(
+    sources: &[Source],
+    interests: &Interests,
+    from: Interest,
+    last: Option<usize>,
+) -> Option<Interest>
+    requires { (ahead : List Interest) × GoesOver interests.now.list last from ahead }
+    ensures { (ahead : List Interest) → GoesOver interests.now.list last from ahead → result ≡ find (is_ready sources.now) (from ∷ ahead) }
+{
+    let mut interest = from;
+    // The range only says that the walk ends: there are no more interests than it has numbers.
+    for k in 0..interests.room() {
+        if is_ready(sources, interest) {
+            return Some(interest);
+        }
+        interest = following(interests, interest, last)?;
+    }
+    None
 }
 
 // Writes the entries of the first ready interests, as many as there is room for, and moves these to
@@ -379,24 +409,18 @@ fn report(sources: &[Source], interests: &mut Interests, buffer: &mut [EpollEven
 {
     let last = interests.last();
     let mut next = interests.first();
-    let mut count = 0;
-    // The range only says that the walk ends: there are no more interests than it has numbers.
-    for k in 0..interests.room() {
-        let Some(interest) = next else {
-            break;
+    for count in 0..buffer.len() {
+        let Some(from) = next else {
+            return count;
         };
-        if count == buffer.len() {
-            break;
-        }
+        let Some(interest) = ready_from(sources, interests, from, last) else {
+            return count;
+        };
         next = following(interests, interest, last);
-        let entry = entry_of(sources, interest);
-        if !entry.event_set().is_empty() {
-            buffer[count] = entry;
-            count += 1;
-            interests.move_to_back(interest);
-        }
+        buffer[count] = entry_of(sources, interest);
+        interests.move_to_back(interest);
     }
-    count
+    buffer.len()
 }
 
 /// States how long an interest of a [`Table`] may have to wait for its report; it does nothing.

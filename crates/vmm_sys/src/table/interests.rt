@@ -1,9 +1,9 @@
 //! The interests of a table, each found by its descriptor and joined to its neighbours by links.
 
-ghost use Rattle.std.specs.Prelude.{◌≡◌, ◌≢◌, ◌<◌, ◌≤◌, ◌++◌, ◌∷◌, [], ℕ, List, length, remove, position, slice_get, slice_set, is_some, Some, None, IsSome, OnOk};
+ghost use Rattle.std.specs.Prelude.{◌≡◌, ◌<◌, ◌≤◌, ◌++◌, ◌∷◌, [], ℕ, List, length, remove, position, slice_get, slice_set, is_some, Some, None, IsSome, OnOk};
 ghost use Rattle.std.specs.Option.{option_map};
 ghost use Rattle.vmm_sys.specs.Table.{is_of};
-ghost use Rattle.vmm_sys.specs.Interests.{event_of as event_in, interest_of as interest_in};
+ghost use Rattle.vmm_sys.specs.Interests.{event_of as event_in, interest_of as interest_in, IsOfLast};
 
 use super::Interest;
 use super::queue::Queue;
@@ -108,8 +108,7 @@ impl Interests {
 
     /// The descriptor of the last interest.
     pub(super) fn last(&self) -> Option<usize>
-        ensures last { (ms : List Interest) (i : Interest) → self.now.list ≡ ms ++ i ∷ [] → result ≡ Some i.descriptor }
-        ensures others { (ms ns : List Interest) (i j : Interest) → self.now.list ≡ ms ++ i ∷ (j ∷ ns) → result ≢ Some i.descriptor }
+        ensures { IsOfLast result self.now.list }
     {
         self.queue.last()
     }
