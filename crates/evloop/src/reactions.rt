@@ -1,6 +1,6 @@
 //! What a subscriber asks for on its events.
 
-ghost use Rattle.std.specs.Prelude.{◌≡◌, ℤ, [], ◌∷◌, ◌++◌, OnOk, pos};
+ghost use Rattle.std.specs.Prelude.{◌≡◌, ℤ, [], ◌∷◌, ◌++◌, OnErr, OnOk, pos};
 ghost use Rattle.evloop.specs.Coming.{coming, KeepsOthers, TakesNext};
 
 use event_manager::{Events, Request};
@@ -34,6 +34,7 @@ impl Reactions {
         requests: Vec<Request>,
     ) -> Result<(), AllocError>
         ensures ok { OnOk result (coming self.new.queues fd ≡ coming self.old.queues fd ++ requests.items ∷ []) }
+        ensures refused { OnErr result (coming self.new.queues fd ≡ coming self.old.queues fd) }
         ensures others { KeepsOthers self.old.queues fd self.new.queues }
     {
         let queue = self
