@@ -2,7 +2,7 @@
 
 ghost use Rattle.std.specs.Prelude.{◌≡◌};
 
-use crate::expecting::{expect_noted, expect_same, new_notes};
+use crate::expecting::{expect_noted, expect_same, fire_note, new_notes};
 use crate::making::{Idle, OnTable, make, on_table};
 use crate::threads::{Host, wait_until_pending};
 use crate::work::{Notes, Work};
@@ -11,13 +11,14 @@ use event_manager::{
 };
 use std::marker::Brand;
 use std::process::Abort;
-use std::sync::Wait;
 use std::sync::ledger::{Blank, Ledger};
+use std::sync::{Arc, Wait};
 use std::test::Fail;
 use std::thread;
 use std::time::Clock;
-use vmm_sys::epoll::Epoll;
+use vmm_sys::epoll::{AsRawFd, ControlOperation, Epoll, EpollEvent, EventSet};
 use vmm_sys::eventfd::EventFd;
+use vmm_sys::poller::Poller;
 
 type Loop<L, T, R> = EventManager<Idle, Work, L, T, PlainPoller<Epoll<R>>>;
 
@@ -138,5 +139,82 @@ fn a_kick_after_a_close_is_agreed_and_read_by_nobody(
         rt: &rt,
         parts,
         counter,
+    })
+}
+
+/// Closes a manager for which two jobs wait that hold the notes.
+#[derive(Drop)]
+struct CloseOnHolders<'a, R> {
+    rt: &'a R,
+    parts: OnTable<R>,
+    notes: &'a Notes,
+}
+
+impl<R: Wait + Clock + Abort + Copy + Send + Drop> WithLedgers for CloseOnHolders<'_, R> {
+    type Output = std::result::Result<(), Fail>;
+
+    fn run<L: Ledger + Send + Sync, T: Ledger + Send + Sync>(
+        self,
+        tickets: Blank,
+        taken: Blank,
+    ) -> std::result::Result<(), Fail> {
+        let CloseOnHolders { rt, parts, notes } = self;
+        let manager = make::<Idle, Work, L, T, _>(parts, tickets, taken)?;
+        let endpoint = manager.remote_endpoint()?;
+        fire_note(rt, &endpoint, notes, 1)?;
+        fire_note(rt, &endpoint, notes, 2)?;
+        expect_same(rt, &Arc::strong_count(notes), &3);
+        manager.close(rt);
+        expect_same(rt, &Arc::strong_count(notes), &1);
+        Ok(())
+    }
+}
+
+#[test]
+fn a_close_drops_the_jobs_that_wait(rt: HostRuntime) -> std::result::Result<(), Fail> {
+    let notes = new_notes(rt.alloc())?;
+    let parts = on_table(rt, rt.alloc(), 0)?;
+    with_ledgers(CloseOnHolders {
+        rt: &rt,
+        parts,
+        notes: &notes,
+    })
+}
+
+/// Closes a manager, and takes its endpoint out of the table.
+#[derive(Drop)]
+struct DeleteAfterClose<'a, R> {
+    rt: &'a R,
+    parts: OnTable<R>,
+    epoll: Epoll<R>,
+}
+
+impl<R: Wait + Clock + Abort + Copy + Send + Drop> WithLedgers for DeleteAfterClose<'_, R> {
+    type Output = std::result::Result<(), Fail>;
+
+    fn run<L: Ledger + Send + Sync, T: Ledger + Send + Sync>(
+        self,
+        tickets: Blank,
+        taken: Blank,
+    ) -> std::result::Result<(), Fail> {
+        let DeleteAfterClose { rt, parts, epoll } = self;
+        let mut epoll = epoll;
+        let fd = parts.event_fd.as_raw_fd();
+        let nothing = EpollEvent::new(EventSet::empty(), 0);
+        make::<Idle, Work, L, T, _>(parts, tickets, taken)?.close(rt);
+        let deleted = epoll.ctl(ControlOperation::Delete, fd, nothing);
+        expect_same(rt, &deleted, &Ok(()));
+        Ok(())
+    }
+}
+
+#[test]
+fn a_close_asks_the_poller_for_nothing(rt: HostRuntime) -> std::result::Result<(), Fail> {
+    let parts = on_table(rt, rt.alloc(), 0)?;
+    let epoll = parts.poller.0.try_clone()?;
+    with_ledgers(DeleteAfterClose {
+        rt: &rt,
+        parts,
+        epoll,
     })
 }

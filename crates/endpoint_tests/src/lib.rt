@@ -37,4 +37,6 @@ mod sends;
 #[cfg(test)]
 mod threads;
 #[cfg(test)]
+mod wake_ups;
+#[cfg(test)]
 mod work;

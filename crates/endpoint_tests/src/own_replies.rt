@@ -1,4 +1,4 @@
-//! Callers on threads of their own, and the one who answers or closes them.
+//! Callers on threads of their own, and the one who answers them.
 
 ghost use Rattle.std.specs.Prelude.{◌≡◌};
 
@@ -6,13 +6,13 @@ use crate::expecting::expect_same;
 use crate::making::{Idle, OnTable, make, on_table};
 use crate::threads::{Host, wait_until_pending};
 use crate::work::Work;
-use event_manager::{Error, EventManager, PlainPoller, RemoteEndpoint, Result};
+use event_manager::{EventManager, PlainPoller, RemoteEndpoint, Result};
 use std::marker::Brand;
 use std::sync::Wait;
 use std::sync::ledger::{Blank, Ledger};
 use std::test::Fail;
 use std::thread;
-use std::time::{Clock, Duration};
+use std::time::Clock;
 use vmm_sys::epoll::Epoll;
 
 type Loop<L, T, R> = EventManager<Idle, Work, L, T, PlainPoller<Epoll<R>>>;
@@ -108,54 +108,4 @@ fn two_callers_get_their_own_replies(rt: HostRuntime) -> std::result::Result<(),
     let tickets = Blank::new(9223372036854775808);
     let parts = on_table(rt, rt.alloc(), 0)?;
     callers::<Brand, Brand, HostRuntime>(&rt, parts, tickets, Blank::new(1))
-}
-
-/// Closes when a job waits.
-fn close_on_one<L: Ledger, T: Ledger, R: Wait + Clock + Clone + Send + Drop>(
-    rt: &R,
-    manager: Loop<L, T, R>,
-    endpoint: &Sender<L, T>,
-) -> (bool, u64, u64) {
-    let waited = wait_until_pending(rt, endpoint, 1);
-    let closed = manager.close(rt);
-    (waited, closed.issued(), closed.taken())
-}
-
-/// A caller, and who closes the manager.
-fn call_beside_close<L: Ledger + Send + Sync, T: Ledger + Send + Sync, R: Host>(
-    rt: &R,
-    manager: Loop<L, T, R>,
-    endpoint: &Sender<L, T>,
-) -> ((bool, u64, u64), Result<u64>) {
-    thread::join(
-        rt,
-        || close_on_one(rt, manager, endpoint),
-        || call_own(rt, endpoint, 5),
-    )
-}
-
-/// A caller by an endpoint of a manager of these parts, which is closed.
-fn closed_caller<L: Ledger + Send + Sync, T: Ledger + Send + Sync, R: Host>(
-    rt: &R,
-    parts: OnTable<R>,
-    tickets: Blank,
-    taken: Blank,
-) -> std::result::Result<(), Fail>
-    requires tickets_name { tickets.name ≡ L.name }
-    requires tickets_parts { (tickets.parts ≡ L.parts) × (tickets.parts ≡ 9223372036854775808) }
-    requires taken_name { taken.name ≡ T.name }
-    requires taken_parts { (taken.parts ≡ T.parts) × (taken.parts ≡ 1) }
-{
-    let manager = make::<Idle, Work, L, T, _>(parts, tickets, taken)?;
-    let endpoint = manager.remote_endpoint()?;
-    let seen = call_beside_close(rt, manager, &endpoint);
-    expect_same(rt, &seen, &((true, 1, 0), Err(Error::ChannelRecv)));
-    Ok(())
-}
-
-#[test]
-fn a_closed_caller_is_answered(rt: HostRuntime) -> std::result::Result<(), Fail> {
-    let tickets = Blank::new(9223372036854775808);
-    let parts = on_table(rt, rt.alloc(), 0)?;
-    closed_caller::<Brand, Brand, HostRuntime>(&rt, parts, tickets, Blank::new(1))
 }
