@@ -97,10 +97,6 @@ module _ {A : Type 0} (p : A → Bool) where
   without_first-over (x ∷ fs) rest m c e = without_first-over_by (p x) x fs rest m c refl e (λ k q. without_first-over fs rest k c q)
 
 module _ {A B : Type 0} (p : A → Bool) (f : A → B) {xs : List A} {ys : List B} where
-  -- before the first element
-  pub Picked-start : (next : Option A) → next ≡ slice_get xs 0 → Picked p f xs ys xs ys 0 next
-  Picked-start next e = record { looked = []; rest = xs; whole = refl; list = sym (append-nil xs); buffer = refl; count_is = refl; next_is = e }
-
   module _ {zs : List A} {ws : List B} {n : ℕ} {next : Option A} (h : Picked p f xs ys zs ws n next) where
     abbrev pub passed : List A
     passed = filter (fails p) h.looked

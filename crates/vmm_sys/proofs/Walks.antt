@@ -4,7 +4,7 @@ use Rattle.std.specs.Prelude.{slice_get, find}
 use Rattle.std.proofs.lemmas.List.{length-append}
 use Rattle.vmm_sys.specs.declared.table.Interest.{Interest}
 use Rattle.vmm_sys.specs.Interests.{IsOfLast, GoesOver}
-use Rattle.vmm_sys.proofs.Picks.{Picked, Found, head_by, none_by, passed, moved, here, front, found_here}
+use Rattle.vmm_sys.proofs.Picks.{Picked, Found, found, head_by, none_by, passed, moved, here, front, found_here}
 
 -- the last of a list is that of its end
 pub IsOfLast-right : {last : Option ℕ} (ms ns : List Interest) → IsOfLast last (ms ++ ns) → IsOfLast last ns
@@ -81,7 +81,11 @@ module _ {B : Type 0} (p : Interest → Bool) (f : Interest → B) {xs : List In
   pub found_in_rest : (x : Interest) (o : Option Interest) → next ≡ Some x → ((ahead : List Interest) → GoesOver zs last x ahead → o ≡ find p (x ∷ ahead)) → find p h.rest ≡ o
   found_in_rest x o e is = let r = goes_from x e in ap (find p) r.1 ∙ sym (is r.0 r.2)
 
-  -- and from one that was found over those behind it
+  -- so the one that is found is the first of the rest that passes
+  pub found_next : (x y : Interest) (o : Option Interest) → next ≡ Some x → ((ahead : List Interest) → GoesOver zs last x ahead → o ≡ find p (x ∷ ahead)) → o ≡ Some y → Found p h.rest y
+  found_next x y o e is s = found p h.rest y (found_in_rest x o e is ∙ s)
+
+  -- and from it the walk goes over those behind it
   pub goes_behind : (y : Interest) (r : Found p h.rest y) → GoesOver zs last y r.behind
   goes_behind y r =
       let whole : xs ≡ (h.looked ++ r.before) ++ y ∷ r.behind = h.whole ∙ ap (λ l. h.looked ++ l) r.whole ∙ sym (append_assoc h.looked r.before (y ∷ r.behind)) in

@@ -1,8 +1,8 @@
 use Rattle.std.proofs.Common.{arith, ◌≡◌, length, set, ap, ◌∙◌, sym}
 use Rattle.std.specs.Prelude.{find}
 use Rattle.vmm_sys.specs.Table.{is_ready, entry_of}
-use Rattle.vmm_sys.proofs.Picks.{Picked-more, found, none_by, front, behind, found_here, done_by_room, done_by_none}
-use Rattle.vmm_sys.proofs.Walks.{goes_over, goes_behind, found_in_rest}
+use Rattle.vmm_sys.proofs.Picks.{Picked-more, none_by, front, behind, found_here, done_by_room, done_by_none}
+use Rattle.vmm_sys.proofs.Walks.{goes_over, goes_behind, found_in_rest, found_next}
 use Rattle.vmm_sys.proofs.table.report.Goals as goal
 
 pub ready_from-requires : goal.ready_from-requires
@@ -15,7 +15,7 @@ following-next-requires c =
     let h = c.loop-count.invariant.1 in
     let end = c.last-last.ensures in
     let y = c.in-Some-ready_from.interest in
-    let r = found p h.rest y (found_in_rest p f h end c.in-Some.from c.ready_from.result c.in-Some.is c.ready_from.ensures ∙ c.in-Some-ready_from.is) in
+    let r = found_next p f h end c.in-Some.from y c.ready_from.result c.in-Some.is c.ready_from.ensures c.in-Some-ready_from.is in
     (r.behind, goes_behind p f h end y r)
 
 pub move_to_back-requires : goal.move_to_back-requires
@@ -24,7 +24,7 @@ move_to_back-requires c =
     let f = entry_of c.args.sources.now in
     let h = c.loop-count.invariant.1 in
     let y = c.in-Some-ready_from.interest in
-    let r = found p h.rest y (found_in_rest p f h c.last-last.ensures c.in-Some.from c.ready_from.result c.in-Some.is c.ready_from.ensures ∙ c.in-Some-ready_from.is) in
+    let r = found_next p f h c.last-last.ensures c.in-Some.from y c.ready_from.result c.in-Some.is c.ready_from.ensures c.in-Some-ready_from.is in
     (front p f h y r, behind p f h y r, found_here p f h y r)
 
 pub loop-count-preserved : goal.loop-count-preserved
@@ -34,7 +34,7 @@ loop-count-preserved c =
     let h = c.loop-count.invariant.1 in
     let end = c.last-last.ensures in
     let y = c.in-Some-ready_from.interest in
-    let r = found p h.rest y (found_in_rest p f h end c.in-Some.from c.ready_from.result c.in-Some.is c.ready_from.ensures ∙ c.in-Some-ready_from.is) in
+    let r = found_next p f h end c.in-Some.from y c.ready_from.result c.in-Some.is c.ready_from.ensures c.in-Some-ready_from.is in
     let next = c.following-next.ensures r.behind (goes_behind p f h end y r) in
     let moved = c.move_to_back.ensures.list (front p f h y r) (behind p f h y r) (found_here p f h y r) in
     (c.move_to_back.ensures.room ∙ c.loop-count.invariant.0, Picked-more p f h y r _ _ c.following-next.result c.loop-count-test.true moved (ap (set c.loop-count.buffer c.loop-count.count) c.entry_of.ensures) next)
