@@ -145,8 +145,8 @@ impl<R: Wait + Clock + Clone + Send + Drop> Epoll<R> {
         Ok(Epoll { table, rt })
     }
 
-    /// A poller over the same table. `ENOMEM`: one more owner of the table, or a copy of the
-    /// handle, was refused.
+    /// A poller over the same table: each of them reports what is ready there, also what was added by the other. `ENOMEM`:
+    /// one more owner of the table, or a copy of the handle, was refused.
     pub fn try_clone(&self) -> Result<Epoll<R>, Errno>
         ensures { IsOkUnless result Errno.ENOMEM }
     {

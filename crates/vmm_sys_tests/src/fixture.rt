@@ -10,14 +10,15 @@ use vmm_sys::poller::Poller;
 
 pub(crate) const HIGHEST: u64 = 18446744073709551614;
 
-/// A call after which something is ready on a [`Fixture`].
+/// A call after which a [`Fixture`] has one descriptor ready; with what of it is then ready, where there is a choice.
 #[derive(Clone, Copy)]
 pub(crate) enum Change {
-    Add,
-    Modify,
+    Add(EventSet),
+    /// To `IN` or to `OUT`.
+    Modify(EventSet),
     Write,
     Read,
-    Set,
+    Set(EventSet),
 }
 
 /// A table in which nothing is ready: an empty counter and a line are wanted for `IN`, a full
@@ -52,17 +53,21 @@ impl<R: Host> Fixture<R> {
 
     /// Makes the call; the answer is the one entry that a wait then reports.
     pub(crate) fn make(&mut self, change: Change, rt: &R) -> Result<EpollEvent, Errno> {
-        let input = EpollEvent::new(EventSet::IN, 7);
         match change {
-            Change::Add => {
-                let fd = self.unwanted.as_raw_fd();
-                self.epoll.ctl(ControlOperation::Add, fd, input)?;
-                Ok(input)
+            Change::Add(set) => {
+                let (fd, event) = (self.unwanted.as_raw_fd(), EpollEvent::new(set, 7));
+                self.epoll.ctl(ControlOperation::Add, fd, event)?;
+                Ok(event)
             }
-            Change::Modify => {
-                let fd = self.full.as_raw_fd();
-                self.epoll.ctl(ControlOperation::Modify, fd, input)?;
-                Ok(input)
+            Change::Modify(set) => {
+                let counter = if set == EventSet::IN {
+                    &self.full
+                } else {
+                    &self.empty
+                };
+                let (fd, event) = (counter.as_raw_fd(), EpollEvent::new(set, 7));
+                self.epoll.ctl(ControlOperation::Modify, fd, event)?;
+                Ok(event)
             }
             Change::Write => {
                 self.empty.write(1, rt)?;
@@ -72,11 +77,17 @@ impl<R: Host> Fixture<R> {
                 self.full.read(rt)?;
                 Ok(entry(&self.full, EventSet::OUT))
             }
-            Change::Set => {
-                self.line.set(EventSet::IN, rt)?;
-                Ok(entry(&self.line, EventSet::IN))
+            Change::Set(set) => {
+                self.line.set(set, rt)?;
+                Ok(entry(&self.line, set))
             }
         }
+    }
+
+    /// Changes the line twice, of which nothing is ready.
+    pub(crate) fn change_in_vain(&self, rt: &R) -> Result<(), Errno> {
+        self.line.set(EventSet::OUT, rt)?;
+        self.line.set(EventSet::empty(), rt)
     }
 
     /// Makes calls of each kind that may be refused, and answers what they did.

@@ -31,22 +31,43 @@ fn ready_counters(alloc: Global, number: u64) -> Result<Table, Errno> {
 }
 
 #[test]
-fn changes_of_interests(rt: HostRuntime) -> Result<(), Fail> {
-    let mut table = ready_counters(rt.alloc(), 1)?;
-    table.add_line()?;
+fn calls_on_a_counter_and_a_line_in_turn(rt: HostRuntime) -> Result<(), Fail> {
+    let mut table = Table::new(rt.alloc());
+    assert_eq!(rt; (table.add_counter(0), table.add_line()), (Ok(0), Ok(1)));
+    let once = EventSet::ONE_SHOT;
     let input = wanting(EventSet::IN, 5);
+    assert_eq!(rt; table.ctl(ADD, 7, wanting(once, 5)), Err(Errno::EBADF));
+    let input_once = wanting(EventSet::IN | once, 5);
+    assert_eq!(rt; table.ctl(ADD, 0, input_once), Err(Errno::EINVAL));
+    assert_eq!(rt; table.ctl(MODIFY, 0, input), Err(Errno::ENOENT));
+    assert_eq!(rt; table.ctl(ADD, 0, input), Ok(()));
+    assert_eq!(rt; table.ctl(ADD, 0, input), Err(Errno::EEXIST));
+    assert_eq!(rt; table.write(1, u64::MAX), Err(Errno::EBADF));
+    assert_eq!(rt; table.read(0), Err(Errno::EAGAIN));
+    assert_eq!(rt; table.write(0, 0), Ok(()));
+    let mut buffer = [no_event(); 2];
+    assert_eq!(rt; table.wait(&mut buffer), Ok(0));
+    assert_eq!(rt; table.set_line(1, EventSet::READ_HANG_UP), Ok(()));
+    assert_eq!(rt; table.ctl(ADD, 1, input), Ok(()));
+    assert_eq!(rt; table.wait(&mut buffer), Ok(0));
+    let hung_up = EventSet::HANG_UP | EventSet::ERROR;
+    assert_eq!(rt; table.set_line(1, hung_up), Ok(()));
+    assert_eq!(rt; table.ctl(MODIFY, 1, wanting(EventSet::empty(), 6)), Ok(()));
+    assert_eq!(rt; table.wait(&mut buffer), Ok(1));
+    assert_eq!(rt; buffer, [wanting(hung_up, 6), no_event()]);
+    assert_eq!(rt; table.wait(&mut []), Err(Errno::EINVAL));
+    Ok(())
+}
+
+#[test]
+fn more_changes_of_interests(rt: HostRuntime) -> Result<(), Fail> {
+    let mut table = ready_counters(rt.alloc(), 1)?;
     let once = wanting(EventSet::from_bits_retain(0x4000_0001), 5);
     let rows = [
-        (ADD, 7, once, Err(Errno::EBADF)),
         (ADD, -1, once, Err(Errno::EBADF)),
-        (ADD, 0, once, Err(Errno::EINVAL)),
-        (MODIFY, 1, once, Err(Errno::EINVAL)),
-        (MODIFY, 1, input, Err(Errno::ENOENT)),
-        (ADD, 1, input, Ok(())),
-        (ADD, 1, input, Err(Errno::EEXIST)),
-        (MODIFY, 1, input, Ok(())),
-        (DELETE, 1, once, Ok(())),
-        (DELETE, 1, once, Err(Errno::ENOENT)),
+        (MODIFY, 0, once, Err(Errno::EINVAL)),
+        (DELETE, 0, once, Ok(())),
+        (DELETE, 0, once, Err(Errno::ENOENT)),
     ];
     for (op, fd, event, answer) in rows {
         assert_eq!(rt; table.ctl(op, fd, event), answer);
@@ -93,7 +114,6 @@ fn reports_of_a_line(rt: HostRuntime) -> Result<(), Fail> {
         assert_eq!(rt; table.wait(&mut buffer), Ok(count));
         assert_eq!(rt; buffer, [wanting(EventSet::from_bits_retain(reported), 9)]);
     }
-    assert_eq!(rt; table.wait(&mut []), Err(Errno::EINVAL));
     Ok(())
 }
 

@@ -1,6 +1,7 @@
 //! What a wait's limit means.
 
 use crate::fixture::{Change, Fixture};
+use crate::host::pause;
 use crate::waiter::{Waiter, no_event};
 use std::test::Fail;
 use std::time::Duration;
@@ -33,5 +34,36 @@ fn a_wait_does_not_sleep_where_something_is_ready(rt: HostRuntime) -> Result<(),
         assert_eq!(rt; report.answer, Ok(1));
         assert_eq!(rt; report.buffer, [event, no_event()]);
     }
+    Ok(())
+}
+
+#[test]
+fn changes_do_not_put_a_limit_off(rt: HostRuntime) -> Result<(), Fail> {
+    let fixture = Fixture::new(rt, rt.alloc())?;
+    let waiter = Waiter::start(rt, rt.alloc(), &fixture.epoll, 200)?;
+    // Five seconds, in which the changes never stop for as long as the limit.
+    for _ in 0..1000 {
+        if waiter.is_over() {
+            break;
+        }
+        fixture.change_in_vain(&rt)?;
+        pause(&rt, 5);
+    }
+    assert!(rt; waiter.is_over());
+    assert_eq!(rt; waiter.report(&rt).answer, Ok(0));
+    Ok(())
+}
+
+#[test]
+fn limits_of_hours_are_not_cut(rt: HostRuntime) -> Result<(), Fail> {
+    let mut fixture = Fixture::new(rt, rt.alloc())?;
+    let hour = Waiter::start(rt, rt.alloc(), &fixture.epoll, 3_600_000)?;
+    let longest = Waiter::start(rt, rt.alloc(), &fixture.epoll, i32::MAX)?;
+    pause(&rt, 300);
+    assert!(rt; !hour.is_over());
+    assert!(rt; !longest.is_over());
+    fixture.make(Change::Write, &rt)?;
+    assert_eq!(rt; hour.report(&rt).answer, Ok(1));
+    assert_eq!(rt; longest.report(&rt).answer, Ok(1));
     Ok(())
 }

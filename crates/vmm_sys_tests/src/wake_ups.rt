@@ -24,12 +24,14 @@ const ROUNDS: u64 = 10_000;
 
 #[test]
 fn an_add_ends_waits(rt: HostRuntime) -> Result<(), Fail> {
-    expect_to_end_waits(rt, rt.alloc(), Change::Add)
+    expect_to_end_waits(rt, rt.alloc(), Change::Add(EventSet::IN))?;
+    expect_to_end_waits(rt, rt.alloc(), Change::Add(EventSet::OUT))
 }
 
 #[test]
 fn a_modify_ends_waits(rt: HostRuntime) -> Result<(), Fail> {
-    expect_to_end_waits(rt, rt.alloc(), Change::Modify)
+    expect_to_end_waits(rt, rt.alloc(), Change::Modify(EventSet::IN))?;
+    expect_to_end_waits(rt, rt.alloc(), Change::Modify(EventSet::OUT))
 }
 
 #[test]
@@ -44,35 +46,24 @@ fn a_read_ends_waits(rt: HostRuntime) -> Result<(), Fail> {
 
 #[test]
 fn a_set_ends_waits(rt: HostRuntime) -> Result<(), Fail> {
-    expect_to_end_waits(rt, rt.alloc(), Change::Set)
+    expect_to_end_waits(rt, rt.alloc(), Change::Set(EventSet::IN))?;
+    expect_to_end_waits(rt, rt.alloc(), Change::Set(EventSet::HANG_UP))
 }
 
-// The change ends a wait without a limit and one with a long limit, which answer what is ready.
+// The change ends three waits, without a limit and with a long one, which answer what is ready.
 fn expect_to_end_waits<R: Host>(rt: R, alloc: Global, change: Change) -> Result<(), Fail> {
-    for ms in [-1, LONG] {
-        let mut fixture = Fixture::new(rt, alloc)?;
-        let waiter = Waiter::start(rt, alloc, &fixture.epoll, ms)?;
-        pause(&rt, TO_SLEEP);
-        assert!(rt; !waiter.is_over());
-        let event = fixture.make(change, &rt)?;
+    let mut fixture = Fixture::new(rt, alloc)?;
+    let mut waiters = Vec::new(alloc);
+    for ms in [-1, LONG, -1] {
+        waiters.push(Waiter::start(rt, alloc, &fixture.epoll, ms)?)?;
+    }
+    pause(&rt, TO_SLEEP);
+    assert!(rt; !waiters.iter().any(|waiter| waiter.is_over()));
+    let event = fixture.make(change, &rt)?;
+    for waiter in waiters {
         let report = waiter.report(&rt);
         assert_eq!(rt; report.answer, Ok(1));
         assert_eq!(rt; report.buffer, [event, no_event()]);
-    }
-    Ok(())
-}
-
-#[test]
-fn one_write_ends_each_wait(rt: HostRuntime) -> Result<(), Fail> {
-    let mut fixture = Fixture::new(rt, rt.alloc())?;
-    let mut waiters = Vec::new(rt.alloc());
-    for ms in [-1, LONG, -1] {
-        waiters.push(Waiter::start(rt, rt.alloc(), &fixture.epoll, ms)?)?;
-    }
-    pause(&rt, TO_SLEEP);
-    fixture.make(Change::Write, &rt)?;
-    for waiter in waiters {
-        assert_eq!(rt; waiter.report(&rt).answer, Ok(1));
     }
     Ok(())
 }
