@@ -2,7 +2,7 @@
 
 use crate::expecting::expect_same;
 use crate::making::Host;
-use crate::scripted::{Script, event_of, one_counter, served};
+use crate::scripted::{ADD, DELETE, Script, event_of, one_counter, served};
 use event_manager::Error;
 use event_manager::utilities::subscribers::CounterSubscriber;
 use std::alloc::Global;
@@ -55,14 +55,14 @@ fn expect_text<R: Abort>(
 fn an_in_event_alone_is_counted(rt: HostRuntime) -> Result<(), Fail> {
     let alone = Script {
         reports: &[&[event_of(EventSet::IN)]],
-        refused_deletes: &[],
+        refusals: &[],
     };
     let subscriber = served_one(rt, rt.alloc(), alone)?;
     expect_text(&rt, rt.alloc(), &subscriber, "(event_fd = 0, counter = 1)")?;
     expect_same(&rt, &subscriber.spurious(), &0);
     let with_out = Script {
         reports: &[&[event_of(EventSet::IN | EventSet::OUT)]],
-        refused_deletes: &[],
+        refusals: &[],
     };
     let subscriber = served(rt, rt.alloc(), subscriber, with_out)?;
     expect_same(&rt, &(subscriber.counter(), subscriber.spurious()), &(1, 1));
@@ -73,7 +73,7 @@ fn an_in_event_alone_is_counted(rt: HostRuntime) -> Result<(), Fail> {
 fn a_counter_whose_removal_is_refused_stays(rt: HostRuntime) -> Result<(), Fail> {
     let script = Script {
         reports: &[&[event_of(EventSet::HANG_UP)], &[event_of(EventSet::IN)]],
-        refused_deletes: &[(0, Errno(22))],
+        refusals: &[(DELETE, 0, Errno(22))],
     };
     let subscriber = served_one(rt, rt.alloc(), script)?;
     let fault = Some(Error::Epoll(Errno(22)));
@@ -85,7 +85,7 @@ fn a_counter_whose_removal_is_refused_stays(rt: HostRuntime) -> Result<(), Fail>
 fn a_counter_that_hung_up_has_no_more_events(rt: HostRuntime) -> Result<(), Fail> {
     let script = Script {
         reports: &[&[event_of(EventSet::HANG_UP)], &[event_of(EventSet::IN)]],
-        refused_deletes: &[],
+        refusals: &[],
     };
     let subscriber = served_one(rt, rt.alloc(), script)?;
     expect_state(&rt, &subscriber, true, None, 0);
@@ -97,9 +97,21 @@ fn a_counter_keeps_its_first_fault(rt: HostRuntime) -> Result<(), Fail> {
     let hang_up = event_of(EventSet::HANG_UP);
     let script = Script {
         reports: &[&[hang_up], &[hang_up]],
-        refused_deletes: &[(0, Errno(22)), (0, Errno(5))],
+        refusals: &[(DELETE, 0, Errno(22)), (DELETE, 0, Errno(5))],
     };
     let subscriber = served_one(rt, rt.alloc(), script)?;
     expect_same(&rt, &subscriber.fault(), &Some(Error::Epoll(Errno(22))));
+    Ok(())
+}
+
+#[test]
+fn a_counter_whose_addition_is_refused_joins_with_the_fault(rt: HostRuntime) -> Result<(), Fail> {
+    let script = Script {
+        reports: &[&[event_of(EventSet::IN)]],
+        refusals: &[(ADD, 0, Errno(12))],
+    };
+    let subscriber = served_one(rt, rt.alloc(), script)?;
+    let fault = Some(Error::Epoll(Errno(12)));
+    expect_state(&rt, &subscriber, false, fault, 0);
     Ok(())
 }

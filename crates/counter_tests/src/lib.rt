@@ -27,3 +27,5 @@ mod table;
 mod threads;
 #[cfg(test)]
 mod three_counters;
+#[cfg(test)]
+mod triggers;

@@ -17,11 +17,15 @@ use vmm_sys::errno::Errno;
 use vmm_sys::eventfd::EventFd;
 use vmm_sys::script_poller::ScriptPoller;
 
-/// What a poller reports, a run each, and which Deletes it refuses, once each.
+pub const ADD: ControlOperation = ControlOperation::Add;
+
+pub const DELETE: ControlOperation = ControlOperation::Delete;
+
+/// What a poller reports, a run each, and what it refuses, once each.
 #[derive(Clone, Copy)]
 pub struct Script<'a> {
     pub reports: &'a [&'a [Events]],
-    pub refused_deletes: &'a [(RawFd, Errno)],
+    pub refusals: &'a [(ControlOperation, RawFd, Errno)],
 }
 
 /// Counters with the descriptors 0, 1 and 2.
@@ -59,8 +63,8 @@ fn entries_of(alloc: Global, report: &[Events]) -> std::result::Result<Vec<Epoll
 
 fn poller_of(alloc: Global, script: Script<'_>) -> std::result::Result<ScriptPoller, Fail> {
     let mut poller = ScriptPoller::new(alloc);
-    for &(fd, errno) in script.refused_deletes {
-        poller.push_refusal(ControlOperation::Delete, fd, errno)?;
+    for &(op, fd, errno) in script.refusals {
+        poller.push_refusal(op, fd, errno)?;
     }
     for report in script.reports {
         poller.push_report(entries_of(alloc, report)?)?;

@@ -2,7 +2,7 @@
 
 use crate::expecting::expect_same;
 use crate::making::Host;
-use crate::scripted::{Script, event_of, one_counter, served};
+use crate::scripted::{ADD, DELETE, Script, event_of, one_counter, served};
 use event_manager::Error;
 use event_manager::utilities::subscribers::CounterInnerMutSubscriber;
 use std::alloc::Global;
@@ -22,7 +22,7 @@ fn served_shared<R: Host>(
     served(rt, alloc, Arc::new(alloc, subscriber)?, script)
 }
 
-/// Expects how many events, errors and events of other sets the subscriber counted.
+/// Expects how many events, errors and spurious events the subscriber counted.
 fn expect_counts<R: Abort>(
     rt: &R,
     subscriber: &CounterInnerMutSubscriber,
@@ -66,10 +66,10 @@ fn a_shared_counter_tells_events_by_their_sets(rt: HostRuntime) -> Result<(), Fa
                 event_of(EventSet::empty()),
             ],
         ],
-        refused_deletes: &[],
+        refusals: &[],
     };
     let subscriber = served_shared(rt, rt.alloc(), script)?;
-    expect_counts(&rt, &subscriber, (2, 3, 4));
+    expect_counts(&rt, &subscriber, (2, 3, 0));
     expect_state(&rt, &subscriber, false, None);
     Ok(())
 }
@@ -78,7 +78,7 @@ fn a_shared_counter_tells_events_by_their_sets(rt: HostRuntime) -> Result<(), Fa
 fn a_shared_counter_whose_removal_is_refused_stays(rt: HostRuntime) -> Result<(), Fail> {
     let script = Script {
         reports: &[&[event_of(EventSet::HANG_UP)], &[event_of(EventSet::IN)]],
-        refused_deletes: &[(0, Errno(22))],
+        refusals: &[(DELETE, 0, Errno(22))],
     };
     let subscriber = served_shared(rt, rt.alloc(), script)?;
     let fault = Some(Error::Epoll(Errno(22)));
@@ -92,9 +92,24 @@ fn a_shared_counter_keeps_its_first_fault(rt: HostRuntime) -> Result<(), Fail> {
     let hang_up = event_of(EventSet::HANG_UP);
     let script = Script {
         reports: &[&[hang_up], &[hang_up]],
-        refused_deletes: &[(0, Errno(22)), (0, Errno(5))],
+        refusals: &[(DELETE, 0, Errno(22)), (DELETE, 0, Errno(5))],
     };
     let subscriber = served_shared(rt, rt.alloc(), script)?;
     expect_same(&rt, &subscriber.fault(), &Some(Error::Epoll(Errno(22))));
+    Ok(())
+}
+
+#[test]
+fn a_shared_counter_whose_addition_is_refused_joins_with_the_fault(
+    rt: HostRuntime,
+) -> Result<(), Fail> {
+    let script = Script {
+        reports: &[&[event_of(EventSet::IN)]],
+        refusals: &[(ADD, 0, Errno(12))],
+    };
+    let subscriber = served_shared(rt, rt.alloc(), script)?;
+    let fault = Some(Error::Epoll(Errno(12)));
+    expect_state(&rt, &subscriber, false, fault);
+    expect_same(&rt, &subscriber.counter(), &0);
     Ok(())
 }

@@ -2,7 +2,7 @@
 
 use crate::expecting::expect_same;
 use crate::making::Host;
-use crate::scripted::{Script, event_of, input, served, three_counters};
+use crate::scripted::{DELETE, Script, event_of, input, served, three_counters};
 use event_manager::Error;
 use event_manager::utilities::subscribers::CounterSubscriberWithData;
 use std::alloc::Global;
@@ -53,7 +53,7 @@ fn expect_state<R: Abort>(
 fn data_of_no_counter_is_spurious(rt: HostRuntime) -> Result<(), Fail> {
     let script = Script {
         reports: &[&[input(0, 9), input(0, 13)]],
-        refused_deletes: &[],
+        refusals: &[],
     };
     let subscriber = served(rt, rt.alloc(), of_data(rt, rt.alloc(), 10)?, script)?;
     expect_values(&rt, &subscriber, [0, 0, 0]);
@@ -68,7 +68,7 @@ fn another_set_changes_no_counter(rt: HostRuntime) -> Result<(), Fail> {
             event_of(EventSet::OUT),
             event_of(EventSet::IN | EventSet::OUT),
         ]],
-        refused_deletes: &[],
+        refusals: &[],
     };
     let subscriber = served(rt, rt.alloc(), of_data(rt, rt.alloc(), 0)?, script)?;
     expect_values(&rt, &subscriber, [0, 0, 0]);
@@ -81,7 +81,7 @@ fn another_set_changes_no_counter(rt: HostRuntime) -> Result<(), Fail> {
 fn one_of_three_whose_removal_is_refused_stays(rt: HostRuntime) -> Result<(), Fail> {
     let script = Script {
         reports: &[&[event_of(EventSet::HANG_UP)], &[input(0, 10)]],
-        refused_deletes: &[(0, Errno(22))],
+        refusals: &[(DELETE, 0, Errno(22))],
     };
     let subscriber = served(rt, rt.alloc(), of_data(rt, rt.alloc(), 10)?, script)?;
     let fault = Some(Error::Epoll(Errno(22)));
@@ -97,7 +97,7 @@ fn requests_behind_a_refused_one_are_made(rt: HostRuntime) -> Result<(), Fail> {
     let inputs = [input(0, 10), input(1, 11), input(2, 12), input(0, 10)];
     let script = Script {
         reports: &[&inputs, &inputs],
-        refused_deletes: &[(0, Errno(22))],
+        refusals: &[(DELETE, 0, Errno(22))],
     };
     let mut subscriber = of_data(rt, rt.alloc(), 10)?;
     subscriber.set_toggle_registry(true);

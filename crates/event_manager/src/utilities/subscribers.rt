@@ -10,9 +10,10 @@
 //! | any other | one more spurious event | nothing | nothing |
 //!
 //! Errors and spurious events are counted up to `u64::MAX`, and so are events, but for those of a
-//! `CounterInnerMutSubscriber`, which wrap. The first refusal that a request was answered is kept, and nothing panics: of
-//! two that add one descriptor in `init` both join, and the second has its refusal. Later requests are still made. No
-//! kind reads its counter, so a counter that was triggered is reported until [`clear_event`](Counter::clear_event).
+//! `CounterInnerMutSubscriber`, which wrap; its number of spurious events is always 0. The first refusal that a request
+//! was answered is kept, and nothing panics: of two that add one descriptor in `init` both join, and the second has its
+//! refusal. Later requests are still made. No kind reads its counter, so a counter that was triggered is reported until
+//! [`clear_event`](Counter::clear_event).
 //!
 //! A counter of another table is a number like any other here: to register it watches the poller's own descriptor of that
 //! number. One that is dropped while it is registered is still reported, and its number never comes back.

@@ -22,7 +22,6 @@ pub struct CounterInnerMutSubscriber {
     event_fd: EventFd,
     counter: AtomicU64,
     errors: AtomicU64,
-    spurious: AtomicU64,
     hung_up: AtomicBool,
     fault: OnceLock<Error>,
 }
@@ -38,7 +37,6 @@ impl CounterInnerMutSubscriber {
             event_fd,
             counter: AtomicU64::new(0),
             errors: AtomicU64::new(0),
-            spurious: AtomicU64::new(0),
             hung_up: AtomicBool::new(false),
             fault: OnceLock::new(),
         }
@@ -64,9 +62,11 @@ impl CounterInnerMutSubscriber {
         self.errors.load(Ordering::SeqCst)
     }
 
-    /// How many events had a set that is neither `IN`, `ERROR` nor `HANG_UP`, up to `u64::MAX`.
-    pub fn spurious(&self) -> u64 {
-        self.spurious.load(Ordering::SeqCst)
+    /// Always 0: of an event whose set is neither `IN`, `ERROR` nor `HANG_UP` nothing is kept.
+    pub fn spurious(&self) -> u64
+        ensures { result ≡ 0 }
+    {
+        0
     }
 
     /// Whether an event had exactly the set `HANG_UP`.
@@ -108,7 +108,7 @@ impl EventSubscriber for CounterInnerMutSubscriber {
                 let answer = ops.remove(events);
                 self.keep_fault(answer);
             }
-            EventKind::Other => count_up(&self.spurious),
+            EventKind::Other => {}
         }
     }
 
