@@ -11,9 +11,9 @@ use vmm_sys::epoll::Epoll;
 use vmm_sys::eventfd::EventFd;
 
 /// What the program needs of the runtime.
-pub trait Host: Threads + Wait + Clock + Print + Copy + Send + Sync + Drop {}
+pub trait Host: Threads + Wait + Clock + Print + Copy + Send + Sync + Drop + 'static {}
 
-impl<R: Threads + Wait + Clock + Print + Copy + Send + Sync + Drop> Host for R {}
+impl<R: Threads + Wait + Clock + Print + Copy + Send + Sync + Drop + 'static> Host for R {}
 
 /// How many rounds each repeat has where the counts alone are wanted.
 const FEW: u32 = 3;

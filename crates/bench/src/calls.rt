@@ -1,4 +1,7 @@
 //! What a job costs that another thread sends to the loop's, and waits for.
+//!
+//! Both wait without a limit, so whoever misses a wake-up or a reply waits for ever. The program's first thread looks on:
+//! where no reply has come for ten seconds, it ends the program with 1 and a line that says so.
 
 ghost use Rattle.std.specs.Prelude.{◌≡◌};
 
@@ -6,13 +9,15 @@ use crate::arguments::Family;
 use crate::bench::{Bench, Host, Measured};
 use crate::fault::{Fault, expect};
 use crate::jobs::CountOne;
+use crate::progress::Progress;
 use crate::subscribers::{Counter, FIRST};
 use crate::timing::{REPEATS, Times};
 use event_manager::{EventManager, PlainPoller, RemoteEndpoint, SubscriberId, SubscriberOps};
+use std::alloc::Global;
 use std::marker::Brand;
-use std::sync::Wait;
 use std::sync::atomic::{AtomicBool, Ordering};
 use std::sync::ledger::{Blank, Ledger};
+use std::sync::{Arc, Wait};
 use std::thread;
 use std::time::Clock;
 use vmm_sys::epoll::Epoll;
@@ -27,11 +32,8 @@ const TICKET_PARTS: u64 = 9223372036854775808;
 /// How many jobs a repeat sends.
 const JOBS: u32 = 2000;
 
-/// How often the loop waits at most.
+/// How often the loop waits at most, each time without a limit, which would hide a lost wake-up.
 const MAX_WAITS: u32 = 1000000;
-
-/// For how many milliseconds the loop waits at most each time.
-const MAX_WAIT: i32 = 100;
 
 /// Runs the loop until the flag is set, or it has waited `MAX_WAITS` times.
 fn run_until<L: Ledger, T: Ledger, R: Wait + Clock + Clone + Send + Drop>(
@@ -40,7 +42,7 @@ fn run_until<L: Ledger, T: Ledger, R: Wait + Clock + Clone + Send + Drop>(
     rt: &R,
 ) -> Result<(), Fault> {
     for _ in 0..MAX_WAITS {
-        manager.run_with_timeout(MAX_WAIT, rt)?;
+        manager.run(rt)?;
         if stopped.load(Ordering::SeqCst) {
             break;
         }
@@ -53,10 +55,12 @@ fn call_often<L: Ledger, T: Ledger, R: Wait + Clock>(
     endpoint: &RemoteEndpoint<Counter, CountOne, L, T>,
     id: SubscriberId,
     rounds: u32,
+    progress: &Progress,
     rt: &R,
 ) -> Result<(), Fault> {
     for _ in 0..rounds {
         let _ = endpoint.call_blocking(CountOne(id), rt)??;
+        progress.count_reply();
     }
     Ok(())
 }
@@ -67,9 +71,10 @@ fn call_and_stop<L: Ledger, T: Ledger, R: Wait + Clock>(
     id: SubscriberId,
     rounds: u32,
     stopped: &AtomicBool,
+    progress: &Progress,
     rt: &R,
 ) -> Result<Times, Fault> {
-    let times = Times::of(|| call_often(endpoint, id, rounds, rt), rt);
+    let times = Times::of(|| call_often(endpoint, id, rounds, progress, rt), rt);
     stopped.store(true, Ordering::SeqCst);
     let _ = endpoint.kick(rt);
     times
@@ -81,13 +86,14 @@ fn call_beside<L: Ledger + Send + Sync, T: Ledger + Send + Sync, R: Host>(
     mut manager: Loop<L, T, R>,
     id: SubscriberId,
     rounds: u32,
+    progress: &Progress,
     rt: &R,
 ) -> Result<(Times, u64), Fault> {
     let endpoint = manager.remote_endpoint()?;
     let stopped = AtomicBool::new(false);
     let (called, (ran, closed)) = thread::join(
         rt,
-        || call_and_stop(&endpoint, id, rounds, &stopped, rt),
+        || call_and_stop(&endpoint, id, rounds, &stopped, progress, rt),
         || {
             let ran = run_until(&mut manager, &stopped, rt);
             (ran, manager.close(rt))
@@ -99,7 +105,10 @@ fn call_beside<L: Ledger + Send + Sync, T: Ledger + Send + Sync, R: Host>(
 
 /// Makes the loop, and measures a call over it.
 fn measure<L: Ledger + Send + Sync, T: Ledger + Send + Sync, R: Host>(
-    bench: &Bench<R>,
+    rt: R,
+    alloc: Global,
+    rounds: u32,
+    progress: &Progress,
     tickets: Blank,
     taken: Blank,
 ) -> Result<Measured, Fault>
@@ -108,13 +117,12 @@ fn measure<L: Ledger + Send + Sync, T: Ledger + Send + Sync, R: Host>(
     requires taken_name { taken.name ≡ T.name }
     requires taken_parts { (taken.parts ≡ T.parts) × (taken.parts ≡ 1) }
 {
-    let (alloc, rt, rounds) = (bench.alloc, &bench.rt, bench.rounds(JOBS));
-    let epoll = Epoll::new(*rt, alloc)?;
-    let event_fd = EventFd::new(&epoll, 0, rt)?;
+    let epoll = Epoll::new(rt, alloc)?;
+    let event_fd = EventFd::new(&epoll, 0, &rt)?;
     let poller = PlainPoller(epoll);
     let mut manager = Loop::<L, T, R>::new(alloc, poller, event_fd, tickets, taken)?;
     let id = manager.add_subscriber(Counter::new(FIRST as i32, 0))?;
-    let (times, jobs) = call_beside(manager, id, rounds, rt)?;
+    let (times, jobs) = call_beside(manager, id, rounds, progress, &rt)?;
     Ok(Measured {
         times,
         operations: rounds as u64,
@@ -122,12 +130,32 @@ fn measure<L: Ledger + Send + Sync, T: Ledger + Send + Sync, R: Host>(
     })
 }
 
-/// Measures a `call_blocking` from another thread than the loop's, where it is wanted.
+/// Measures a call, and notes the end of it.
+fn measure_to_end<R: Host>(
+    rt: R,
+    alloc: Global,
+    rounds: u32,
+    progress: &Progress,
+) -> Result<Measured, Fault> {
+    let (tickets, taken) = (Blank::new(TICKET_PARTS), Blank::new(1));
+    let measured = measure::<Brand, Brand, R>(rt, alloc, rounds, progress, tickets, taken);
+    progress.end(&rt);
+    measured
+}
+
+/// Measures a `call_blocking` from another thread than the loop's, where it is wanted. `NoReply`: one was lost, so the two
+/// threads are left alone, and end with the program.
 pub fn measure_calls<R: Host>(bench: &Bench<R>) -> Result<(), Fault> {
     if !bench.wanted.has_family(Family::Call) {
         return Ok(());
     }
-    let (tickets, taken) = (Blank::new(TICKET_PARTS), Blank::new(1));
-    let measured = measure::<Brand, Brand, R>(bench, tickets, taken)?;
-    bench.print("call_blocking between two threads", measured)
+    let (rt, alloc, rounds) = (bench.rt, bench.alloc, bench.rounds(JOBS));
+    let progress = Arc::new(alloc, Progress::new())?;
+    let theirs = Arc::try_clone(&progress)?;
+    let measuring = thread::spawn(&rt, move || measure_to_end(rt, alloc, rounds, &theirs));
+    let Ok(measuring) = measuring else {
+        return Err(Fault::Thread);
+    };
+    progress.wait_for_end(&rt)?;
+    bench.print("call_blocking between two threads", measuring.join(&rt)?)
 }

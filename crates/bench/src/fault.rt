@@ -24,6 +24,17 @@ pub enum Fault {
     #[error("out of memory")]
     Memory,
 
+    /// A thread was refused.
+    #[error("no thread can be started")]
+    Thread,
+
+    /// A caller has waited for long: its job, its reply or a wake-up was lost.
+    #[error("no reply comes any more, after {replies} of them")]
+    NoReply {
+        /// How many had come.
+        replies: u64,
+    },
+
     /// The arguments or the clock could not be read, or a line could not be written.
     #[error("arguments, clock or output: {0}")]
     System(#[from] io::Error),

@@ -13,6 +13,7 @@ pub mod fire;
 pub mod fixed;
 pub mod jobs;
 pub mod over_fixed;
+pub mod progress;
 pub mod subscribers;
 pub mod table_calls;
 pub mod timing;

@@ -24,9 +24,20 @@ pub enum Fault {
     #[error("out of memory")]
     Memory,
 
+    /// A thread was refused.
+    #[error("no thread can be started")]
+    Thread,
+
     /// The arguments could not be read, or a line could not be written.
     #[error("arguments or output: {0}")]
     System(#[from] io::Error),
+
+    /// No thread has made a step for long: a job, a reply or a wake-up was lost.
+    #[error("no thread moves any more, and {waiting} of them wait for a reply")]
+    Stalled {
+        /// How many callers wait for the reply of their job.
+        waiting: u64,
+    },
 
     /// A job gave the reply of another one.
     #[error("the reply of another job")]

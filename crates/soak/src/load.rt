@@ -2,16 +2,17 @@
 
 ghost use Rattle.std.specs.Prelude.{◌≡◌};
 
-use crate::device::Device;
 use crate::fault::{Fault, expect};
+use crate::parts::{Pair, Parts};
+use crate::progress::Progress;
+use crate::senders::{Sender, call_all, fire_all, write_all};
 use crate::served::{Loop, Served, serve};
-use crate::work::{Reply, Work};
-use event_manager::{PlainPoller, RemoteEndpoint, SubscriberId, SubscriberOps};
+use event_manager::{PlainPoller, SubscriberOps};
 use std::alloc::Global;
 use std::marker::Brand;
-use std::sync::Wait;
 use std::sync::atomic::{AtomicBool, Ordering};
 use std::sync::ledger::{Blank, Ledger};
+use std::sync::{Arc, Wait};
 use std::thread;
 use std::thread::Threads;
 use std::time::Clock;
@@ -19,11 +20,9 @@ use vmm_sys::epoll::Epoll;
 use vmm_sys::eventfd::EventFd;
 
 /// What the program needs of the runtime.
-pub trait Host: Threads + Wait + Clock + Print + Copy + Send + Sync + Drop {}
+pub trait Host: Threads + Wait + Clock + Print + Copy + Send + Sync + Drop + 'static {}
 
-impl<R: Threads + Wait + Clock + Print + Copy + Send + Sync + Drop> Host for R {}
-
-type Sender<L, T, R> = RemoteEndpoint<Device<R>, Work<R>, L, T>;
+impl<R: Threads + Wait + Clock + Print + Copy + Send + Sync + Drop + 'static> Host for R {}
 
 /// How many parts the ledger of a manager's tickets has.
 const TICKET_PARTS: u64 = 9223372036854775808;
@@ -31,7 +30,8 @@ const TICKET_PARTS: u64 = 9223372036854775808;
 /// How many devices there are.
 const DEVICES: u32 = 4;
 
-/// How many jobs of a round are waited for: a guest joins, and leaves, and a job counts itself.
+/// How many jobs of a round are waited for, each behind one that isn't: a guest joins, and leaves, and a job counts
+/// itself.
 const CALLS: u64 = 3;
 
 /// What was counted, all of it as it must be.
@@ -51,125 +51,18 @@ pub struct Loaded {
     pub guests: u64,
 }
 
-// Two counters of the table.
-#[derive(Drop)]
-struct Pair {
-    first: EventFd,
-    second: EventFd,
-}
-
-impl Pair {
-    fn new<R: Wait + Clock + Clone + Send + Drop>(epoll: &Epoll<R>, rt: &R) -> Result<Pair, Fault> {
-        Ok(Pair {
-            first: EventFd::new(epoll, 0, rt)?,
-            second: EventFd::new(epoll, 0, rt)?,
-        })
-    }
-
-    fn device<R: Wait + Copy>(&self, rt: &R) -> Result<Device<R>, Fault> {
-        Ok(Device::new(self.first.try_clone()?, self.second.try_clone()?, *rt))
-    }
-
-    // Writes 1 to each.
-    fn write<R: Wait>(&self, rt: &R) -> Result<(), Fault> {
-        self.first.write(1, rt)?;
-        self.second.write(1, rt)?;
-        Ok(())
-    }
-
-    // Takes what nobody has read.
-    fn rest<R: Wait>(&self, rt: &R) -> u64 {
-        let first = self.first.read(rt).unwrap_or(0);
-        let second = self.second.read(rt).unwrap_or(0);
-        first.saturating_add(second)
-    }
-}
-
-/// What the loop is loaded with.
-#[derive(Drop)]
-struct Parts {
-    /// The counters of the guest.
-    guest: Pair,
-    /// Those of each device.
-    pairs: Vec<Pair>,
-    /// The devices.
-    ids: Vec<SubscriberId>,
-}
-
-// Writes to each counter of each device, once a round.
-fn write_all<R: Wait>(pairs: &[Pair], rounds: u32, rt: &R) -> Result<(), Fault> {
-    for _ in 0..rounds {
-        for pair in pairs {
-            pair.write(rt)?;
-        }
-    }
-    Ok(())
-}
-
-// Sends a job to each device, once a round.
-fn fire_all<L: Ledger, T: Ledger, R: Wait + Clock + Drop>(
-    endpoint: &Sender<L, T, R>,
-    ids: &[SubscriberId],
-    rounds: u32,
-    rt: &R,
-) -> Result<(), Fault> {
-    for _ in 0..rounds {
-        for id in ids {
-            let _ticket = endpoint.fire(Work::Count(*id), rt)?;
-        }
-    }
-    Ok(())
-}
-
-// A guest joins, is written to, and leaves: it has read what it didn't leave unread.
-fn receive_guest<L: Ledger, T: Ledger, R: Wait + Clock + Copy + Drop>(
-    endpoint: &Sender<L, T, R>,
-    pair: &Pair,
-    rt: &R,
-) -> Result<(), Fault> {
-    let Reply::Joined(joined) = endpoint.call_blocking(Work::Join(pair.device(rt)?), rt)? else {
-        return Err(Fault::Reply);
-    };
-    pair.write(rt)?;
-    let Reply::Left(left) = endpoint.call_blocking(Work::Leave(joined?), rt)? else {
-        return Err(Fault::Reply);
-    };
-    let (read, refused) = left?;
-    expect("refused requests of a guest", refused, 0)?;
-    expect("read of a guest", read.saturating_add(pair.rest(rt)), 2)
-}
-
-// Receives a guest, and sends a job to the first device, once a round; each has its reply.
-fn call_all<L: Ledger, T: Ledger, R: Wait + Clock + Copy + Drop>(
-    endpoint: &Sender<L, T, R>,
-    parts: &Parts,
-    rounds: u32,
-    rt: &R,
-) -> Result<(), Fault> {
-    let Some(id) = parts.ids.first() else {
-        return Ok(());
-    };
-    for _ in 0..rounds {
-        receive_guest(endpoint, &parts.guest, rt)?;
-        let Reply::Counted(counted) = endpoint.call_blocking(Work::Count(*id), rt)? else {
-            return Err(Fault::Reply);
-        };
-        counted?;
-    }
-    Ok(())
-}
-
 // Sends jobs on one thread, and calls on another.
 fn send_and_call<L: Ledger + Send + Sync, T: Ledger + Send + Sync, R: Host>(
     endpoint: &Sender<L, T, R>,
     parts: &Parts,
     rounds: u32,
+    progress: &Progress,
     rt: &R,
 ) -> Result<(), Fault> {
     let (fired, called) = thread::join(
         rt,
-        || fire_all(endpoint, parts.ids.as_slice(), rounds, rt),
-        || call_all(endpoint, parts, rounds, rt),
+        || fire_all(endpoint, parts.ids.as_slice(), rounds, progress, rt),
+        || call_all(endpoint, parts, rounds, progress, rt),
     );
     fired?;
     called
@@ -181,12 +74,13 @@ fn load_beside<L: Ledger + Send + Sync, T: Ledger + Send + Sync, R: Host>(
     parts: &Parts,
     rounds: u32,
     stopped: &AtomicBool,
+    progress: &Progress,
     rt: &R,
 ) -> Result<(), Fault> {
     let (written, sent) = thread::join(
         rt,
-        || write_all(parts.pairs.as_slice(), rounds, rt),
-        || send_and_call(endpoint, parts, rounds, rt),
+        || write_all(parts.pairs.as_slice(), rounds, progress, rt),
+        || send_and_call(endpoint, parts, rounds, progress, rt),
     );
     stopped.store(true, Ordering::SeqCst);
     let _ = endpoint.kick(rt);
@@ -199,13 +93,14 @@ fn run_loaded<L: Ledger + Send + Sync, T: Ledger + Send + Sync, R: Host>(
     manager: Loop<L, T, R>,
     parts: &Parts,
     rounds: u32,
+    progress: &Progress,
     rt: &R,
 ) -> Result<Served, Fault> {
     let endpoint = manager.remote_endpoint()?;
     let stopped = AtomicBool::new(false);
     let (loaded, served) = thread::join(
         rt,
-        || load_beside(&endpoint, parts, rounds, &stopped, rt),
+        || load_beside(&endpoint, parts, rounds, &stopped, progress, rt),
         || serve(manager, parts.ids.as_slice(), &stopped, rt),
     );
     let served = served?;
@@ -215,9 +110,10 @@ fn run_loaded<L: Ledger + Send + Sync, T: Ledger + Send + Sync, R: Host>(
 
 // All that must come of so many rounds.
 fn judge(rounds: u32, served: Served) -> Result<Loaded, Fault> {
-    let fired = rounds as u64 * DEVICES as u64;
     let called = rounds as u64 * CALLS;
-    expect("read of the devices", served.read, 2 * fired)?;
+    let fired = rounds as u64 * (DEVICES as u64 + 1) + called;
+    let written = rounds as u64 * DEVICES as u64 * 2;
+    expect("read of the devices", served.read, written)?;
     expect("jobs that ran", served.counted, fired + rounds as u64)?;
     expect("jobs sent", served.issued, fired + called)?;
     expect("jobs taken", served.taken, fired + called)?;
@@ -236,6 +132,7 @@ fn load_manager<L: Ledger + Send + Sync, T: Ledger + Send + Sync, R: Host>(
     rt: R,
     alloc: Global,
     rounds: u32,
+    progress: &Progress,
     tickets: Blank,
     taken: Blank,
 ) -> Result<Loaded, Fault>
@@ -258,15 +155,34 @@ fn load_manager<L: Ledger + Send + Sync, T: Ledger + Send + Sync, R: Host>(
     for pair in &parts.pairs {
         parts.ids.push(manager.add_subscriber(pair.device(&rt)?)?)?;
     }
-    let served = run_loaded(manager, &parts, rounds, &rt)?;
+    let served = run_loaded(manager, &parts, rounds, progress, &rt)?;
     judge(rounds, served)
 }
 
-/// Loads an event manager for so many rounds.
+// Loads a manager, and notes the end of it.
+fn load_to_end<R: Host>(
+    rt: R,
+    alloc: Global,
+    rounds: u32,
+    progress: &Progress,
+) -> Result<Loaded, Fault> {
+    let (tickets, taken) = (Blank::new(TICKET_PARTS), Blank::new(1));
+    let loaded = load_manager::<Brand, Brand, R>(rt, alloc, rounds, progress, tickets, taken);
+    progress.end(&rt);
+    loaded
+}
+
+/// Loads an event manager for so many rounds, on other threads than this one, which looks on.
 ///
 /// `Descriptor`, `Manager`, `Memory`: a call was refused. `Count`, `Reply`: something was lost, came twice, or came to
-/// another.
+/// another. `Stalled`: something was lost, and the others wait for it; so they are left alone, and end with the program.
 pub fn load<R: Host>(rt: R, alloc: Global, rounds: u32) -> Result<Loaded, Fault> {
-    let (tickets, taken) = (Blank::new(TICKET_PARTS), Blank::new(1));
-    load_manager::<Brand, Brand, R>(rt, alloc, rounds, tickets, taken)
+    let progress = Arc::new(alloc, Progress::new())?;
+    let theirs = Arc::try_clone(&progress)?;
+    let loading = thread::spawn(&rt, move || load_to_end(rt, alloc, rounds, &theirs));
+    let Ok(loading) = loading else {
+        return Err(Fault::Thread);
+    };
+    progress.wait_for_end(&rt)?;
+    loading.join(&rt)
 }

@@ -13,10 +13,8 @@ use vmm_sys::epoll::Epoll;
 /// The event manager under load, over the in-process table.
 pub type Loop<L, T, R> = EventManager<Device<R>, Work<R>, L, T, PlainPoller<Epoll<R>>>;
 
-/// How often the loop waits at most while it is loaded, and for how many milliseconds at most each time.
+/// How often the loop waits at most while it is loaded, each time without a limit, which would hide a lost wake-up.
 const MAX_WAITS: u32 = 100_000_000;
-
-const MAX_WAIT: i32 = 100;
 
 /// How often it waits at most, for nothing, once its load has ended.
 const MAX_LAST_WAITS: u32 = 1000;
@@ -41,7 +39,7 @@ fn run_until<L: Ledger, T: Ledger, R: Wait + Clock + Clone + Send + Drop>(
     rt: &R,
 ) -> Result<(), Fault> {
     for _ in 0..MAX_WAITS {
-        manager.run_with_timeout(MAX_WAIT, rt)?;
+        manager.run(rt)?;
         if stopped.load(Ordering::SeqCst) {
             break;
         }

@@ -1,4 +1,4 @@
-use Rattle.bench.proofs.calls.measure_calls.Given as goal
+use Rattle.bench.proofs.calls.measure_to_end.Given as goal
 
 abbrev pub ghosts-measure-L-Ledger : goal.ghosts-measure-L-Ledger
 ghosts-measure-L-Ledger g a = record { name = a.tickets.name; parts = a.tickets.parts }

@@ -1,4 +1,4 @@
-use Rattle.soak.proofs.load.load.Given as goal
+use Rattle.soak.proofs.load.load_to_end.Given as goal
 
 abbrev pub ghosts-load_manager-L-Ledger : goal.ghosts-load_manager-L-Ledger
 ghosts-load_manager-L-Ledger g a = record { name = a.tickets.name; parts = a.tickets.parts }
