@@ -49,7 +49,7 @@ impl<R: Wait + Clock, S: MutEventSubscriber + Drop> WithLedgers for Driving<'_, 
             alloc, poller, event_fd, tickets, taken,
         )?;
         for calls in lists {
-            drive(alloc, &mut manager, calls, &mut replies, rt)?;
+            drive(&mut manager, calls, &mut replies, rt)?;
         }
         Ok(replies)
     }

@@ -4,7 +4,9 @@
 #[cfg(test)]
 mod bells;
 #[cfg(test)]
-mod calls;
+mod caller;
+#[cfg(test)]
+mod closed_callers;
 #[cfg(test)]
 mod closes;
 #[cfg(test)]
@@ -37,6 +39,12 @@ mod sends;
 #[cfg(test)]
 mod threads;
 #[cfg(test)]
+mod unlocked;
+#[cfg(test)]
+mod value_in_a_subscriber;
+#[cfg(test)]
 mod wake_ups;
+#[cfg(test)]
+mod watched;
 #[cfg(test)]
 mod work;

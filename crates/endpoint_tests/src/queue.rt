@@ -28,29 +28,29 @@ fn fire_counting<L: Ledger, T: Ledger, R: Wait + Clock + Abort>(
     Ok(())
 }
 
-/// Sends five hundred jobs, and runs twice.
-fn run_hundreds<L: Ledger, T: Ledger, P: EventPoller, R: Wait + Clock + Abort>(
+/// Sends five thousand jobs, and runs twice.
+fn run_thousands<L: Ledger, T: Ledger, P: EventPoller, R: Wait + Clock + Abort>(
     rt: &R,
     manager: &mut EventManager<Idle, Work, L, T, P>,
     endpoint: &Sender<L, T>,
     notes: &Notes,
 ) -> Result<(), Fail> {
-    fire_counting(rt, endpoint, notes, 500)?;
+    fire_counting(rt, endpoint, notes, 5000)?;
     expect_run(rt, manager, Ok(1));
-    expect_counted(rt, notes, 500);
+    expect_counted(rt, notes, 5000);
     expect_run_within(rt, manager, 0, Ok(0));
     Ok(())
 }
 
-/// Sends five hundred jobs, runs, and closes.
+/// Sends five thousand jobs, runs, and closes.
 #[derive(Drop)]
-struct Hundreds<'a, R> {
+struct Thousands<'a, R> {
     rt: &'a R,
     parts: OnTable<R>,
     notes: &'a Notes,
 }
 
-impl<R: Wait + Clock + Abort + Copy + Send + Drop> WithLedgers for Hundreds<'_, R> {
+impl<R: Wait + Clock + Abort + Copy + Send + Drop> WithLedgers for Thousands<'_, R> {
     type Output = Result<(), Fail>;
 
     fn run<L: Ledger + Send + Sync, T: Ledger + Send + Sync>(
@@ -58,20 +58,20 @@ impl<R: Wait + Clock + Abort + Copy + Send + Drop> WithLedgers for Hundreds<'_, 
         tickets: Blank,
         taken: Blank,
     ) -> Result<(), Fail> {
-        let Hundreds { rt, parts, notes } = self;
+        let Thousands { rt, parts, notes } = self;
         let mut manager = make::<Idle, Work, L, T, _>(parts, tickets, taken)?;
         let endpoint = manager.remote_endpoint()?;
-        run_hundreds(rt, &mut manager, &endpoint, notes)?;
-        expect_same(rt, &manager.close(rt).taken(), &500);
+        run_thousands(rt, &mut manager, &endpoint, notes)?;
+        expect_same(rt, &manager.close(rt).taken(), &5000);
         Ok(())
     }
 }
 
 #[test]
-fn hundreds_of_jobs_are_run(rt: HostRuntime) -> Result<(), Fail> {
+fn five_thousand_jobs_wait_and_are_run(rt: HostRuntime) -> Result<(), Fail> {
     let notes = new_notes(rt.alloc())?;
     let parts = on_table(rt, rt.alloc(), 0)?;
-    with_ledgers(Hundreds {
+    with_ledgers(Thousands {
         rt: &rt,
         parts,
         notes: &notes,

@@ -1,7 +1,9 @@
 //! When a report runs the jobs that wait.
 
-use crate::expecting::{expect_noted, expect_pending, expect_run, fire_note, new_notes};
-use crate::making::{Parts, WithEndpoint, on_table, with_endpoint};
+use crate::expecting::{
+    expect_noted, expect_pending, expect_run, expect_same, fire_note, new_notes,
+};
+use crate::making::{Idle, Parts, WithEndpoint, on_table, with_endpoint};
 use crate::noting::Noting;
 use crate::work::{Notes, Work};
 use event_manager::{
@@ -16,6 +18,7 @@ use std::test::Fail;
 use std::time::Clock;
 use vmm_sys::epoll::EpollEvent;
 use vmm_sys::errno::Errno;
+use vmm_sys::eventfd::EventFd;
 use vmm_sys::script_poller::ScriptPoller;
 
 /// What the subscriber notes.
@@ -150,4 +153,49 @@ fn a_run_that_fails_runs_no_job(rt: HostRuntime) -> std::result::Result<(), Fail
         expect_one_run(&rt, rt.alloc(), script, (answer, &[], 1))?;
     }
     Ok(())
+}
+
+/// Fires a job, lets somebody else read the endpoint's counter, and runs once over a script.
+#[derive(Drop)]
+struct RunBehindRead<'a, R> {
+    rt: &'a R,
+    counter: EventFd,
+    notes: &'a Notes,
+}
+
+impl<R: Wait + Clock + Abort> WithEndpoint for RunBehindRead<'_, R> {
+    type Subscriber = Idle;
+
+    type Job = Work;
+
+    fn run<L: Ledger, T: Ledger, P: EventPoller>(
+        self,
+        manager: &mut EventManager<Idle, Work, L, T, P>,
+        endpoint: &RemoteEndpoint<Idle, Work, L, T>,
+    ) -> std::result::Result<(), Fail> {
+        let RunBehindRead { rt, counter, notes } = self;
+        fire_note(rt, endpoint, notes, RAN)?;
+        expect_same(rt, &counter.read(rt), &Ok(1));
+        expect_run(rt, manager, Ok(1));
+        expect_noted(rt, notes, &[RAN]);
+        Ok(())
+    }
+}
+
+#[test]
+fn jobs_are_run_where_the_counter_has_nothing(rt: HostRuntime) -> std::result::Result<(), Fail> {
+    let notes = new_notes(rt.alloc())?;
+    let Parts { event_fd, .. } = on_table(rt, rt.alloc(), 0)?;
+    let counter = event_fd.try_clone()?;
+    let parts = Parts {
+        alloc: rt.alloc(),
+        poller: PlainPoller(script_of(rt.alloc(), &[(0, EventSet::IN)])?),
+        event_fd,
+    };
+    let body = RunBehindRead {
+        rt: &rt,
+        counter,
+        notes: &notes,
+    };
+    with_endpoint(parts, body)
 }

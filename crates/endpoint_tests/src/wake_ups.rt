@@ -2,19 +2,17 @@
 
 ghost use Rattle.std.specs.Prelude.{◌≡◌};
 
+use crate::caller::Caller;
 use crate::expecting::{expect_run_within, expect_same};
 use crate::making::{Idle, OnTable, make, on_table};
-use crate::threads::{Host, LIMIT, wait_until_pending};
+use crate::threads::{Host, wait_until_pending};
 use crate::work::Work;
 use event_manager::{Error, EventManager, PlainPoller, RemoteEndpoint, Result};
 use std::alloc::Global;
 use std::marker::Brand;
-use std::sync::Arc;
-use std::sync::atomic::{AtomicBool, Ordering};
 use std::sync::ledger::{Blank, Ledger};
 use std::test::Fail;
 use std::thread;
-use std::thread::JoinHandle;
 use std::time::Duration;
 use vmm_sys::epoll::Epoll;
 
@@ -24,47 +22,6 @@ type Sender<L, T> = RemoteEndpoint<Idle, Work, L, T>;
 
 /// How many milliseconds a caller is given to fall asleep.
 const TO_SLEEP: u64 = 100;
-
-/// A thread that calls once.
-#[derive(Drop)]
-struct Caller {
-    over: Arc<AtomicBool, Global>,
-    thread: JoinHandle<Result<u64>>,
-}
-
-impl Caller {
-    /// Calls by this endpoint for the reply 5.
-    fn start<L, T, R>(
-        rt: R,
-        alloc: Global,
-        endpoint: Sender<L, T>,
-    ) -> std::result::Result<Caller, Fail>
-    where
-        L: Ledger + Send + Sync + 'static,
-        T: Ledger + Send + Sync + 'static,
-        R: Host + 'static,
-    {
-        let over = Arc::new(alloc, AtomicBool::new(false))?;
-        let theirs = Arc::try_clone(&over)?;
-        let thread = thread::spawn(&rt, move || {
-            let reply = endpoint.call_blocking(Work::Own(5), &rt);
-            theirs.store(true, Ordering::SeqCst);
-            reply
-        })?;
-        Ok(Caller { over, thread })
-    }
-
-    /// The reply. Ends the test where it doesn't come.
-    fn reply<R: Host>(self, rt: &R) -> Result<u64> {
-        for _turn in 0..LIMIT {
-            if self.over.load(Ordering::SeqCst) {
-                return self.thread.join(rt);
-            }
-            thread::sleep(rt, Duration::from_millis(1));
-        }
-        panic!(rt; "the caller still waits");
-    }
-}
 
 /// What the manager does while a caller sleeps.
 #[derive(Clone, Copy)]
@@ -113,7 +70,7 @@ where
     let alloc = parts.alloc;
     let manager = make::<Idle, Work, L, T, _>(parts, tickets, taken)?;
     let endpoint = manager.remote_endpoint()?;
-    let caller = Caller::start(rt, alloc, manager.remote_endpoint()?)?;
+    let caller = Caller::start(rt, alloc, manager.remote_endpoint()?, Work::Own(5))?;
     make_step(&rt, manager, &endpoint, step);
     expect_same(&rt, &caller.reply(&rt), &reply);
     Ok(())

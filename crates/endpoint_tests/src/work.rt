@@ -3,12 +3,8 @@
 use crate::threads::LIMIT;
 use event_manager::{EventPoller, Job, MutEventSubscriber, Registry};
 use std::alloc::Global;
-use std::mem;
 use std::sync::{Arc, Condvar, Mutex, Wait};
 use std::time::{Clock, Duration};
-
-/// A number that threads share.
-pub type Number = Arc<Mutex<u64>>;
 
 /// What was noted, in order.
 pub type Notes = Arc<Mutex<Vec<u64>>>;
@@ -72,10 +68,6 @@ pub fn note<R: Wait>(notes: &Notes, number: u64, rt: &R) -> u64 {
 /// A job on what it shares with others; its reply is a number.
 #[derive(Drop)]
 pub enum Work {
-    /// Sets the number, and replies the old one.
-    Set(Number, u64),
-    /// Replies the number.
-    Read(Number),
     /// Replies this.
     Own(u64),
     /// Notes this, and replies it.
@@ -95,8 +87,6 @@ impl<S: MutEventSubscriber> Job<S> for Work {
 
     fn call<P: EventPoller, R: Wait + Clock>(self, _registry: &mut Registry<S, P>, rt: &R) -> u64 {
         match self {
-            Work::Set(number, value) => mem::replace(&mut *number.lock(rt), value),
-            Work::Read(number) => *number.lock(rt),
             Work::Own(number) => number,
             Work::Note(notes, number) => note(&notes, number, rt),
             Work::Pass(gate, notes) => note(&notes, gate.pass(rt), rt),

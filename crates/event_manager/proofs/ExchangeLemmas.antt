@@ -122,7 +122,7 @@ module _ {P : Type 0} (controls : Controls P) (waits : Waits P) where
   pub leads_join : (b m a : P) (xs ys : List PollerCall) → Leads controls waits b xs m → Leads controls waits m ys a → Leads controls waits b (xs ++ ys) a
   leads_join b m a [] ys f g = subst (λ t. Leads controls waits t ys a) f g
   leads_join b m a (Control op fd e r ∷ xs) ys f g = (f.0, f.1, leads_join f.0 m a xs ys f.2 g)
-  leads_join b m a (Wait ms capacity r ∷ xs) ys f g = (f.0, f.1, leads_join f.0 m a xs ys f.2 g)
+  leads_join b m a (Wait ms capacity r ∷ xs) ys f g = (f.0, f.1, f.2, leads_join f.0 m a xs ys f.3 g)
 
   pub made_join : (i : ℕ) (b m a : EpollWrapper P) (t u : Exchanges) (xs ys : List PollerCall) → AreMade controls waits b m i t xs → AreMade controls waits m a i u ys → AreMade controls waits b a i (t ++ u) (xs ++ ys)
   made_join i b m a t u xs ys f g = record { fits = fits_join i (registrations_of b.registrations) (registrations_of m.registrations) (registrations_of a.registrations) t u xs ys f.fits g.fits; ready = g.ready ∙ ap (cancel_removed u) f.ready ∙ sym (cancel_removed_join t u b.registrations.ready); led = leads_join b.poller m.poller a.poller xs ys f.led g.led; same_capacity = g.same_capacity ∙ f.same_capacity }

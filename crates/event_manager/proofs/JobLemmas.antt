@@ -1,5 +1,5 @@
 -- Jobs after a batch, put together to an iteration.
-use Rattle.std.proofs.Common.{◌≡◌, ◌≢◌, All, ℕ, ◌+◌, ℤ, List, [], ◌∷◌, length, refl, sym, ap, subst, ◌∙◌, arith, true, false, ◌||◌, ne_eqb, Result, Ok, Err}
+use Rattle.std.proofs.Common.{◌≡◌, ◌≢◌, All, ℕ, ◌+◌, ℤ, List, [], ◌∷◌, refl, sym, ap, subst, ◌∙◌, true, false, ◌||◌, ne_eqb, Result, Ok, Err}
 use Rattle.std.proofs.lemmas.Bool.{false≢true}
 use Rattle.std.proofs.lemmas.List.{append-nil}
 use Rattle.std.proofs.lemmas.List.Elements.{All-head, All-tail}
@@ -11,10 +11,8 @@ use Rattle.event_manager.specs.Registry.{Registry, Step}
 use Rattle.event_manager.specs.Dispatch.{Position}
 use Rattle.event_manager.specs.Iteration.{IsAfterWait, is_reported, calls_of_steps, calls_of_positions, calls_of_jobs}
 use Rattle.event_manager.specs.LoopState.{LoopState, HasStepped, IsDispatchedAfter, IsLoopIteration}
-use Rattle.event_manager.specs.JobQueue.{TicketsFollow, tickets_and_jobs}
-use Rattle.event_manager.specs.JobRuns.{HaveRun, JobsAreRun}
+use Rattle.event_manager.specs.JobRuns.{HasRun, JobsAreRun}
 use Rattle.event_manager.specs.Subscribers.{IsBatch, Notices, count_of}
-use Rattle.event_manager.specs.declared.jobs.queue.Entry.{Entry}
 use Rattle.event_manager.specs.declared.subscribers.Batch.{Batch}
 use Rattle.event_manager.specs.declared.error.Error.{Error}
 use Rattle.event_manager.proofs.ExchangeLemmas.{leads_join}
@@ -35,25 +33,20 @@ module _ {S J R : Type 0} (begins : S → Exchanges → S → Type 0) (serves : 
   no_jobs n before after (Err errno) positions dispatched = (dispatched.0, refl, ap (λ r. record { registry = r; taken = n }) dispatched.1)
 
 module _ {S P J R : Type 0} (begins : S → Exchanges → S → Type 0) (serves : S → Event → Exchanges → S → Type 0) (may : J → List (Step S) → R → Type 0) (controls : Controls P) (waits : Waits P) where
-  -- jobs whose tickets follow, run one after another
-  pub jobs_are_run : {Q : Type 0} (n m : ℕ) (before after : LoopState S P) (entries : List (Entry J Q)) → HaveRun begins may controls waits before (tickets_and_jobs entries) after → TicketsFollow n entries → m ≡ n + length entries
-      → JobsAreRun begins serves may controls waits before n after m
-  jobs_are_run n m before after [] ran follow count = record {
-    jobs = [];
-    ran = ap (λ k. record { registry = after.registry; taken = k }) (omega (arith, count)) ∙ ap (λ (s : LoopState S P). record { registry = s.registry; taken = n }) ran;
-    led = ap (λ (s : LoopState S P). s.poller) ran;
-    same_capacity = ap (λ (s : LoopState S P). s.capacity) ran;
+  -- none of no jobs
+  pub no_job_ran : (n : ℕ) (before : LoopState S P) → JobsAreRun begins serves may controls waits before n [] before n
+  no_job_ran n before = record { jobs = []; are_those = refl; ran = refl; led = refl; same_capacity = refl }
+
+  -- the first of the jobs, and then the others
+  pub first_job_ran : (n m : ℕ) (before mid after : LoopState S P) (ticket : ℕ) (job : J) (others : List (ℕ × J)) → ticket ≡ n + 1 → HasRun begins may controls waits before job mid → JobsAreRun begins serves may controls waits mid (n + 1) others after m
+      → JobsAreRun begins serves may controls waits before n ((ticket, job) ∷ others) after m
+  first_job_ran n m before mid after ticket job others follows did rest = record {
+    jobs = record { ticket = ticket; job = job; steps = did.steps; reply = did.reply } ∷ rest.jobs;
+    are_those = ap (λ those. (ticket, job) ∷ those) rest.are_those;
+    ran = (mid.registry, follows, did.might, did.stepped.stepped, rest.ran);
+    led = leads_join controls waits before.poller mid.poller after.poller (calls_of_steps did.steps) (calls_of_jobs rest.jobs) did.stepped.led rest.led;
+    same_capacity = rest.same_capacity ∙ did.stepped.same_capacity;
   }
-  jobs_are_run n m before after (e ∷ es) ran follow count =
-      let mid : LoopState S P = ran.0 in
-      let did = ran.1 in
-      let rest = jobs_are_run (n + 1) m mid after es ran.2 follow.1 (omega (arith, count)) in
-      record {
-        jobs = record { ticket = e.ticket; job = e.job; steps = did.steps; reply = did.reply } ∷ rest.jobs;
-        ran = (mid.registry, follow.0, did.might, did.stepped.stepped, rest.ran);
-        led = leads_join controls waits before.poller mid.poller after.poller (calls_of_steps did.steps) (calls_of_jobs rest.jobs) did.stepped.led rest.led;
-        same_capacity = rest.same_capacity ∙ did.stepped.same_capacity;
-      }
 
   -- a batch after which no jobs are taken
   pub without_jobs : (n : ℕ) (before after : LoopState S P) (ms : ℤ) (result : Result Batch Error) → IsBatch serves controls waits before ms result after
@@ -69,20 +62,20 @@ module _ {S P J R : Type 0} (begins : S → Exchanges → S → Type 0) (serves 
 
   then_jobs : (n m : ℕ) (before mid after : LoopState S P) (waited : Result (List Event) Errno) (positions : List (Position S)) (batch : Batch)
       → IsDispatchedAfter serves waited positions before.registry mid.registry → Notices before.registry.registrations.endpoint waited (Ok batch) → batch.endpoint_ready ≡ true
-      → (jobs : JobsAreRun begins serves may controls waits mid n after m)
+      → (handed_out : List (ℕ × J)) (jobs : JobsAreRun begins serves may controls waits mid n handed_out after m)
       → IsAfterWait begins serves may (record { registry = before.registry; taken = n }) waited positions jobs.jobs (record { registry = after.registry; taken = m })
-  then_jobs n m before mid after (Ok report) positions batch dispatched noticed ready jobs =
+  then_jobs n m before mid after (Ok report) positions batch dispatched noticed ready handed_out jobs =
       (mid.registry, dispatched, λ all. absurd (false≢true (sym (none_reported before.registry.registrations.endpoint report all) ∙ sym noticed ∙ ready)), jobs.ran)
-  then_jobs n m before mid after (Err errno) positions batch dispatched noticed ready jobs = absurd (false≢true (sym noticed ∙ ready))
+  then_jobs n m before mid after (Err errno) positions batch dispatched noticed ready handed_out jobs = absurd (false≢true (sym noticed ∙ ready))
 
   -- a batch with an event of the endpoint, and the jobs after it
-  pub with_jobs : (n m : ℕ) (before mid after : LoopState S P) (ms : ℤ) (batch : Batch) → IsBatch serves controls waits before ms (Ok batch) mid → batch.endpoint_ready ≡ true → JobsAreRun begins serves may controls waits mid n after m
+  pub with_jobs : (n m : ℕ) (before mid after : LoopState S P) (ms : ℤ) (batch : Batch) → IsBatch serves controls waits before ms (Ok batch) mid → batch.endpoint_ready ≡ true → (handed_out : List (ℕ × J)) → JobsAreRun begins serves may controls waits mid n handed_out after m
       → IsLoopIteration begins serves may controls waits (record before { taken = n }) ms (Ok batch.count) (record after { taken = m })
-  with_jobs n m before mid after ms batch did ready jobs = record {
+  with_jobs n m before mid after ms batch did ready handed_out jobs = record {
     iteration = record { ms = ms; waited = did.waited; positions = did.positions; jobs = jobs.jobs };
     milliseconds = refl;
     answer = did.answer;
-    iterated = then_jobs n m before mid after did.waited did.positions batch did.dispatched did.noticed ready jobs;
+    iterated = then_jobs n m before mid after did.waited did.positions batch did.dispatched did.noticed ready handed_out jobs;
     led = leads_join controls waits before.poller mid.poller after.poller (Wait ms before.capacity did.waited ∷ calls_of_positions did.positions) (calls_of_jobs jobs.jobs) did.led jobs.led;
     same_capacity = jobs.same_capacity ∙ did.same_capacity;
   }

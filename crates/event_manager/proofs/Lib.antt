@@ -3,6 +3,7 @@ pub mod DispatchSoFar
 pub mod ExampleHolds
 pub mod ExchangeLemmas
 pub mod FiniteMaps
+pub mod HeldIds
 pub mod Isolation
 pub mod PendingAfter
 pub mod PlaceLemmas

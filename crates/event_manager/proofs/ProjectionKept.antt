@@ -1,15 +1,12 @@
 -- What a projection keeps of i.
-use Rattle.std.proofs.Common.{◌≡◌, ℕ, cond, Bool, true, false, filter, refl, sym, ◌∙◌, ap, subst, ap₂, List, [], ◌∷◌, ◌++◌, if◌then◌else◌, eq-eqb, true≢false, None}
-use Rattle.std.specs.FinMap.{get}
+use Rattle.std.proofs.Common.{◌≡◌, ℕ, cond, Bool, true, false, filter, refl, sym, ◌∙◌, ap, subst, ap₂, List, [], ◌∷◌, ◌++◌, if◌then◌else◌, true≢false}
 use Rattle.std.specs.Bool.{MatchBool}
 use Rattle.event_manager.specs.Event.{Event}
 use Rattle.event_manager.specs.Exchange.{Exchanges}
 use Rattle.event_manager.specs.Registry.{Step, Joined, NotJoined, Left, NotLeft, Replaced, NotReplaced, Requested, NotRequested}
 use Rattle.event_manager.specs.Dispatch.{Outcome, Nobody, To, Position}
-use Rattle.event_manager.specs.Iteration.{ManagerState}
 use Rattle.event_manager.specs.Trace.{Effect, Stepped, Iterated, Entry}
 use Rattle.event_manager.specs.Projection.{is_to, AreProjected, names, stays, IsProjectedEffect, IsProjection, step_exchanges, outcome_exchanges, positions_exchanges, effect_exchanges, exchanges_in, delivered_as, deliveries_of, effect_deliveries, deliveries, is_for, replies_to, ProjectionKeeps}
-use Rattle.event_manager.proofs.FiniteMaps.{get_only}
 
 -- what id i got of one event; each event that it got
 one_delivered : {V : Type 0} (i : ℕ) (event : Event) (o : Outcome V) (ds : List (Event × Exchanges × V)) (b : Bool) → is_to i o ≡ b → delivered_as i event o ++ ds ≡ cond b (delivered_as i event o ++ ds) ds
@@ -123,11 +120,5 @@ module _ {V J R : Type 0} where
       ]
       in at (stays i entry.effect) refl is
 
-  pub projection_keeps : (trace : List (Entry V J R)) (after : ManagerState V) → ProjectionKeeps trace after
-  projection_keeps trace after i next projected is =
-      let k = keeps i trace projected is in (
-        k.replies,
-        k.delivered,
-        k.exchanged,
-        get_only i after.registry.values i ∙ ap (λ b. cond b (get after.registry.values i) None) (eq-eqb i i refl),
-      )
+  pub projection_keeps : (trace : List (Entry V J R)) → ProjectionKeeps trace
+  projection_keeps trace i projected is = let k = keeps i trace projected is in (k.replies, k.delivered, k.exchanged)

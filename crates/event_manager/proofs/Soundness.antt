@@ -8,7 +8,7 @@ use Rattle.event_manager.specs.Event.{Event}
 use Rattle.event_manager.specs.Registrations.{Registrations, Owns, IsFree}
 use Rattle.event_manager.specs.PollerCall.{PollerCall}
 use Rattle.event_manager.specs.Exchange.{Answer, Exchanges, Fits, by_manager, by_poller, by_agreement, ExchangesFit, ReachesPoller, entered, registrations_after}
-use Rattle.event_manager.specs.Registry.{acts_on, removed_by, Registry, Step, Joined, NotJoined, Left, NotLeft, Replaced, NotReplaced, Requested, NotRequested, Steps, is_id, without_owner, left_by, HasId, LacksId}
+use Rattle.event_manager.specs.Registry.{acts_on, removed_by, Registry, Step, Joined, NotJoined, Left, NotLeft, Replaced, NotReplaced, Requested, NotRequested, Steps, is_id, without_owner, left_by, HasId, LacksId, AreBelow}
 use Rattle.event_manager.specs.Dispatch.{Outcome, Nobody, To, Position, IsOutcome, AreDispatched, still_pending, events_of}
 use Rattle.event_manager.specs.Iteration.{ManagerState, JobRun, IsAfterWait, AreRun, AllSteps}
 use Rattle.event_manager.specs.Trace.{Effect, Stepped, Iterated, Entry, HasEffect, IsTrace, new_state}
@@ -20,6 +20,7 @@ use Rattle.event_manager.specs.Priority.{number_of}
 use Rattle.event_manager.proofs.FiniteMaps.{fd_tells, get-without_owner}
 use Rattle.event_manager.proofs.ProjectedSteps.{from_disowned}
 use Rattle.event_manager.proofs.ClassEntries.{at_most_3}
+use Rattle.event_manager.proofs.HeldIds.{removed_value, below_insert, below_joined, below_removed}
 use Rattle.event_manager.proofs.Isolation.{insert_other_value, remove_other_value}
 
 -- a priority stays with its owner
@@ -122,23 +123,8 @@ module _ {V : Type 0} where
     | inr t ↦ (u, insert_other_value k j values v t.1 ∙ h)
   ]
 
-  from_insert : (j k : ℕ) (values : FinMap nat_cmp V) (u v : V) → get (insert values k v) j ≡ Some u → (j ≡ k) ⊎ (get values j ≡ Some u)
-  from_insert j k values u v h = elim (eqb_tells j k) [
-    | inl t ↦ inl t.1
-    | inr t ↦ inr (sym (insert_other_value k j values v t.1) ∙ h)
-  ]
-
   lacks_insert : (j k : ℕ) (values : FinMap nat_cmp V) (v : V) → j ≢ k → get values j ≡ None → get (insert values k v) j ≡ None
   lacks_insert j k values v differ h = insert_other_value k j values v differ ∙ h
-
-  removed_value : (k : ℕ) (values : FinMap nat_cmp V) → get (remove values k) k ≡ None
-  removed_value k values = get-remove nat_cmp_total values k k ∙ ap (λ r. cond (is_eq r) None (get values k)) (sym (nat_cmp_is k k Equal refl))
-
-  from_remove : (j k : ℕ) (values : FinMap nat_cmp V) (u : V) → get (remove values k) j ≡ Some u → get values j ≡ Some u
-  from_remove j k values u h = elim (eqb_tells j k) [
-    | inl t ↦ let s : None ≡ Some u = sym (ap (get (remove values k)) t.1 ∙ removed_value k values) ∙ h in cc
-    | inr t ↦ sym (remove_other_value k j values t.1) ∙ h
-  ]
 
   lacks_remove : (j k : ℕ) (values : FinMap nat_cmp V) → get values j ≡ None → get (remove values k) j ≡ None
   lacks_remove j k values h = elim (eqb_tells j k) [
@@ -151,40 +137,31 @@ module _ {V : Type 0} where
   sound_at before made e s = subst (λ (r : Registry V). IsSound r) (sym e) s
 
   -- an id in the map has exchanges, and holds a value after them
-  sound_exchanges : (before : Registry V) (i next : ℕ) (held : V) (exchanges : Exchanges) (calls : List PollerCall) (from registrations : Registrations) → IsSound before → from.owner ≡ before.registrations.owner → from.endpoint ≡ before.registrations.endpoint → (i < next) → (before.next < next + 1) → ExchangesFit i from exchanges calls registrations → IsSound (record { values = insert before.values i held; next = next; registrations = registrations })
-  sound_exchanges before i next held exchanges calls from registrations s same same_end below up fits =
+  sound_exchanges : (before : Registry V) (i next : ℕ) (held : V) (exchanges : Exchanges) (calls : List PollerCall) (from registrations : Registrations) → IsSound before → from.owner ≡ before.registrations.owner → from.endpoint ≡ before.registrations.endpoint → ExchangesFit i from exchanges calls registrations → IsSound (record { values = insert before.values i held; next = next; registrations = registrations })
+  sound_exchanges before i next held exchanges calls from registrations s same same_end fits =
       let o = owners_exchanges i from exchanges calls registrations fits in
       record {
         owners = λ fd j h. elim (o.from fd j h) [
           | inl p ↦ let v = s.owners fd j (ap (λ (w : FinMap nat_cmp ℕ). get w fd) (sym same) ∙ p) in has_insert j i before.values v.0 held v.1
           | inr p ↦ (held, ap (get (insert before.values i held)) p ∙ inserted_value i before.values held)
         ];
-        given = λ j v h. elim (from_insert j i before.values v held h) [
-          | inl p ↦ subst (λ k. k < next) (sym p) below
-          | inr p ↦ let b = s.given j v p in omega arith
-        ];
         endpoint_free = o.endpoint_free ((λ k. get (same k) (same_end k)) ∙ s.endpoint_free);
       }
 
   sound_step : (begins : V → Exchanges → V → Type 0) (before : Registry V) (step : Step V) (after : Registry V) → IsSound before → Steps begins before step after → IsSound after
   sound_step begins before (Joined value id exchanges calls held) after s (registrations, capacity, is, fits, beg, e) =
-      sound_at after _ e (sound_exchanges before id (before.next + 1) held exchanges calls before.registrations registrations s refl refl (omega arith) (omega arith) fits)
+      sound_at after _ e (sound_exchanges before id (before.next + 1) held exchanges calls before.registrations registrations s refl refl fits)
   sound_step begins before (NotJoined value error) after s h = sound_at after before h.1 s
   sound_step begins before (Left id value calls) after s (fds, has, is_owner, deletes, e) = sound_at after _ e (record {
     owners = λ fd j h.
         let o = from_disowned id before.registrations.owner fd j h in
         let differ : j ≢ id = λ t. true≢false (sym (ap (is_id id) h ∙ ap (λ k. k == id) t ∙ eq-eqb id id refl) ∙ gone id before.registrations.owner fd) in
         let v = s.owners fd j o in (v.0, remove_other_value id j before.values differ ∙ v.1);
-    given = λ j v h. s.given j v (from_remove j id before.values v h);
     endpoint_free = get-without_owner id before.registrations.owner before.registrations.owner before.registrations.endpoint ∙ still_free id (get before.registrations.owner before.registrations.endpoint) s.endpoint_free;
   })
   sound_step begins before (NotLeft id) after s h = sound_at after before h.1 s
   sound_step begins before (Replaced id old new) after s (has, e) = sound_at after _ e (record {
     owners = λ fd j h. let v = s.owners fd j h in has_insert j id before.values v.0 new v.1;
-    given = λ j v h. elim (from_insert j id before.values v new h) [
-      | inl p ↦ subst (λ k. k < before.next) (sym p) (s.given id old has)
-      | inr p ↦ s.given j v p
-    ];
     endpoint_free = s.endpoint_free;
   })
   sound_step begins before (NotReplaced id) after s h = sound_at after before h.1 s
@@ -192,20 +169,41 @@ module _ {V : Type 0} where
       let o = owners_exchanges id before.registrations exchanges calls registrations fits in
       sound_at after _ e (record {
         owners = λ fd j h. elim (o.from fd j h) [ inl p ↦ s.owners fd j p | inr p ↦ (value, ap (get before.values) p ∙ has) ];
-        given = s.given;
         endpoint_free = o.endpoint_free s.endpoint_free;
       })
   sound_step begins before (NotRequested id) after s h = sound_at after before h.1 s
 
   sound_outcome : (serves : V → Event → Exchanges → V → Type 0) (before : Registry V) (earlier : List (Position V)) (e : Event) (later : List Event) (outcome : Outcome V) (after : Registry V) → IsSound before → IsOutcome serves before earlier e later outcome after → IsSound after
-  sound_outcome serves before earlier e later Nobody after s (nobody, is) = sound_at after _ is (record { owners = s.owners; given = s.given; endpoint_free = s.endpoint_free })
+  sound_outcome serves before earlier e later Nobody after s (nobody, is) = sound_at after _ is (record { owners = s.owners; endpoint_free = s.endpoint_free })
   sound_outcome serves before earlier e later (To i exchanges calls held) after s (value, registrations, for, serving, fits, is) =
-      let below = s.given i value for.2 in
-      sound_at after _ is (sound_exchanges before i before.next held exchanges calls (record before.registrations { pending = still_pending earlier later }) registrations s refl refl below (omega arith) fits)
+      sound_at after _ is (sound_exchanges before i before.next held exchanges calls (record before.registrations { pending = still_pending earlier later }) registrations s refl refl fits)
 
   sound_positions : (serves : V → Event → Exchanges → V → Type 0) (before : Registry V) (earlier positions : List (Position V)) (after : Registry V) → IsSound before → AreDispatched serves before earlier positions after → IsSound after
-  sound_positions serves before earlier [] after s is = sound_at after _ is (record { owners = s.owners; given = s.given; endpoint_free = s.endpoint_free })
+  sound_positions serves before earlier [] after s is = sound_at after _ is (record { owners = s.owners; endpoint_free = s.endpoint_free })
   sound_positions serves before earlier (d ∷ positions) after s (mid, out, more) = sound_positions serves mid (earlier ++ d ∷ []) positions after (sound_outcome serves before earlier d.event (events_of positions) d.outcome mid s out) more
+
+  -- held ids stay below the next
+  below_at : (after made : Registry V) → after ≡ made → AreBelow made.next made.values → AreBelow after.next after.values
+  below_at after made e h = subst (λ (r : Registry V). AreBelow r.next r.values) (sym e) h
+
+  below_step : (begins : V → Exchanges → V → Type 0) (before : Registry V) (step : Step V) (after : Registry V) → AreBelow before.next before.values → Steps begins before step after → AreBelow after.next after.values
+  below_step begins before (Joined value id exchanges calls held) after h (registrations, capacity, is, fits, beg, e) =
+      below_at after _ e (below_joined id before.next before.values held is h)
+  below_step begins before (NotJoined value error) after h s = below_at after before s.1 h
+  below_step begins before (Left id value calls) after h (fds, has, is_owner, deletes, e) = below_at after _ e (below_removed id before.next before.values h)
+  below_step begins before (NotLeft id) after h s = below_at after before s.1 h
+  below_step begins before (Replaced id old new) after h (has, e) = below_at after _ e (below_insert id before.next before.values new (h id old has) h)
+  below_step begins before (NotReplaced id) after h s = below_at after before s.1 h
+  below_step begins before (Requested id exchanges calls) after h (value, registrations, has, fits, e) = below_at after _ e h
+  below_step begins before (NotRequested id) after h s = below_at after before s.1 h
+
+  below_outcome : (serves : V → Event → Exchanges → V → Type 0) (before : Registry V) (earlier : List (Position V)) (e : Event) (later : List Event) (outcome : Outcome V) (after : Registry V) → AreBelow before.next before.values → IsOutcome serves before earlier e later outcome after → AreBelow after.next after.values
+  below_outcome serves before earlier e later Nobody after h (nobody, is) = below_at after _ is h
+  below_outcome serves before earlier e later (To i exchanges calls held) after h (value, registrations, for, serving, fits, is) = below_at after _ is (below_insert i before.next before.values held (h i value for.2) h)
+
+  below_positions : (serves : V → Event → Exchanges → V → Type 0) (before : Registry V) (earlier positions : List (Position V)) (after : Registry V) → AreBelow before.next before.values → AreDispatched serves before earlier positions after → AreBelow after.next after.values
+  below_positions serves before earlier [] after h is = below_at after _ is h
+  below_positions serves before earlier (d ∷ positions) after h (mid, out, more) = below_positions serves mid (earlier ++ d ∷ []) positions after (below_outcome serves before earlier d.event (events_of positions) d.outcome mid h out) more
 
   -- priorities stay
   priorities_at : (after made : Registry V) → after ≡ made → HavePriorities made.registrations → HavePriorities after.registrations
@@ -299,11 +297,11 @@ module _ {V : Type 0} where
   gone_positions serves i before earlier [] after g is = gone_at i after _ is (record { lacks = g.lacks; given = g.given })
   gone_positions serves i before earlier (d ∷ positions) after g (mid, out, more) = gone_positions serves i mid (earlier ++ d ∷ []) positions after (gone_outcome serves i before earlier d.event (events_of positions) d.outcome mid g out) more
 
-  left_is_gone : (begins : V → Exchanges → V → Type 0) (before : Registry V) (id : ℕ) (value : V) (calls : List PollerCall) (after : Registry V) → IsSound before → Steps begins before (Left id value calls) after → IsGone id after
-  left_is_gone begins before id value calls after s (fds, has, is_owner, deletes, e) = gone_at id after _ e (record { lacks = removed_value id before.values; given = s.given id value has })
+  left_is_gone : (begins : V → Exchanges → V → Type 0) (before : Registry V) (id : ℕ) (value : V) (calls : List PollerCall) (after : Registry V) → AreBelow before.next before.values → Steps begins before (Left id value calls) after → IsGone id after
+  left_is_gone begins before id value calls after s (fds, has, is_owner, deletes, e) = gone_at id after _ e (record { lacks = removed_value id before.values; given = s id value has })
 
   -- each step's removal stays, where what follows refuses all that is gone after it
-  stays_gone : (begins : V → Exchanges → V → Type 0) (before : Registry V) (step : Step V) (after : Registry V) (steps : List (Step V)) → IsSound before → Steps begins before step after → ((i : ℕ) → IsGone i after → AreRefusedTo i steps) → IfSome (removed_by step) (λ id. AreRefusedTo id steps)
+  stays_gone : (begins : V → Exchanges → V → Type 0) (before : Registry V) (step : Step V) (after : Registry V) (steps : List (Step V)) → AreBelow before.next before.values → Steps begins before step after → ((i : ℕ) → IsGone i after → AreRefusedTo i steps) → IfSome (removed_by step) (λ id. AreRefusedTo id steps)
   stays_gone begins before (Joined value id exchanges calls held) after steps s h k = tt
   stays_gone begins before (NotJoined value error) after steps s h k = tt
   stays_gone begins before (Left id value calls) after steps s h k = k id (left_is_gone begins before id value calls after s h)
@@ -319,7 +317,8 @@ module _ {V J R : Type 0} (begins : V → Exchanges → V → Type 0) (serves : 
     pub sound : IsSound before → IsSound after
     pub given : AreGiven before.next steps after.next
     pub gone : (i : ℕ) → IsGone i before → AreRefusedTo i steps × IsGone i after
-    pub removed : IsSound before → RemovedStayGone steps
+    pub below : AreBelow before.next before.values → AreBelow after.next after.values
+    pub removed : AreBelow before.next before.values → RemovedStayGone steps
     pub prioritised : HavePriorities before.registrations → HavePriorities after.registrations
 
   follows_none : (before after : Registry V) → after ≡ before → Follows before [] after
@@ -327,7 +326,8 @@ module _ {V J R : Type 0} (begins : V → Exchanges → V → Type 0) (serves : 
     sound = λ s. sound_at after before e s;
     given = ap (λ (r : Registry V). r.next) e;
     gone = λ i g. (tt, gone_at i after before e g);
-    removed = λ s. tt;
+    below = below_at after before e;
+    removed = λ h. tt;
     prioritised = priorities_at after before e;
   }
 
@@ -337,7 +337,8 @@ module _ {V J R : Type 0} (begins : V → Exchanges → V → Type 0) (serves : 
     sound = λ s. k.sound (sound_step begins before step mid s h);
     given = given_join before.next mid.next after.next (step ∷ []) steps (given_step begins before step mid h) k.given;
     gone = λ i g. let a = gone_step begins i before step mid g h in let b = k.gone i a.1 in ((a.0, b.0), b.1);
-    removed = λ s. (stays_gone begins before step mid steps s h (λ i g. (k.gone i g).0), k.removed (sound_step begins before step mid s h));
+    below = λ b. k.below (below_step begins before step mid b h);
+    removed = λ b. (stays_gone begins before step mid steps b h (λ i g. (k.gone i g).0), k.removed (below_step begins before step mid b h));
     prioritised = λ p. k.prioritised (priorities_step begins before step mid p h);
   }
 
@@ -347,7 +348,8 @@ module _ {V J R : Type 0} (begins : V → Exchanges → V → Type 0) (serves : 
     sound = λ s. k.sound (sound_positions serves before [] positions mid s h);
     given = subst (λ n. AreGiven n steps after.next) (next_positions serves before [] positions mid h) k.given;
     gone = λ i g. k.gone i (gone_positions serves i before [] positions mid g h);
-    removed = λ s. k.removed (sound_positions serves before [] positions mid s h);
+    below = λ b. k.below (below_positions serves before [] positions mid b h);
+    removed = λ b. k.removed (below_positions serves before [] positions mid b h);
     prioritised = λ p. k.prioritised (priorities_positions serves before [] positions mid p h);
   }
 
@@ -379,9 +381,11 @@ module _ {V J R : Type 0} (begins : V → Exchanges → V → Type 0) (serves : 
 pub new_is_sound : {V : Type 0} (endpoint : ℕ) → IsSound {V = V} (new_state endpoint).registry
 new_is_sound {V} endpoint = record {
   owners = λ fd i h. let s : None ≡ Some i = sym (get-empty nat_cmp fd) ∙ h in cc;
-  given = λ i v h. let s : None ≡ Some v = sym (get-empty nat_cmp i) ∙ h in cc;
   endpoint_free = get-empty nat_cmp endpoint;
 }
+
+pub none_below : {V : Type 0} (next : ℕ) → AreBelow {V = V} next empty
+none_below {V} next i v h = let s : None ≡ Some v = sym (get-empty nat_cmp i) ∙ h in cc
 
 pub new_has_priorities : (endpoint : ℕ) → HavePriorities (record { owner = empty; priority = empty; endpoint = endpoint; pending = [] })
 new_has_priorities endpoint fd = HasPriority-at None None _ _ (get-empty nat_cmp fd) (get-empty nat_cmp fd) refl

@@ -89,11 +89,12 @@ module _ {S J R P : Type 0} (begins : S → Exchanges → S → Type 0) (serves 
       let follows = trace_follows begins serves may before trace after is in
       record {
         given = follows.given;
+        below = follows.below;
         removed = follows.removed;
         sound = follows.sound;
         priorities = follows.prioritised;
         non_interference = non_interference begins serves may before trace after is;
-        projection_keeps = projection_keeps trace after;
+        projection_keeps = projection_keeps trace;
         isolated_step = λ from step onto h. isolated_step begins from step onto h;
         isolated_delivery = λ from earlier event later i exchanges calls held onto h j differ. isolated_delivery serves from earlier event later i exchanges calls held onto h j differ;
         leave_frees = λ from onto i value calls h. left_frees begins from onto i value calls h;

@@ -4,7 +4,7 @@ use Rattle.std.specs.declared.alloc.Global.{Global}
 use Rattle.event_manager.specs.Event.{Event}
 use Rattle.event_manager.specs.PollerCall.{PollerCall, Controls, Waits, Leads}
 use Rattle.event_manager.specs.Exchange.{Exchanges, Answer, requests_of, answers_of}
-use Rattle.event_manager.specs.Registry.{Registry, Step, Steps, Left, Requested, NotRequested, Replaced, NotReplaced}
+use Rattle.event_manager.specs.Registry.{Registry, Step, Steps, AreBelow, Left, Requested, NotRequested, Replaced, NotReplaced}
 use Rattle.event_manager.specs.Dispatch.{Position, To, IsOutcome, still_pending}
 use Rattle.event_manager.specs.Iteration.{ManagerState}
 use Rattle.event_manager.specs.LoopState.{LoopState, manager_state}
@@ -53,16 +53,17 @@ module _ {S J R : Type 0} (begins : S → Exchanges → S → Type 0) (serves : 
       pub led : Leads controls waits before.poller (calls_of_trace before.capacity trace) after.poller
       pub same_capacity : after.capacity ≡ before.capacity
 
-  -- Of a trace: ids are given in order, each once; what was removed is refused from then on; each owner is held, and the endpoint
+  -- Of a trace: ids are given in order, each once; where each held id is below the next, that stays, and what was removed is refused from then on; each owner is held, and the endpoint
   -- is never owned; each owned descriptor has a priority; a projection to an id that is apart is itself a trace, with the same replies, deliveries and values. Of each
   -- step and delivery in it: the other ids keep their value, descriptors and pending events; a leave frees exactly its descriptors.
   pub record IsGuaranteed (before : ManagerState S) (trace : List (Entry S J R)) (after : ManagerState S) : Type 0 where
     pub given : AreGiven before.registry.next (steps_of trace) after.registry.next
-    pub removed : IsSound before.registry → RemovedStayGone (steps_of trace)
+    pub below : AreBelow before.registry.next before.registry.values → AreBelow after.registry.next after.registry.values
+    pub removed : AreBelow before.registry.next before.registry.values → RemovedStayGone (steps_of trace)
     pub sound : IsSound before.registry → IsSound after.registry
     pub priorities : HavePriorities before.registry.registrations → HavePriorities after.registry.registrations
     pub non_interference : NonInterference begins serves may before trace after
-    pub projection_keeps : ProjectionKeeps trace after
+    pub projection_keeps : ProjectionKeeps trace
     pub isolated_step : (from : Registry S) (step : Step S) (onto : Registry S) → Steps begins from step onto → (j : ℕ) → names j step ≡ false → IsUntouched j from onto
     pub isolated_delivery : (from : Registry S) (earlier : List (Position S)) (event : Event) (later : List Event) (i : ℕ) (exchanges : Exchanges) (calls : List PollerCall) (held : S) (onto : Registry S)
         → IsOutcome serves from earlier event later (To i exchanges calls held) onto

@@ -1,5 +1,5 @@
 -- What users rely on, of every trace.
-use Rattle.std.specs.Prelude.{◌≡◌, ◌≢◌, ℕ, ◌+◌, ◌<◌, ◌≤◌, List, [], ◌∷◌, ◌++◌, filter, ◌↔◌, Option, Some, None, IfSome, MatchOption, if◌then◌else◌}
+use Rattle.std.specs.Prelude.{◌≡◌, ◌≢◌, ℕ, ◌+◌, ◌≤◌, List, [], ◌∷◌, ◌++◌, filter, ◌↔◌, Option, Some, None, IfSome, MatchOption, if◌then◌else◌}
 use Rattle.std.specs.FinMap as map
 use Rattle.event_manager.specs.Event.{Event}
 use Rattle.event_manager.specs.Registrations.{Registrations, Owns, IsFree}
@@ -16,10 +16,9 @@ abbrev pub IsUntouched : {V : Type 0} → ℕ → Registry V → Registry V → 
 IsUntouched j before after =
     (map.get after.values j ≡ map.get before.values j) × ((fd : ℕ) → Owns j after.registrations fd ↔ Owns j before.registrations fd) × (pending_of j after.registrations ≡ pending_of j before.registrations)
 
--- Each owner is in the map, each id in the map was given, and the endpoint's descriptor is never owned.
+-- Each owner is in the map, and the endpoint's descriptor is never owned.
 pub record IsSound {V : Type 0} (registry : Registry V) : Type 0 where
   pub owners : (fd : ℕ) (i : ℕ) → Owns i registry.registrations fd → (value : V) × HasId registry i value
-  pub given : (i : ℕ) (value : V) → HasId registry i value → i < registry.next
   pub endpoint_free : IsFree registry.registrations registry.registrations.endpoint
 
 -- what a descriptor has as the number of its priority, by its owner: one up to 3; none where nobody owns it

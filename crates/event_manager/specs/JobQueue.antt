@@ -1,6 +1,7 @@
 -- The queue of jobs: how many were taken and how many tickets issued, whether it is closed, and what waits.
 use Rattle.std.specs.Prelude.{◌≡◌, ℕ, ◌+◌, ◌<◌, ◌≤◌, Bool, true, false, List, [], ◌∷◌, ◌++◌, length, Option, Result, Ok, Err}
 use Rattle.event_manager.specs.declared.jobs.queue.Entry.{Entry}
+use Rattle.event_manager.specs.declared.jobs.queue.Refused.{Refused}
 use Rattle.vmm_sys.specs.declared.errno.Errno.{Errno}
 use Rattle.event_manager.specs.declared.error.Error.{Error}
 use Rattle.event_manager.specs.declared.error.Error.TheVariants.{ChannelSend, ChannelRecv, EventFd, Epoll, FdAlreadyRegistered, InvalidId, InvalidCapacity, OutOfMemory, IdsUsedUp, TicketsUsedUp}
@@ -60,6 +61,11 @@ IsSend rings q job slot (Err FdAlreadyRegistered) r = ⊥
 IsSend rings q job slot (Err InvalidId) r = ⊥
 IsSend rings q job slot (Err InvalidCapacity) r = ⊥
 IsSend rings q job slot (Err IdsUsedUp) r = ⊥
+
+-- what a send answers that hands back what it refuses
+abbrev pub answer_of : {T J Q : Type 0} → Result T (Refused J Q) → Result T Error
+answer_of (Ok ticket) = Ok ticket
+answer_of (Err refused) = Err refused.error
 
 -- the tickets and the jobs of entries
 abbrev pub tickets_and_jobs : {J Q : Type 0} → List (Entry J Q) → List (ℕ × J)

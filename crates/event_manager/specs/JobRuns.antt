@@ -1,5 +1,5 @@
 -- Jobs that ran on a registry of the program.
-use Rattle.std.specs.Prelude.{◌≡◌, ℕ, List, [], ◌∷◌}
+use Rattle.std.specs.Prelude.{◌≡◌, ℕ, List, map}
 use Rattle.event_manager.specs.Event.{Event}
 use Rattle.event_manager.specs.PollerCall.{Controls, Waits, Leads}
 use Rattle.event_manager.specs.Exchange.{Exchanges}
@@ -15,15 +15,11 @@ module _ {S P J R : Type 0} (begins : S → Exchanges → S → Type 0) (may : J
     pub might : may job steps reply
     pub stepped : HaveStepped begins controls waits before steps after
 
-  -- the jobs ran, one after another
-  abbrev pub HaveRun : LoopState S P → List (ℕ × J) → LoopState S P → Type 0
-  HaveRun before [] after = after ≡ before
-  HaveRun before (job ∷ jobs) after = (mid : LoopState S P) × HasRun before job.1 mid × HaveRun mid jobs after
-
--- the jobs that follow those taken so far ran, and were counted
+-- these jobs, which follow those taken so far, ran one after another, each under its own ticket, and were counted
 pub record JobsAreRun {S P J R : Type 0} (begins : S → Exchanges → S → Type 0) (serves : S → Event → Exchanges → S → Type 0) (may : J → List (Step S) → R → Type 0) (controls : Controls P) (waits : Waits P)
-    (before : LoopState S P) (taken : ℕ) (after : LoopState S P) (taken_after : ℕ) : Type 0 where
+    (before : LoopState S P) (taken : ℕ) (handed_out : List (ℕ × J)) (after : LoopState S P) (taken_after : ℕ) : Type 0 where
   pub jobs : List (JobRun S J R)
+  pub are_those : map (λ job_run. (job_run.ticket, job_run.job)) jobs ≡ handed_out
   pub ran : AreRun begins serves may (record { registry = before.registry; taken = taken }) jobs (record { registry = after.registry; taken = taken_after })
   pub led : Leads controls waits before.poller (calls_of_jobs jobs) after.poller
   pub same_capacity : after.capacity ≡ before.capacity

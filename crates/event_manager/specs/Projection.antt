@@ -164,9 +164,8 @@ NonInterference {V} {J} {R} begins serves may before trace after =
     (i : ℕ) → after.taken ≡ before.taken → IsApart i before trace
     → (next : ℕ) × (projected : List (Entry V J R)) × IsProjection i trace projected × IsTrace begins serves may (projected_state i (projected_next i before) before) projected (projected_state i next after)
 
--- A projection has the same replies to i, the same deliveries to i and the same exchanges of i, and ends with the same value of i.
-abbrev pub ProjectionKeeps : {V J R : Type 0} → List (Entry V J R) → ManagerState V → Type 0
-ProjectionKeeps {V} {J} {R} trace after =
-    (i next : ℕ) (projected : List (Entry V J R)) → IsProjection i trace projected
+-- A projection has the same replies to i, the same deliveries to i and the same exchanges of i.
+abbrev pub ProjectionKeeps : {V J R : Type 0} → List (Entry V J R) → Type 0
+ProjectionKeeps {V} {J} {R} trace =
+    (i : ℕ) (projected : List (Entry V J R)) → IsProjection i trace projected
     → (replies_to i projected ≡ replies_to i trace) × (deliveries i projected ≡ deliveries i trace) × (exchanges_in i projected ≡ exchanges_in i trace)
-    × (finite.get (projected_state i next after).registry.values i ≡ finite.get after.registry.values i)

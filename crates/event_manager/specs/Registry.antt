@@ -62,6 +62,10 @@ HasId registry i value = map.get registry.values i ≡ Some value
 abbrev pub LacksId : {V : Type 0} → Registry V → ℕ → Type 0
 LacksId registry i = map.get registry.values i ≡ None
 
+-- each id that is held is below this one
+abbrev pub AreBelow : {V : Type 0} → ℕ → map.FinMap nat_cmp V → Type 0
+AreBelow {V} next values = (id : ℕ) (value : V) → map.get values id ≡ Some value → id < next
+
 -- where this is the next id, the ids are used up
 abbrev pub ids_end : ℕ
 ids_end = 2 ^ 64 - 1

@@ -45,6 +45,7 @@ pub trait StepSubscriber: Drop {
 }
 
 /// A [`StepSubscriber`] of any kind, in a box that the caller makes: a manager of these holds several kinds.
+/// It can't be downcast: what comes back from a leave is a box of some kind.
 #[derive(Drop)]
 pub struct BoxedSubscriber(pub Box<dyn StepSubscriber + Send>);
 

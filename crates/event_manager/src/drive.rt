@@ -17,7 +17,6 @@ use crate::manager::{EventManager, SubscriberOps};
 use crate::poller::EventPoller;
 use crate::subscribers::MutEventSubscriber;
 use crate::{Error, Result};
-use std::alloc::Global;
 use std::sync::Wait;
 use std::sync::ledger::Ledger;
 use std::time::Clock;
@@ -53,10 +52,9 @@ where
 /// `Set` answers the value that the id held before; where nobody has the id it answers `InvalidId` and drops the new one.
 /// `Ask` makes its requests in order through [`event_ops`](SubscriberOps::event_ops), whatever each is answered.
 ///
-/// All room is made before the first call. The one refusal is `OutOfMemory`: then no call is made, the calls are dropped,
+/// All room is made before the first call, by the allocator of the calls. The one refusal is `OutOfMemory`: then no call is made, the calls are dropped,
 /// and manager and replies are as before.
 pub fn drive<S, J, L, T, P, R>(
-    alloc: Global,
     manager: &mut EventManager<S, J, L, T, P>,
     calls: Vec<Call<S>>,
     replies: &mut Vec<Reply<S>>,
@@ -77,7 +75,7 @@ where
     let Ok(()) = replies.reserve(calls.len()) else {
         return Err(Error::OutOfMemory);
     };
-    let Ok(mut plan) = plan_all(alloc, calls) else {
+    let Ok(mut plan) = plan_all(calls) else {
         return Err(Error::OutOfMemory);
     };
     while let Some(planned) = plan.pop() {

@@ -1,17 +1,19 @@
 //! The remote endpoint, by which other threads send jobs to the loop.
 
 ghost use Rattle.std.specs.Prelude.{◌≡◌, ◌<◌, IfOk, IfErr};
+ghost use Rattle.event_manager.specs.JobQueue.{answer_of};
 ghost use Rattle.event_manager.specs.Endpoint.{IsSendRefusal, IsCallRefusal, IsRingRefusal};
 ghost use Rattle.event_manager.specs.declared.error.Error.TheVariants.{OutOfMemory};
 
 pub(crate) mod channel;
 pub(crate) mod closed;
+mod runner;
 mod slot;
 mod state;
 
 use crate::endpoint::channel::Channel;
-use crate::endpoint::slot::Slot;
-use crate::jobs::Job;
+use crate::endpoint::slot::new_slot;
+use crate::jobs::{Job, Refused};
 use crate::subscribers::MutEventSubscriber;
 use crate::{Error, Result};
 use job_tickets::tickets::Ticket;
@@ -19,7 +21,22 @@ use std::sync::ledger::Ledger;
 use std::sync::{Arc, Wait};
 use std::time::Clock;
 
+// Lets go of what was refused: where the queue's lock is free, since the drop of a job is its sender's code.
+fn answer<J: Drop, Q: Drop, L: Ledger>(
+    sent: std::result::Result<Ticket<L>, Refused<J, Q>>,
+) -> Result<Ticket<L>>
+    ensures { result ≡ answer_of sent }
+{
+    match sent {
+        Ok(ticket) => Ok(ticket),
+        Err(refused) => Err(refused.error),
+    }
+}
+
 /// Sends jobs to the manager that it comes from, from any thread.
+///
+/// A job that is refused is dropped where the queue's lock is free, as each job that a close drops and each reply that
+/// nobody waits for: what a drop does with an endpoint waits for nobody.
 ///
 /// The queue of a manager that was dropped without [`close`](crate::EventManager::close) stays open: sends are still
 /// accepted, nobody runs the jobs, and a `call_blocking` waits for ever. `close` is the way out.
@@ -38,10 +55,11 @@ impl<S: MutEventSubscriber, J: Job<S>, L: Ledger, T: Ledger> RemoteEndpoint<S, J
         ensures refusals { IfErr result IsSendRefusal }
     {
         let channel = &*self.channel;
-        channel
+        let sent = channel
             .state
             .lock(rt)
-            .send(job, None, &channel.event_fd, rt)
+            .send(job, None, &channel.event_fd, rt);
+        answer(sent)
     }
 
     /// As [`fire`](RemoteEndpoint::fire), with a ticket above the shown one: so the jobs that one thread sends in this
@@ -59,10 +77,11 @@ impl<S: MutEventSubscriber, J: Job<S>, L: Ledger, T: Ledger> RemoteEndpoint<S, J
         ensures refusals { IfErr result IsSendRefusal }
     {
         let channel = &*self.channel;
-        channel
+        let sent = channel
             .state
             .lock(rt)
-            .send_after(shown, job, None, &channel.event_fd, rt)
+            .send_after(shown, job, None, &channel.event_fd, rt);
+        answer(sent)
     }
 
     /// Sends a job, and waits for its reply. On the loop's own thread it waits for ever, as in the Rust crate.
@@ -75,17 +94,13 @@ impl<S: MutEventSubscriber, J: Job<S>, L: Ledger, T: Ledger> RemoteEndpoint<S, J
         ensures refusals { IfErr result IsCallRefusal }
     {
         let channel = &*self.channel;
-        let Ok(own) = Arc::new(channel.alloc, Slot::new()) else {
-            return Err(Error::OutOfMemory);
-        };
-        let Ok(theirs) = Arc::try_clone(&own) else {
-            return Err(Error::OutOfMemory);
-        };
-        let _ticket = channel
+        let (sender, receiver) = new_slot(channel.alloc)?;
+        let sent = channel
             .state
             .lock(rt)
-            .send(job, Some(theirs), &channel.event_fd, rt)?;
-        own.wait(rt)
+            .send(job, Some(sender), &channel.event_fd, rt);
+        let _ticket = answer(sent)?;
+        receiver.wait(rt)
     }
 
     /// Ends the loop's wait: writes 1 to the endpoint's `EventFd`. Takes no memory.

@@ -70,8 +70,8 @@ pub(crate) struct ReadyEntry {
 
 /// Who owns which descriptor, both ways, and what is still to come of the current batch.
 ///
-/// The list of cancelled descriptors has room for those in it and for all owned ones, so that a removal takes no memory;
-/// the list of classed entries has room for a whole buffer, so that no wait takes any.
+/// The list of cancelled descriptors is empty where nothing is to come, and has room for those in it and for all owned ones,
+/// so that a removal takes no memory; the list of classed entries has room for a whole buffer, so that no wait takes any.
 #[derive(Drop)]
 pub(crate) struct Registrations {
     owners: Owners,
@@ -87,7 +87,7 @@ pub(crate) struct Registrations {
 }
 
 impl Model for Registrations {
-    ghost use Rattle.std.specs.Prelude.{◌≤◌, vec_len, vec_capacity};
+    ghost use Rattle.std.specs.Prelude.{◌≡◌, ◌≤◌, [], vec_len, vec_capacity};
     ghost use Rattle.event_manager.specs.RegistrationState.{RegistrationState, registration_state_code};
     ghost use Rattle.event_manager.specs.ReadyList.{ready_of};
     ghost use Rattle.event_manager.specs.Consistency.{AreConsistent};
@@ -104,7 +104,7 @@ impl Model for Registrations {
       ready = ready_of b.buffer.items b.cancelled.items b.at b.count;
     } };
 
-    ghost invariant = { λ b. (b.at ≤ b.count) × (b.count ≤ vec_len b.buffer) × (vec_len b.buffer ≤ vec_capacity b.classed) × AreConsistent b.owners b.owned b.raised b.watched b.cancelled.items (vec_len b.cancelled) (vec_capacity b.cancelled) };
+    ghost invariant = { λ b. (b.at ≤ b.count) × (b.count ≤ vec_len b.buffer) × (vec_len b.buffer ≤ vec_capacity b.classed) × AreConsistent b.owners b.owned b.raised b.watched b.cancelled.items (vec_len b.cancelled) (vec_capacity b.cancelled) × (b.count ≤ b.at → b.cancelled.items ≡ []) };
 }
 
 impl Registrations {
@@ -224,8 +224,7 @@ impl Registrations {
         fds
     }
 
-    /// Takes the next entry of the ready list. Where there is none the batch is over, and no descriptor is cancelled any
-    /// more.
+    /// Takes the next entry of the ready list. Once the last one is taken, no descriptor is cancelled any more.
     pub(crate) fn next_ready(&mut self) -> Option<ReadyEntry>
         ensures { MatchOption result ((self.old.ready ≡ []) × (self.new ≡ self.old))
             (λ t. (rest : List (Event × Bool)) × (self.old.ready ≡ (event_of_entry t.entry, t.cancelled) ∷ rest) × (self.new ≡ record self.old { ready = rest })
@@ -239,9 +238,11 @@ impl Registrations {
                 is_endpoint: fd_of(&entry) == self.endpoint,
             };
             self.at += 1;
+            if self.at == self.count {
+                self.cancelled.clear();
+            }
             return Some(ready_entry);
         }
-        self.cancelled.clear();
         None
     }
 
@@ -266,9 +267,9 @@ impl Registrations {
     {
         self.at = 0;
         self.count = 0;
+        self.cancelled.clear();
         match poller.wait_into(ms, &mut self.buffer) {
             Ok(count) => {
-                self.cancelled.clear();
                 if self.raised > 0 {
                     order_by_class(&self.owners, &mut self.buffer, count, &mut self.classed);
                 }

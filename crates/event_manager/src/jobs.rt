@@ -6,4 +6,5 @@ pub mod queue;
 
 pub use account::{Outcome, Step, replay};
 pub use job::{Job, NoJob};
+pub(crate) use queue::Refused;
 pub use queue::{Bell, Entry, JobQueue};

@@ -11,7 +11,7 @@ ghost use Rattle.event_manager.specs.Registrations.{Registrations};
 ghost use Rattle.event_manager.specs.Priority.{number_of};
 ghost use Rattle.event_manager.specs.DispatchOrder.{class_of, IsDispatchOrder};
 ghost use Rattle.event_manager.specs.Exchange.{Exchanges, ExchangesFit};
-ghost use Rattle.event_manager.specs.Registry.{Registry, Step, Steps, Left};
+ghost use Rattle.event_manager.specs.Registry.{Registry, Step, Steps, Left, AreBelow};
 ghost use Rattle.event_manager.specs.Dispatch.{Position, Outcome, To, IsOutcome, still_pending};
 ghost use Rattle.event_manager.specs.Iteration.{ManagerState};
 ghost use Rattle.event_manager.specs.Trace.{Entry, HasEffect, IsTrace, new_state};
@@ -31,16 +31,19 @@ use std::hash::{Hash, Hasher};
 pub fn non_interference<S: MutEventSubscriber, J: Job<S>>()
     ensures traces { (before : ManagerState S) (trace : List (Entry S J J.Reply)) (after : ManagerState S) →
         IsTrace S.begins S.serves J.may before trace after → NonInterference S.begins S.serves J.may before trace after }
-    ensures keeps { (trace : List (Entry S J J.Reply)) (after : ManagerState S) → ProjectionKeeps trace after }
+    ensures keeps { (trace : List (Entry S J J.Reply)) → ProjectionKeeps trace }
 {}
 
-/// In every trace the ids that joins give follow each other from the next id on, each once; every later call for a
-/// subscriber that left is refused.
+/// In every trace the ids that joins give follow each other from the next id on, each once; and where each held id is below
+/// the next, as in a new manager, that stays so, and every later call for a subscriber that left is refused.
 pub fn ids_are_given_once<S: MutEventSubscriber, J: Job<S>>()
     ensures given { (before : ManagerState S) (trace : List (Entry S J J.Reply)) (after : ManagerState S) →
         IsTrace S.begins S.serves J.may before trace after → AreGiven before.registry.next (steps_of trace) after.registry.next }
     ensures removed { (before : ManagerState S) (trace : List (Entry S J J.Reply)) (after : ManagerState S) →
-        IsTrace S.begins S.serves J.may before trace after → IsSound before.registry → RemovedStayGone (steps_of trace) }
+        IsTrace S.begins S.serves J.may before trace after → AreBelow before.registry.next before.registry.values → RemovedStayGone (steps_of trace) }
+    ensures new { (endpoint : ℕ) → AreBelow 1 (new_state {V = S} endpoint).registry.values }
+    ensures below { (before : ManagerState S) (trace : List (Entry S J J.Reply)) (after : ManagerState S) →
+        IsTrace S.begins S.serves J.may before trace after → AreBelow before.registry.next before.registry.values → AreBelow after.registry.next after.registry.values }
 {}
 
 /// In every trace of a new manager each owner of a descriptor is in the map of subscribers, and nobody owns the

@@ -24,7 +24,8 @@ use std::time::Clock;
 use vmm_sys::epoll::{ControlOperation, EventSet};
 use vmm_sys::eventfd::EventFd;
 
-/// The largest capacity of a manager: 2147483647 bytes in entries of 12 bytes each, rounded down.
+/// The largest capacity of a manager: 2147483647 bytes in entries of 12 bytes each, rounded down. A manager of it asks for
+/// 40 bytes an entry: 7.2 GB.
 pub const MAX_READY_EVENTS_CAPACITY: usize = 178956970;
 
 /// The capacity of [`EventManager::new`].
@@ -73,7 +74,9 @@ pub trait SubscriberOps {
     /// Lends the [`EventOps`] of the subscriber of the id, for requests from outside a batch. Takes no memory.
     ///
     /// Subscribers and next id stay as they are; the registrations and the poller are then what the requests made
-    /// through the loan leave. `InvalidId` where no subscriber has the id; then all stays as it was.
+    /// through the loan leave. `InvalidId` where no subscriber has the id; then all stays as it was. Who holds the loans of
+    /// two managers can swap what is behind them: each then has the other's registrations, and an event of an owner that is
+    /// held nowhere goes to nobody.
     fn event_ops(&mut self, id: SubscriberId) -> Result<&mut EventOps<Self::Poller>>
         ensures* lent { sem 𝓛 (LendsSoOk Self.row (ops_row Self.Poller.row) self.entry result (λ n w. seen n ≡ with_ops (seen self.old) w) (λ n. seen n ≡ seen self.old)) }
         ensures found { IfOk result (λ ops. StandsFor ops.now id (seen self.old)) }

@@ -1,7 +1,9 @@
 //! Subscribers in cells and under locks.
 
-use crate::counting::{Counting, counting_on, served_twice, two_reports};
-use crate::runs::{WithManager, no_memory, run_alone, silent_parts, with_manager};
+use crate::counting::{
+    Counting, SharedCounting, counting_on, served_twice, shared_counting, two_reports,
+};
+use crate::runs::{Parts, WithManager, no_memory, run_alone, silent_parts, with_manager};
 use event_manager::{EventManager, EventPoller, Locked, NoJob, PlainPoller, SubscriberOps};
 use std::cell::RefCell;
 use std::process::Abort;
@@ -12,6 +14,7 @@ use std::sync::{Arc, Wait};
 use std::test::Fail;
 use std::thread;
 use std::time::{Clock, Duration};
+use vmm_sys::script_poller::ScriptPoller;
 
 /// How many events the subscriber in the cell has counted; `None` where the cell is busy.
 fn count_in(cell: &RefCell<Counting>) -> Option<u64> {
@@ -148,19 +151,29 @@ fn lock_is_waited_for_and_left_free(rt: HostRuntime) -> Result<(), Fail> {
     Ok(())
 }
 
+/// Serves a subscriber under a lock the two reports, and sets the flag when that is done.
+fn serve_locked<R: Wait + Clock + Abort + Drop>(
+    rt: R,
+    parts: Parts<PlainPoller<ScriptPoller>>,
+    locked: Locked<SharedCounting, R>,
+    over: &AtomicU64,
+) -> event_manager::Result<()> {
+    let served = run_alone(&rt, parts, locked, &[(None, Ok(1)), (None, Ok(1))]);
+    over.store(1, Ordering::SeqCst);
+    served?;
+    Ok(())
+}
+
 #[test]
-fn owned_lock_is_called(rt: HostRuntime) -> Result<(), Fail> {
-    let turn = Arc::new(rt.alloc(), AtomicU64::new(0))?;
-    let their_turn = turn.clone()?;
+fn subscriber_under_a_lock_counts_in_an_atomic(rt: HostRuntime) -> Result<(), Fail> {
+    let count = Arc::new(rt.alloc(), AtomicU64::new(0))?;
+    let locked = Locked::new(shared_counting(&count)?, rt);
+    let over = Arc::new(rt.alloc(), AtomicU64::new(0))?;
+    let theirs = over.clone()?;
     let parts = silent_parts(rt, rt.alloc(), PlainPoller(two_reports(rt.alloc())?))?;
-    let runner = thread::spawn(&rt, move || {
-        let runs = [(None, Ok(1)), (None, Ok(1))];
-        let left = run_alone(&rt, parts, Locked::new(counting_on(3), rt), &runs);
-        let count = left.map(|locked| locked.mutex.lock(&rt).count);
-        their_turn.store(1, Ordering::SeqCst);
-        count
-    })?;
-    expect_turn(&rt, &turn, 1);
-    assert_eq!(rt; runner.join(&rt), Ok(2));
+    let runner = thread::spawn(&rt, move || serve_locked(rt, parts, locked, &theirs))?;
+    expect_turn(&rt, &over, 1);
+    assert_eq!(rt; runner.join(&rt), Ok(()));
+    assert_eq!(rt; count.load(Ordering::SeqCst), 2);
     Ok(())
 }

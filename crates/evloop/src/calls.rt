@@ -38,7 +38,7 @@ where
     let mut calls = Vec::new(alloc);
     calls.push(call)?;
     let mut replies = Vec::new(alloc);
-    let Ok(()) = drive(alloc, manager, calls, &mut replies, rt) else {
+    let Ok(()) = drive(manager, calls, &mut replies, rt) else {
         return Err(Fault::OutOfMemory);
     };
     match replies.pop() {

@@ -64,7 +64,6 @@ impl<R: Loop> Body for Driving<'_, R> {
         again!(
             CallName::Drive,
             drive(
-                alloc,
                 &mut manager,
                 again!(CallName::ListCalls, self.calls(first, second))?,
                 &mut replies,

@@ -5,7 +5,7 @@ ghost use Rattle.event_manager.specs.Driven.{answers_to};
 
 use crate::Result;
 use crate::calls::Call;
-use std::alloc::{AllocError, Global};
+use std::alloc::AllocError;
 
 /// A call, and an empty list with room for the answers to its requests.
 #[derive(Drop)]
@@ -28,12 +28,12 @@ fn count_requests<S>(call: &Call<S>) -> usize
 
 /// Makes the room for all calls. The last call stands first.
 pub(crate) fn plan_all<S: Drop>(
-    alloc: Global,
     calls: Vec<Call<S>>,
 ) -> std::result::Result<Vec<Planned<S>>, AllocError>
     ensures calls { IfOk result (λ plan. map (λ p. p.call) (reverse plan.items) ≡ calls.items) }
     ensures count { IfOk result (λ plan. vec_len plan ≡ vec_len calls) }
 {
+    let alloc = *calls.allocator();
     let mut calls = calls;
     let mut plan = Vec::with_capacity(alloc, calls.len())?;
     while let Some(call) = calls.pop() {

@@ -1,13 +1,13 @@
 //! What a manager and its endpoints share, and the manager's side of it.
 
-ghost use Rattle.std.specs.Prelude.{◌≡◌, [], IfErr, IfOk};
-ghost use Rattle.event_manager.specs.JobQueue.{tickets_and_jobs};
-ghost use Rattle.event_manager.specs.JobRuns.{HasRun, HaveRun, JobsAreRun};
+ghost use Rattle.std.specs.Prelude.{◌≡◌, ℕ, List, IfErr, IfOk};
+ghost use Rattle.event_manager.specs.JobRuns.{JobsAreRun};
 ghost use Rattle.event_manager.specs.Subscribers.{loop_state};
 
 use crate::endpoint::RemoteEndpoint;
 use crate::endpoint::closed::Closed;
-use crate::endpoint::slot::Slot;
+use crate::endpoint::runner::{JobRunner, WaitingJob};
+use crate::endpoint::slot::ReplySender;
 use crate::endpoint::state::ChannelState;
 use crate::jobs::{Entry, Job};
 use crate::poller::EventPoller;
@@ -26,47 +26,10 @@ use vmm_sys::eventfd::EventFd;
 /// What a manager and its endpoints share.
 #[derive(Drop)]
 pub(crate) struct Channel<S: MutEventSubscriber, J: Job<S>, L: Ledger, T: Ledger> {
-    pub(crate) state: Mutex<ChannelState<J, Arc<Slot<S, J>>, L, T>>,
+    pub(crate) state: Mutex<ChannelState<J, ReplySender<S, J>, L, T>>,
     pub(crate) event_fd: EventFd,
     // Of the slots.
     pub(crate) alloc: Global,
-}
-
-// A job that waits, with the slot of its caller.
-type WaitingJob<S, J> = Entry<J, Arc<Slot<S, J>>>;
-
-// Runs a job, and hands its reply to the caller that waits for it, if one does.
-fn run_one<S: MutEventSubscriber, J: Job<S>, P: EventPoller, R: Wait + Clock>(
-    entry: WaitingJob<S, J>,
-    registry: &mut Registry<S, P>,
-    rt: &R,
-)
-    ensures { HasRun S.begins J.may P.controls P.waits (loop_state registry.old) entry.job (loop_state registry.new) }
-{
-    let Entry {
-        ticket: _,
-        job,
-        slot,
-    } = entry;
-    let reply = job.call(registry, rt);
-    if let Some(slot) = slot {
-        slot.fill(reply, rt);
-    }
-}
-
-// Runs all jobs, the first one first.
-fn run_all<S: MutEventSubscriber, J: Job<S>, P: EventPoller, R: Wait + Clock>(
-    entries: &mut Vec<WaitingJob<S, J>>,
-    registry: &mut Registry<S, P>,
-    rt: &R,
-)
-    ensures ran { HaveRun S.begins J.may P.controls P.waits (loop_state registry.old) (tickets_and_jobs entries.old.items) (loop_state registry.new) }
-    ensures none_left { entries.new.items ≡ [] }
-{
-    entries.reverse();
-    while let Some(entry) = entries.pop() {
-        run_one(entry, registry, rt);
-    }
 }
 
 // Drops these jobs, and tells the callers that wait for their replies.
@@ -81,11 +44,12 @@ fn close_all<S: MutEventSubscriber, J: Job<S>, R: Wait + Clock>(
     }
 }
 
-/// The manager's side of the channel: it alone takes jobs. Contracts see how many it took.
+/// The manager's side of the channel: it alone takes jobs. Contracts see how many it took and ran.
 #[derive(Drop)]
 pub(crate) struct EventManagerChannel<S: MutEventSubscriber, J: Job<S>, L: Ledger, T: Ledger> {
     channel: Arc<Channel<S, J, L, T>>,
     taken: TakenCount<T>,
+    runner: JobRunner,
     // The list of the next take: it is empty between two runs, and keeps its room.
     next: Vec<WaitingJob<S, J>>,
 }
@@ -96,9 +60,9 @@ impl<S: MutEventSubscriber, J: Job<S>, L: Ledger, T: Ledger> Model
 
     ghost Value = { ℕ };
 
-    ghost view = { λ c. c.taken };
+    ghost view = { λ c. c.runner };
 
-    ghost invariant = { λ c. c.next.items ≡ [] };
+    ghost invariant = { λ c. (c.next.items ≡ []) × (c.taken ≡ c.runner) };
 }
 
 impl<S: MutEventSubscriber, J: Job<S>, L: Ledger, T: Ledger> EventManagerChannel<S, J, L, T> {
@@ -125,6 +89,7 @@ impl<S: MutEventSubscriber, J: Job<S>, L: Ledger, T: Ledger> EventManagerChannel
         Ok(EventManagerChannel {
             channel: Arc::new(alloc, channel)?,
             taken: count,
+            runner: JobRunner::new(),
             next: Vec::new(alloc),
         })
     }
@@ -146,14 +111,14 @@ impl<S: MutEventSubscriber, J: Job<S>, L: Ledger, T: Ledger> EventManagerChannel
         registry: &mut Registry<S, P>,
         rt: &R,
     )
-        ensures { JobsAreRun S.begins S.serves J.may P.controls P.waits (loop_state registry.old) self.old (loop_state registry.new) self.new }
+        ensures { (taken : List (ℕ × J)) × JobsAreRun S.begins S.serves J.may P.controls P.waits (loop_state registry.old) self.old taken (loop_state registry.new) self.new }
     {
         let _ = self.channel.event_fd.read(rt);
         self.channel
             .state
             .lock(rt)
             .take(&mut self.taken, &mut self.next);
-        run_all(&mut self.next, registry, rt);
+        self.runner.run_all(&mut self.next, registry, rt);
     }
 
     /// Closes the queue in one turn, and drops the jobs that wait.
@@ -163,6 +128,7 @@ impl<S: MutEventSubscriber, J: Job<S>, L: Ledger, T: Ledger> EventManagerChannel
         let EventManagerChannel {
             channel,
             taken: count,
+            runner: _,
             mut next,
         } = self;
         let taken = count.count();

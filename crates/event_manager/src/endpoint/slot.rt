@@ -1,13 +1,14 @@
-//! Where a caller waits for the reply of its job.
+//! Where a caller waits for the reply of its job: a slot with two ends.
 
 ghost use Rattle.std.specs.Prelude.{◌≡◌, IfOk, IfErr, IfSome};
-ghost use Rattle.event_manager.specs.declared.error.Error.TheVariants.{ChannelRecv};
+ghost use Rattle.event_manager.specs.declared.error.Error.TheVariants.{ChannelRecv, OutOfMemory};
 
 use crate::jobs::Job;
 use crate::subscribers::MutEventSubscriber;
 use crate::{Error, Result};
+use std::alloc::Global;
 use std::marker::{Model, PhantomData};
-use std::sync::{Condvar, Mutex, Wait};
+use std::sync::{Arc, Condvar, Mutex, Wait};
 
 // What the lock of a slot guards. Whatever reply is there meets the fact that its job type states.
 #[derive(Drop)]
@@ -28,10 +29,11 @@ impl<S: MutEventSubscriber, J: Job<S>> Model for Held<S, J> {
 }
 
 impl<S: MutEventSubscriber, J: Job<S>> Held<S, J> {
-    fn fill(&mut self, reply: J::Reply)
+    // Hands out what was there, so that no reply is dropped under the lock.
+    fn fill(&mut self, reply: J::Reply) -> Option<J::Reply>
         requires { J.replies reply }
     {
-        self.reply = Some(reply);
+        self.reply.replace(reply)
     }
 
     fn take(&mut self) -> Option<J::Reply>
@@ -49,15 +51,15 @@ impl<S: MutEventSubscriber, J: Job<S>> Held<S, J> {
     }
 }
 
-/// The slot of one call: filled once or closed once, under its own lock.
+// The slot of one call.
 #[derive(Drop)]
-pub(crate) struct Slot<S: MutEventSubscriber, J: Job<S>> {
+struct Slot<S: MutEventSubscriber, J: Job<S>> {
     held: Mutex<Held<S, J>>,
     changed: Condvar,
 }
 
 impl<S: MutEventSubscriber, J: Job<S>> Slot<S, J> {
-    pub(crate) fn new() -> Self {
+    fn new() -> Self {
         Slot {
             held: Mutex::new(Held {
                 reply: None,
@@ -67,29 +69,62 @@ impl<S: MutEventSubscriber, J: Job<S>> Slot<S, J> {
             changed: Condvar::new(),
         }
     }
+}
 
+/// The end of a slot by which it is filled once or closed once: either uses it up. No reply is dropped under the slot's
+/// lock.
+#[derive(Drop)]
+pub(crate) struct ReplySender<S: MutEventSubscriber, J: Job<S>> {
+    slot: Arc<Slot<S, J>>,
+}
+
+impl<S: MutEventSubscriber, J: Job<S>> ReplySender<S, J> {
     /// Puts the reply in, and wakes the caller.
-    pub(crate) fn fill<R: Wait>(&self, reply: J::Reply, rt: &R)
+    pub(crate) fn fill<R: Wait>(self, reply: J::Reply, rt: &R)
         requires { J.replies reply }
     {
-        self.held.lock(rt).fill(reply);
-        self.changed.notify_all();
+        let _none = self.slot.held.lock(rt).fill(reply);
+        self.slot.changed.notify_all();
     }
 
     /// Tells the caller that no reply will come.
-    pub(crate) fn close<R: Wait>(&self, rt: &R) {
-        self.held.lock(rt).close();
-        self.changed.notify_all();
+    pub(crate) fn close<R: Wait>(self, rt: &R) {
+        self.slot.held.lock(rt).close();
+        self.slot.changed.notify_all();
     }
+}
 
+/// The end of a slot at which the caller waits.
+#[derive(Drop)]
+pub(crate) struct ReplyReceiver<S: MutEventSubscriber, J: Job<S>> {
+    slot: Arc<Slot<S, J>>,
+}
+
+impl<S: MutEventSubscriber, J: Job<S>> ReplyReceiver<S, J> {
     /// Waits for the reply. `ChannelRecv` where the slot was closed.
-    pub(crate) fn wait<R: Wait>(&self, rt: &R) -> Result<J::Reply>
+    pub(crate) fn wait<R: Wait>(self, rt: &R) -> Result<J::Reply>
         ensures fact { IfOk result (λ r. J.replies r) }
         ensures closed { IfErr result (λ e. e ≡ ChannelRecv) }
     {
-        let mut held = self
+        let slot = &*self.slot;
+        let mut held = slot
             .changed
-            .wait_while(rt, self.held.lock(rt), |held| !held.is_settled());
+            .wait_while(rt, slot.held.lock(rt), |held| !held.is_settled());
         held.take().ok_or(Error::ChannelRecv)
+    }
+}
+
+/// A new slot. `OutOfMemory` where memory, or one more owner, is refused.
+pub(crate) fn new_slot<S: MutEventSubscriber, J: Job<S>>(
+    alloc: Global,
+) -> Result<(ReplySender<S, J>, ReplyReceiver<S, J>)>
+    ensures { IfErr result (λ e. e ≡ OutOfMemory) }
+{
+    let Ok(own) = Arc::new(alloc, Slot::new()) else {
+        return Err(Error::OutOfMemory);
+    };
+    match Arc::try_clone(&own) {
+        Ok(theirs) => Ok((ReplySender { slot: theirs }, ReplyReceiver { slot: own })),
+        Err(_) => Err(Error::OutOfMemory),
     }
 }

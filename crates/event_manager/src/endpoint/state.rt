@@ -1,12 +1,12 @@
 //! What lies under the lock of the job queue.
 
 ghost use Rattle.std.specs.Prelude.{◌≡◌, ◌+◌, ◌<◌, ◌≤◌, [], length, Err, IfOk, IfErr, vec_len, false};
-ghost use Rattle.event_manager.specs.JobQueue.{new_queue, after_take, after_close, IsSend, TicketsFollow};
+ghost use Rattle.event_manager.specs.JobQueue.{new_queue, after_take, after_close, IsSend, TicketsFollow, answer_of};
 ghost use Rattle.event_manager.specs.Endpoint.{IsSendRefusal};
 ghost use Rattle.event_manager.specs.declared.error.Error.TheVariants.{TicketsUsedUp};
 
-use crate::jobs::{Bell, Entry, JobQueue};
-use crate::{Error, Result};
+use crate::Error;
+use crate::jobs::{Bell, Entry, JobQueue, Refused};
 use job_tickets::taken::{TakenBook, TakenCount};
 use job_tickets::tickets::{Register, Ticket};
 use std::alloc::Global;
@@ -59,27 +59,28 @@ impl<J, Q, L: Ledger, T: Ledger> ChannelState<J, Q, L, T> {
         self.queue.waiting()
     }
 
-    /// Sends a job, and issues its ticket.
+    /// Sends a job, and issues its ticket. Where it is refused, job and slot come back.
     pub(crate) fn send<B: Bell, R: Wait + Clock>(
         &mut self,
         job: J,
         slot: Option<Q>,
         bell: &B,
         rt: &R,
-    ) -> Result<Ticket<L>>
-    where
-        J: Drop,
-        Q: Drop,
-        ensures { IsSend (B.rings bell.now) self.old job slot result self.new }
+    ) -> std::result::Result<Ticket<L>, Refused<J, Q>>
+        ensures sent { IsSend (B.rings bell.now) self.old job slot (answer_of result) self.new }
+        ensures handed_back { IfErr result (λ refused. (refused.job ≡ job) × (refused.slot ≡ slot)) }
     {
-        self.queue.send(job, slot, bell, rt)?;
+        match self.queue.offer(job, slot, bell, rt) {
+            Ok(_) => {}
+            Err(refused) => return Err(refused),
+        }
         match &mut self.register {
             Some(register) => Ok(register.issue()),
             None => unreachable!(),
         }
     }
 
-    /// Sends a job whose ticket has a number above the shown one's.
+    /// Sends a job whose ticket has a number above the shown one's. Where it is refused, job and slot come back.
     pub(crate) fn send_after<B: Bell, R: Wait + Clock>(
         &mut self,
         shown: &Ticket<L>,
@@ -87,17 +88,19 @@ impl<J, Q, L: Ledger, T: Ledger> ChannelState<J, Q, L, T> {
         slot: Option<Q>,
         bell: &B,
         rt: &R,
-    ) -> Result<Ticket<L>>
-    where
-        J: Drop,
-        Q: Drop,
+    ) -> std::result::Result<Ticket<L>, Refused<J, Q>>
         ensures above { IfOk result (λ n. shown.now < n) }
-        ensures sent { shown.now ≤ self.old.issued → IsSend (B.rings bell.now) self.old job slot result self.new }
-        ensures not_issued { self.old.issued < shown.now → (result ≡ Err TicketsUsedUp) × (self.new ≡ self.old) }
-        ensures refusals { IfErr result IsSendRefusal }
+        ensures sent { shown.now ≤ self.old.issued → IsSend (B.rings bell.now) self.old job slot (answer_of result) self.new }
+        ensures not_issued { self.old.issued < shown.now → (answer_of result ≡ Err TicketsUsedUp) × (self.new ≡ self.old) }
+        ensures handed_back { IfErr result (λ refused. (refused.job ≡ job) × (refused.slot ≡ slot)) }
+        ensures refusals { IfErr result (λ refused. IsSendRefusal refused.error) }
     {
         if shown.number() > self.queue.issued() {
-            return Err(Error::TicketsUsedUp);
+            return Err(Refused {
+                error: Error::TicketsUsedUp,
+                job,
+                slot,
+            });
         }
         self.send(job, slot, bell, rt)
     }

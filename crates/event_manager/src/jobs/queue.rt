@@ -1,7 +1,7 @@
 //! The queue of jobs, without locks.
 
-ghost use Rattle.std.specs.Prelude.{◌≡◌, ◌+◌, ◌≤◌, true, [], length};
-ghost use Rattle.event_manager.specs.JobQueue.{new_queue, after_take, after_close, IsSend, TicketsFollow};
+ghost use Rattle.std.specs.Prelude.{◌≡◌, ◌+◌, ◌≤◌, true, [], length, IfErr};
+ghost use Rattle.event_manager.specs.JobQueue.{new_queue, after_take, after_close, IsSend, TicketsFollow, answer_of};
 
 use crate::{Error, Result};
 use job_tickets::tickets::MOST_TICKETS;
@@ -48,6 +48,14 @@ pub struct Entry<J, Q> {
     pub job: J,
     /// Where its reply goes.
     pub slot: Option<Q>,
+}
+
+/// A send that was refused: why, and what was to be sent.
+#[derive(Drop)]
+pub(crate) struct Refused<J, Q> {
+    pub(crate) error: Error,
+    pub(crate) job: J,
+    pub(crate) slot: Option<Q>,
 }
 
 /// Jobs that wait, in the order of their tickets.
@@ -123,22 +131,39 @@ impl<J, Q> JobQueue<J, Q> {
         Q: Drop,
         ensures { IsSend (B.rings bell.now) self.old job slot result self.new }
     {
-        if self.closed {
-            return Err(Error::ChannelSend);
+        match self.offer(job, slot, bell, rt) {
+            Ok(ticket) => Ok(ticket),
+            Err(refused) => Err(refused.error),
         }
-        if self.issued == MOST_TICKETS {
-            return Err(Error::TicketsUsedUp);
-        }
-        if self.waiting.reserve(1).is_err() {
-            return Err(Error::OutOfMemory);
-        }
-        if let Err(errno) = bell.ring(rt) {
-            return Err(Error::EventFd(errno));
-        }
-        let ticket = self.issued + 1;
-        self.waiting.push_reserved(Entry { ticket, job, slot });
-        self.issued = ticket;
-        Ok(ticket)
+    }
+
+    /// As [`send`](JobQueue::send), but job and slot come back where they are refused: so whoever holds a lock round the
+    /// queue drops none under it.
+    pub(crate) fn offer<B: Bell, R: Wait + Clock>(
+        &mut self,
+        job: J,
+        slot: Option<Q>,
+        bell: &B,
+        rt: &R,
+    ) -> std::result::Result<u64, Refused<J, Q>>
+        ensures sent { IsSend (B.rings bell.now) self.old job slot (answer_of result) self.new }
+        ensures handed_back { IfErr result (λ refused. (refused.job ≡ job) × (refused.slot ≡ slot)) }
+    {
+        let error = if self.closed {
+            Error::ChannelSend
+        } else if self.issued == MOST_TICKETS {
+            Error::TicketsUsedUp
+        } else if self.waiting.reserve(1).is_err() {
+            Error::OutOfMemory
+        } else if let Err(errno) = bell.ring(rt) {
+            Error::EventFd(errno)
+        } else {
+            let ticket = self.issued + 1;
+            self.waiting.push_reserved(Entry { ticket, job, slot });
+            self.issued = ticket;
+            return Ok(ticket);
+        };
+        Err(Refused { error, job, slot })
     }
 
     /// Hands out all jobs that wait, and counts them as taken. The two lists change places, so it takes no memory.

@@ -1,4 +1,5 @@
-//! What a run does with an endpoint that is written to again, which nobody outside the crate can do.
+//! What a run does with an endpoint that is written to again, and how many jobs wait under a held lock: nobody outside the
+//! crate can write there or hold it.
 
 use super::*;
 use crate::poller::PlainPoller;
@@ -76,5 +77,52 @@ fn endpoint_event_is_answered_by_its_own_run_alone(
         event_fd,
     });
     assert_eq!(rt; left, Ok(Ok(1)));
+    Ok(())
+}
+
+/// How many jobs wait while the queue's lock is held, and then.
+struct PendingUnderLock<'a, R> {
+    rt: &'a R,
+    alloc: Global,
+    event_fd: EventFd,
+}
+
+impl<R: Wait + Clock> WithLedgers for PendingUnderLock<'_, R> {
+    type Output = Result<(Option<usize>, Option<usize>)>;
+
+    fn run<L: Ledger + Send + Sync, T: Ledger + Send + Sync>(
+        self,
+        tickets: Blank,
+        taken: Blank,
+    ) -> Result<(Option<usize>, Option<usize>)> {
+        let PendingUnderLock {
+            rt,
+            alloc,
+            event_fd,
+        } = self;
+        let poller = PlainPoller(ScriptPoller::new(alloc));
+        let manager = EventManager::<Idle, NoJob, L, T, _>::new(
+            alloc, poller, event_fd, tickets, taken,
+        )?;
+        let endpoint = manager.remote_endpoint()?;
+        endpoint.fire(NoJob, rt)?;
+        let held = endpoint.channel.state.lock(rt);
+        let pending = endpoint.pending();
+        drop(held);
+        Ok((pending, endpoint.pending()))
+    }
+}
+
+#[test]
+fn pending_is_unknown_while_the_lock_is_held(rt: HostRuntime) -> std::result::Result<(), Fail> {
+    let alloc = rt.alloc();
+    let epoll = Epoll::new(rt, alloc)?;
+    let event_fd = EventFd::new(&epoll, 0, &rt)?;
+    let pending = with_ledgers(PendingUnderLock {
+        rt: &rt,
+        alloc,
+        event_fd,
+    });
+    assert_eq!(rt; pending, Ok((None, Some(1))));
     Ok(())
 }

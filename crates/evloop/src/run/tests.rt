@@ -617,6 +617,38 @@ fn lines_of_subscribers_that_cannot_be_written_are_dropped(rt: HostRuntime) -> R
     Ok(())
 }
 
+// Of two replies the first can't be written: to an `ask`, of a join and of a reaction.
+#[test]
+fn a_reply_behind_one_that_cannot_be_written_is_written(rt: HostRuntime) -> Result<(), Fail> {
+    let table = [
+        (
+            "sub a add 3 IN 0\nask a modify 3 OUT 1 remove 3\nrun\n",
+            2,
+            "reply a add 3: ok\nsub a: 1\nreply a remove 3: ok\nrun: 0\n",
+        ),
+        (
+            "sub a add 3 IN 0 add 4 IN 0\nrun\n",
+            0,
+            "reply a add 4: ok\nsub a: 1\nrun: 0\n",
+        ),
+        (
+            "sub a add 3 IN 0\non a 3 modify 3 OUT 1 remove 3\nbatch 3:IN:0\nrun\n",
+            3,
+            "reply a add 3: ok\nsub a: 1\ndeliver a 3 IN 0\nreply a remove 3: ok\nrun: 1\n",
+        ),
+    ];
+    for (script, write, want) in table {
+        let terms = Terms {
+            refused: Refused::Only(write),
+            ..ALL
+        };
+        let (fault, text) = outcome(&rt, script, terms)?;
+        assert_eq!(rt; fault, None);
+        assert_eq!(rt; text.as_str(), want);
+    }
+    Ok(())
+}
+
 #[test]
 fn lines_of_the_program_that_cannot_be_written_end_it(rt: HostRuntime) -> Result<(), Fail> {
     let table = [

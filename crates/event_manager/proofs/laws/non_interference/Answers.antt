@@ -5,5 +5,5 @@ use Rattle.event_manager.proofs.laws.non_interference.Goals as goal
 pub returns : goal.returns
 returns g c = record {
   traces = λ before trace after h. non_interference g.S.MutEventSubscriber.begins g.S.MutEventSubscriber.serves g.J.Job.may before trace after h;
-  keeps = λ trace after. projection_keeps trace after;
+  keeps = λ trace. projection_keeps trace;
 }

@@ -4,8 +4,8 @@ use Rattle.event_manager.specs.ReadyList.{event_of_entry, ready_of}
 use Rattle.event_manager.proofs.Buffer.{ready_more}
 use Rattle.event_manager.proofs.epoll.Registrations.next_ready.Goals as goal
 
-pub returns-then-self : goal.returns-then-self
-returns-then-self c =
+pub returns-else-self-2 : goal.returns-else-self-2
+returns-else-self-2 c =
     let b = c.self.inside in
     let inv = c.self.invariant in
     let e = c.index.result.now in

@@ -24,7 +24,7 @@ invariant_of-self c =
     let inv = c.self.invariant in
     let owns = rw (← c.self.view_is, ← c.number-fd.ensures.value) at c.requires in
     let holds = consistent_removed b.owners c.disown.new.owners b.owned b.raised b.watched c.remove.new.self b.cancelled.items (vec_len b.cancelled) _ inv.3 c.number-fd.result c.args.id c.disown.new.owned c.disown.new.raised owns c.disown.ensures.disowned c.disown.ensures.counted c.enter.new.list.items _ _ c.remove.ensures.sorted c.remove.ensures.removed c.enter.ensures.ascending c.enter.ensures.len c.enter.ensures.capacity in
-    (inv.0, inv.1, inv.2, holds)
+    (inv.0, inv.1, inv.2, holds, λ over. absurd (omega (arith, over, c.if-self.true)))
 
 pub invariant_of-self-else-self : goal.invariant_of-self-else-self
 invariant_of-self-else-self c =
@@ -32,7 +32,7 @@ invariant_of-self-else-self c =
     let inv = c.self.invariant in
     let owns = rw (← c.self.view_is, ← c.number-fd.ensures.value) at c.requires in
     let holds = consistent_removed b.owners c.disown.new.owners b.owned b.raised b.watched c.remove.new.self b.cancelled.items (vec_len b.cancelled) _ inv.3 c.number-fd.result c.args.id c.disown.new.owned c.disown.new.raised owns c.disown.ensures.disowned c.disown.ensures.counted b.cancelled.items (vec_len b.cancelled) _ c.remove.ensures.sorted c.remove.ensures.removed inv.3.ascending (omega arith) (omega arith) in
-    (inv.0, inv.1, inv.2, holds)
+    (inv.0, inv.1, inv.2, holds, inv.4)
 
 pub returns-then-self : goal.returns-then-self
 returns-then-self c =

@@ -12,7 +12,7 @@ invariant_of-self c =
     let inv = c.self.invariant in
     let gone = rw c.deref.ensures.value at c.disown_all.ensures.disowned in
     let holds = consistent_taken b.owners c.disown_all.new.owners b.owned b.raised b.watched c.take-fds.new.self b.cancelled.items (vec_len b.cancelled) _ inv.3 c.args.id c.disown_all.new.owned c.disown_all.new.raised c.take-fds.result.items c.take-fds.ensures.value gone c.disown_all.ensures.counted c.disown_all.ensures.fewer c.take-fds.ensures.sorted c.take-fds.ensures.taken in
-    (inv.0, inv.1, inv.2, holds)
+    (inv.0, inv.1, inv.2, holds, inv.4)
 
 pub returns-clause-owned : goal.returns-clause-owned
 returns-clause-owned c =

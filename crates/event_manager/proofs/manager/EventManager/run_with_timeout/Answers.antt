@@ -9,7 +9,7 @@ returns-then-batch g c =
     let old = c.args.self.now in
     let batch = rw (to_z-of_z _ _ c.ranges.ms) at c.in_ok-batch.ensures in
     with_jobs g.S.MutEventSubscriber.begins g.S.MutEventSubscriber.serves g.J.Job.may g.P.EventPoller.controls g.P.EventPoller.waits
-    old.channel c.run_jobs.new.self (loop_state old.registry) (loop_state c.run_with_timeout.new.self) (loop_state c.run_jobs.new.registry) c.args.ms c.in_ok-batch.batch batch c.if-batch.true c.run_jobs.ensures
+    old.channel c.run_jobs.new.self (loop_state old.registry) (loop_state c.run_with_timeout.new.self) (loop_state c.run_jobs.new.registry) c.args.ms c.in_ok-batch.batch batch c.if-batch.true c.run_jobs.ensures.0 c.run_jobs.ensures.1
 
 pub returns-else-batch : goal.returns-else-batch
 returns-else-batch g c =

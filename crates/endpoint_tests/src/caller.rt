@@ -1,0 +1,56 @@
+//! A caller on a thread of its own, looked at from outside with a bound.
+
+use crate::making::Idle;
+use crate::threads::{Host, LIMIT};
+use crate::work::Work;
+use event_manager::{RemoteEndpoint, Result};
+use std::alloc::Global;
+use std::sync::Arc;
+use std::sync::atomic::{AtomicBool, Ordering};
+use std::sync::ledger::Ledger;
+use std::test::Fail;
+use std::thread;
+use std::thread::JoinHandle;
+use std::time::Duration;
+
+/// A thread that calls once.
+#[derive(Drop)]
+pub struct Caller {
+    over: Arc<AtomicBool, Global>,
+    thread: JoinHandle<Result<u64>>,
+}
+
+impl Caller {
+    /// Calls by this endpoint for the reply of this job.
+    pub fn start<L, T, R>(
+        rt: R,
+        alloc: Global,
+        endpoint: RemoteEndpoint<Idle, Work, L, T>,
+        job: Work,
+    ) -> std::result::Result<Caller, Fail>
+    where
+        L: Ledger + Send + Sync + 'static,
+        T: Ledger + Send + Sync + 'static,
+        R: Host + 'static,
+    {
+        let over = Arc::new(alloc, AtomicBool::new(false))?;
+        let theirs = Arc::try_clone(&over)?;
+        let thread = thread::spawn(&rt, move || {
+            let reply = endpoint.call_blocking(job, &rt);
+            theirs.store(true, Ordering::SeqCst);
+            reply
+        })?;
+        Ok(Caller { over, thread })
+    }
+
+    /// The reply. Ends the test where it doesn't come.
+    pub fn reply<R: Host>(self, rt: &R) -> Result<u64> {
+        for _turn in 0..LIMIT {
+            if self.over.load(Ordering::SeqCst) {
+                return self.thread.join(rt);
+            }
+            thread::sleep(rt, Duration::from_millis(1));
+        }
+        panic!(rt; "the caller still waits");
+    }
+}

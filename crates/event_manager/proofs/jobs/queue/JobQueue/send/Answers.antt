@@ -1,9 +1,0 @@
-use Rattle.std.proofs.Common.{arith, ◌≡◌, false, refl}
-use Rattle.event_manager.proofs.QueueLemmas.{is_queue_push}
-use Rattle.event_manager.proofs.jobs.queue.JobQueue.send.Goals as goal
-
-pub invariant_of-self-2 : goal.invariant_of-self-2
-invariant_of-self-2 g c =
-    let is-open : c.self.inside.closed ≡ false = c.if-self.false in
-    let ok = rw is-open at c.self.invariant in
-    rw (c.push_reserved.ensures.items, c.reserve.ensures.items, is-open) (is_queue_push _ _ _ _ ok (omega arith) refl)
