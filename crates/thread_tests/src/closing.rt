@@ -1,0 +1,111 @@
+//! A call beside a close: it is answered, whichever comes first.
+
+ghost use Rattle.std.specs.Prelude.{◌≡◌};
+
+use crate::fixture::{Loop, Progress, Sender, Task, make, spin};
+use crate::host::{Host, Rounds};
+use event_manager::{Error, Result};
+use std::alloc::Global;
+use std::marker::Brand;
+use std::sync::atomic::{AtomicBool, Ordering};
+use std::sync::ledger::{Blank, Ledger};
+use std::sync::{Arc, Wait};
+use std::thread;
+use std::time::Clock;
+
+const ROUNDS: u64 = 10_000;
+
+/// For how many turns a close waits at most once the caller has started.
+const MOST_TURNS: u64 = 256;
+
+/// How often a close looks at most whether the caller has started.
+const LOOKS: u32 = 1_000_000;
+
+/// Says that it starts, and calls.
+fn call<L: Ledger, T: Ledger, R: Wait + Clock>(
+    rt: &R,
+    endpoint: &Sender<L, T>,
+    job: Task,
+    started: &AtomicBool,
+) -> Result<u64> {
+    started.store(true, Ordering::SeqCst);
+    endpoint.call_blocking(job, rt)
+}
+
+/// Closes so many turns after the caller has started.
+fn close<L: Ledger, T: Ledger, R: Wait + Clock + Clone + Send + Drop>(
+    rt: &R,
+    manager: Loop<L, T, R>,
+    turns: u64,
+    started: &AtomicBool,
+) {
+    for _look in 0..LOOKS {
+        if started.load(Ordering::SeqCst) {
+            break;
+        }
+    }
+    spin(turns);
+    manager.close(rt);
+}
+
+/// A caller beside a close of a new manager, for which a job without a caller waits.
+fn close_beside_call<L: Ledger + Send + Sync, T: Ledger + Send + Sync, R: Host>(
+    rt: &R,
+    alloc: Global,
+    turns: u64,
+    tickets: Blank,
+    taken: Blank,
+) -> Result<()>
+    requires tickets_name { tickets.name ≡ L.name }
+    requires tickets_parts { (tickets.parts ≡ L.parts) × (tickets.parts ≡ 9223372036854775808) }
+    requires taken_name { taken.name ≡ T.name }
+    requires taken_parts { (taken.parts ≡ T.parts) × (taken.parts ≡ 1) }
+{
+    let progress = Arc::new(alloc, Progress::new())?;
+    let (manager, _epoll) = make::<L, T, R>(*rt, alloc, tickets, taken)?;
+    let endpoint = manager.remote_endpoint()?;
+    let (first, second) = (
+        Task::Count(progress.clone()?),
+        Task::Count(progress.clone()?),
+    );
+    endpoint.fire(first, rt)?;
+    let started = AtomicBool::new(false);
+    let (reply, ()) = thread::join(
+        rt,
+        || call(rt, &endpoint, second, &started),
+        || close(rt, manager, turns, &started),
+    );
+    let is_refused = reply == Err(Error::ChannelRecv) || reply == Err(Error::ChannelSend);
+    assert!(rt; is_refused, "{reply:?}");
+    assert_eq!(rt; Arc::strong_count(&progress), 1);
+    Ok(())
+}
+
+/// Closes a new manager in each round.
+fn close_all<R: Host>(rt: &R, alloc: Global, rounds: &Rounds) -> Result<()> {
+    for round in 0..ROUNDS {
+        if !rounds.has_time() {
+            break;
+        }
+        let (tickets, taken) = (Blank::new(9223372036854775808), Blank::new(1));
+        close_beside_call::<Brand, Brand, R>(rt, alloc, round % MOST_TURNS, tickets, taken)?;
+        rounds.count();
+    }
+    Ok(())
+}
+
+#[test]
+fn a_call_beside_a_close_is_answered(rt: HostRuntime) {
+    let rounds = Rounds::new();
+    let alloc = rt.alloc();
+    let (_, closed) = thread::join(
+        &rt,
+        || rounds.look_on(&rt),
+        || {
+            let closed = close_all(&rt, alloc, &rounds);
+            rounds.end();
+            closed
+        },
+    );
+    assert_eq!(rt; closed, Ok(()));
+}

@@ -1,0 +1,87 @@
+//! What the tests need of the runtime, and the thread that looks on.
+
+use std::process::Abort;
+use std::sync::Wait;
+use std::sync::atomic::{AtomicBool, AtomicU64, Ordering};
+use std::thread;
+use std::thread::Threads;
+use std::time::{Clock, Duration, Instant};
+
+pub trait Host: Threads + Wait + Clock + Abort + Copy + Send + Sync + Drop {}
+
+impl<R: Threads + Wait + Clock + Abort + Copy + Send + Sync + Drop> Host for R {}
+
+/// How many milliseconds a round may last.
+const PATIENCE: u64 = 10_000;
+
+/// How many milliseconds the rounds of a test may last, on a busy machine where they are fewer.
+const MOST_TIME: u64 = 15_000;
+
+/// How far the rounds of a test are.
+#[derive(Drop)]
+pub struct Rounds {
+    over: AtomicU64,
+    time_is_up: AtomicBool,
+    ended: AtomicBool,
+}
+
+impl Rounds {
+    pub fn new() -> Self {
+        Rounds {
+            over: AtomicU64::new(0),
+            time_is_up: AtomicBool::new(false),
+            ended: AtomicBool::new(false),
+        }
+    }
+
+    /// Whether there is time for one more.
+    pub fn has_time(&self) -> bool {
+        !self.time_is_up.load(Ordering::SeqCst)
+    }
+
+    /// Counts one that is over.
+    pub fn count(&self) {
+        self.over.fetch_add(1, Ordering::SeqCst);
+    }
+
+    /// Ends them.
+    pub fn end(&self) {
+        self.ended.store(true, Ordering::SeqCst);
+    }
+
+    pub fn have_ended(&self) -> bool {
+        self.ended.load(Ordering::SeqCst)
+    }
+
+    /// Looks on until they have ended. Ends the test where one lasts too long.
+    pub fn look_on<R: Wait + Clock + Abort>(&self, rt: &R) {
+        let begin = time(rt);
+        let (mut seen, mut since) = (0, begin);
+        for _look in rt.forever() {
+            if self.have_ended() {
+                break;
+            }
+            let now = time(rt);
+            let over = self.over.load(Ordering::SeqCst);
+            if over != seen {
+                (seen, since) = (over, now);
+            }
+            let (lasts, last) = (
+                now.saturating_duration_since(since),
+                now.saturating_duration_since(begin),
+            );
+            assert!(rt;
+                lasts < Duration::from_millis(PATIENCE),
+                "round {over} does not end"
+            );
+            if last > Duration::from_millis(MOST_TIME) {
+                self.time_is_up.store(true, Ordering::SeqCst);
+            }
+            thread::sleep(rt, Duration::from_millis(1));
+        }
+    }
+}
+
+fn time<R: Clock + Abort>(rt: &R) -> Instant {
+    Instant::now(rt).expect(rt, "the clock is read")
+}

@@ -1,0 +1,203 @@
+//! One sender, and a loop that waits without a limit: no wake-up between the two is lost.
+
+ghost use Rattle.std.specs.Prelude.{◌≡◌};
+
+use crate::fixture::{Loop, Progress, Sender, Task, make};
+use crate::host::{Host, Rounds};
+use event_manager::Result;
+use std::alloc::Global;
+use std::marker::Brand;
+use std::process::Abort;
+use std::sync::atomic::Ordering;
+use std::sync::ledger::{Blank, Ledger};
+use std::sync::{Arc, Wait};
+use std::test::Fail;
+use std::thread;
+use std::time::Clock;
+use vmm_sys::epoll::{Epoll, EpollEvent, EventSet};
+use vmm_sys::poller::Poller;
+
+const ROUNDS: u64 = 10_000;
+
+/// For how many turns a first job holds up the loop at most, so that the sends behind it come at each point of the
+/// loop's next turn.
+const MOST_TURNS: u64 = 256;
+
+/// How often a sender looks at most whether the loop is where it is to be.
+const LOOKS: u32 = 100_000;
+
+type Shared = Arc<Progress, Global>;
+
+/// Sends a job, and goes on once it runs; while it does, sends another one, and calls for the reply of a third.
+fn call_beside_job<L: Ledger, T: Ledger, R: Wait + Clock>(
+    rt: &R,
+    endpoint: &Sender<L, T>,
+    progress: &Shared,
+    round: u64,
+) -> Result<()> {
+    let (second, third) = (
+        Task::Count(progress.clone()?),
+        Task::Count(progress.clone()?),
+    );
+    endpoint.fire(Task::Begin(progress.clone()?, round % MOST_TURNS), rt)?;
+    for _look in 0..LOOKS {
+        if progress.begun.load(Ordering::SeqCst) > round {
+            break;
+        }
+    }
+    endpoint.fire(second, rt)?;
+    endpoint.call_blocking(third, rt)?;
+    Ok(())
+}
+
+/// Sends a job, and another one as soon as the first is taken. Goes on once both were run.
+fn fire_behind_take<L: Ledger, T: Ledger, R: Wait + Clock>(
+    rt: &R,
+    endpoint: &Sender<L, T>,
+    progress: &Shared,
+) -> Result<()> {
+    let (first, second) = (
+        Task::Count(progress.clone()?),
+        Task::Count(progress.clone()?),
+    );
+    endpoint.fire(first, rt)?;
+    for _look in 0..LOOKS {
+        if endpoint.pending() == Some(0) {
+            break;
+        }
+    }
+    endpoint.fire(second, rt)?;
+    for _look in rt.forever() {
+        if Arc::strong_count(progress) == 1 {
+            break;
+        }
+    }
+    Ok(())
+}
+
+/// Sends two or three jobs, the last while the loop is on its way round.
+fn send_round<L: Ledger, T: Ledger, R: Wait + Clock>(
+    rt: &R,
+    endpoint: &Sender<L, T>,
+    progress: &Shared,
+    round: u64,
+) -> Result<()> {
+    if round % 2 == 0 {
+        call_beside_job(rt, endpoint, progress, round / 2)
+    } else {
+        fire_behind_take(rt, endpoint, progress)
+    }
+}
+
+/// Sends in each round, and then lets the loop end.
+fn send_all<L: Ledger, T: Ledger, R: Wait + Clock + Abort>(
+    rt: &R,
+    endpoint: &Sender<L, T>,
+    progress: &Shared,
+    rounds: &Rounds,
+) {
+    for round in 0..ROUNDS {
+        if !rounds.has_time() {
+            break;
+        }
+        assert_eq!(rt; send_round(rt, endpoint, progress, round), Ok(()));
+        rounds.count();
+    }
+    progress.all_sent.store(true, Ordering::SeqCst);
+    assert_eq!(rt; endpoint.kick(rt), Ok(()));
+}
+
+/// Runs without a limit until all was sent. What it then leaves to be read ends the wait beside it.
+fn run_all<L: Ledger, T: Ledger, R: Wait + Clock + Clone + Send + Drop + Abort>(
+    rt: &R,
+    manager: &mut Loop<L, T, R>,
+    endpoint: &Sender<L, T>,
+    progress: &Progress,
+) {
+    for _turn in rt.forever() {
+        assert_eq!(rt; manager.run_with_timeout(-1, rt), Ok(1));
+        if progress.all_sent.load(Ordering::SeqCst) {
+            break;
+        }
+    }
+    assert_eq!(rt; endpoint.kick(rt), Ok(()));
+}
+
+/// Waits on the loop's table until all was sent, again as long as something is there: so the loop mostly finds somebody at
+/// the table's lock, and stays there for a while.
+fn wait_beside<R: Wait + Clock + Clone + Send + Drop>(
+    rt: &R,
+    epoll: Epoll<R>,
+    progress: &Progress,
+) {
+    let mut epoll = epoll;
+    let mut buffer = [EpollEvent::new(EventSet::empty(), 0)];
+    for _turn in rt.forever() {
+        let _ = epoll.wait(-1, &mut buffer);
+        if progress.all_sent.load(Ordering::SeqCst) {
+            break;
+        }
+    }
+}
+
+/// A loop, and who waits beside it.
+fn run_beside_wait<L: Ledger + Send + Sync, T: Ledger + Send + Sync, R: Host>(
+    rt: &R,
+    manager: &mut Loop<L, T, R>,
+    endpoint: &Sender<L, T>,
+    epoll: Epoll<R>,
+    progress: &Progress,
+) {
+    thread::join(
+        rt,
+        || run_all(rt, manager, endpoint, progress),
+        || wait_beside(rt, epoll, progress),
+    );
+}
+
+/// A sender, a loop, and who waits beside it.
+fn send_beside_loop<L: Ledger + Send + Sync, T: Ledger + Send + Sync, R: Host>(
+    rt: &R,
+    manager: &mut Loop<L, T, R>,
+    endpoint: &Sender<L, T>,
+    epoll: Epoll<R>,
+    progress: &Shared,
+    rounds: &Rounds,
+) {
+    thread::join(
+        rt,
+        || send_all(rt, endpoint, progress, rounds),
+        || run_beside_wait(rt, manager, endpoint, epoll, progress),
+    );
+    rounds.end();
+}
+
+/// The rounds of a new manager, and who looks on.
+fn send_rounds<L: Ledger + Send + Sync, T: Ledger + Send + Sync, R: Host>(
+    rt: &R,
+    alloc: Global,
+    tickets: Blank,
+    taken: Blank,
+) -> std::result::Result<(), Fail>
+    requires tickets_name { tickets.name ≡ L.name }
+    requires tickets_parts { (tickets.parts ≡ L.parts) × (tickets.parts ≡ 9223372036854775808) }
+    requires taken_name { taken.name ≡ T.name }
+    requires taken_parts { (taken.parts ≡ T.parts) × (taken.parts ≡ 1) }
+{
+    let (mut manager, epoll) = make::<L, T, R>(*rt, alloc, tickets, taken)?;
+    let endpoint = manager.remote_endpoint()?;
+    let progress = Arc::new(alloc, Progress::new())?;
+    let rounds = Rounds::new();
+    thread::join(
+        rt,
+        || rounds.look_on(rt),
+        || send_beside_loop(rt, &mut manager, &endpoint, epoll, &progress, &rounds),
+    );
+    Ok(())
+}
+
+#[test]
+fn no_wake_up_of_the_loop_is_lost(rt: HostRuntime) -> std::result::Result<(), Fail> {
+    let tickets = Blank::new(9223372036854775808);
+    send_rounds::<Brand, Brand, HostRuntime>(&rt, rt.alloc(), tickets, Blank::new(1))
+}
