@@ -6,35 +6,21 @@ counted from 1: only `rt try` can do that.
 """
 
 import os
-from typing import NamedTuple
 
-ROOT = os.path.dirname(os.path.dirname(os.path.abspath(__file__)))
+from command import ROOT, Outcome, read
+
 FOLDER = f"{ROOT}/crates/evloop/cases"
-
-
-class Outcome(NamedTuple):
-    status: int = 0
-    stdout: bytes = b""
-    stderr: bytes = b""
-
-    def differs(self, wanted):
-        """What is not as wanted, in words; nothing where all is."""
-        fields = zip(self._fields, self, wanted)
-        return "; ".join(f"{name} is {got!r:.300} and not {want!r:.300}" for name, got, want in fields if got != want)
-
-
-def read(path, otherwise=b""):
-    try:
-        with open(path, "rb") as it:
-            return it.read()
-    except FileNotFoundError:
-        return otherwise
 
 
 def names():
     """The cases that any build of the program can be run on."""
     files = os.listdir(FOLDER)
     return sorted(it for it in files if "." not in it and f"{it}.refused" not in files)
+
+
+def refused_names():
+    """The cases in which an allocation is refused."""
+    return sorted(it.removesuffix(".refused") for it in os.listdir(FOLDER) if it.endswith(".refused"))
 
 
 def wanted(name):

@@ -175,8 +175,8 @@ impl<R: Wait + Clock + Clone + Send + Drop> Poller for Epoll<R> {
     /// negative, and once where it is 0.
     ///
     /// Else it is tried, and where nothing is ready tried once more: after so many milliseconds, or
-    /// once the table was changed, so 0 may be answered early. `EINVAL`, at once: the buffer has no
-    /// room.
+    /// once it is told of a change or interrupted by a signal, so 0 may be answered early. `EINVAL`,
+    /// at once: the buffer has no room.
     fn wait(&mut self, ms: i32, buffer: &mut [EpollEvent]) -> Result<usize, Errno> {
         if ms < 0 {
             return self.table.wait_until_ready(buffer, &self.rt);

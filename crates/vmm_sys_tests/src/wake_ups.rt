@@ -133,11 +133,22 @@ fn read_each<R: Host>(rt: &R, epoll: Epoll<R>, ms: i32, mailbox: &Mailbox) -> u6
     let mut epoll = epoll;
     let mut sum = 0u64;
     for round in 0..ROUNDS {
-        assert_eq!(rt; epoll.wait(ms, &mut [no_event()]), Ok(1));
+        assert_eq!(rt; wait_for_one(&mut epoll, ms), Ok(1));
         sum = sum.wrapping_add(mailbox.counter.read(rt).unwrap_or(0));
         mailbox.reads.store(round + 1, Ordering::SeqCst);
     }
     sum
+}
+
+// A write is told behind its step, so it may end the wait behind the one that reported it.
+fn wait_for_one<R: Host>(epoll: &mut Epoll<R>, ms: i32) -> Result<usize, Errno> {
+    for _ in 0..2 {
+        let answer = epoll.wait(ms, &mut [no_event()]);
+        if answer != Ok(0) {
+            return answer;
+        }
+    }
+    Ok(0)
 }
 
 // Looks many times at once, and then for ten seconds. Ends the test where the number stands still.

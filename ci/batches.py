@@ -1,0 +1,184 @@
+"""Wrong bodies of tests, many in one run of `rt try`.
+
+A batch is a repository of copies. Each wrong body has its own copy of the crate that it stands in, and of each crate between
+that one and the crate of its test, under names with a number; what lies below is there once. The tests stand in one crate,
+`batch`, in a module for each wrong body, which has the named test and what the crate of that test has beside tests; and once
+more over the crates as they are, with all tests that the batch names.
+"""
+
+import os
+import re
+import shutil
+
+import tries
+from command import ROOT
+
+# How many wrong bodies are tried in one run.
+MOST = 12
+BATCH = "batch"
+AS_IT_IS = "as_it_is"
+# As `rt fmt` lays it out. A module of a library has none.
+MAIN = re.compile(r"^fn main\((?:.*\n)*?}\n", re.M)
+# A test with its name and what is said above it, as `rt fmt` lays it out.
+TEST = re.compile(r"^( *)(?://.*\n\1)*#\[test\]\n(?:\1#.*\n)*\1fn (\w+)(?:.*\n)*?\1}\n", re.M)
+
+
+class BadEdit(Exception):
+    """Why an edit can't be tried."""
+
+
+class Edit:
+    """A wrong body, and what must show it."""
+
+    def __init__(self, path):
+        self.crate, _, file = os.path.relpath(path, f"{ROOT}/crates").split("/")
+        self.name = f"{self.crate}/{file.removesuffix('.edit')}"
+        self.target, self.test, self.case, self.is_of_a_program, self.changes = self.crate, None, None, False, []
+        file, old = None, None
+        with open(path, encoding="utf-8") as lines:
+            for line in lines.read().splitlines():
+                word, _, text = line.partition(":")
+                text = text.removeprefix(" ")
+                if word == "test":
+                    self.test = text.strip()
+                elif word == "case":
+                    self.test, self.case, self.is_of_a_program = text.strip(), text.strip(), True
+                elif word == "output" and text.strip() == "stored":
+                    self.test, self.is_of_a_program = "the stored output", True
+                elif word == "crate":
+                    self.target = text.strip()
+                elif word == "file":
+                    file = text.strip()
+                elif word == "old":
+                    old = text
+                elif word == "new":
+                    self.changes.append((file, old, text))
+                    old = None
+                elif line.strip() and not line.startswith("#"):
+                    raise BadEdit(f"{self.name}: the line '{line}' is none of an edit")
+        if not self.test or not self.changes:
+            raise BadEdit(f"{self.name}: it names no test, case or output, or changes nothing")
+
+    @property
+    def subject(self):
+        """What is run without the edit."""
+        return self.target, self.case
+
+    def names(self, path):
+        """Whether this is the path of its test."""
+        return path == self.test or path.endswith(f"::{self.test}")
+
+    def apply(self, folder):
+        """Changes a copy of its crate."""
+        for file, old, new in self.changes:
+            path = f"{folder}/{file}"
+            if not file or not old or not os.path.isfile(path):
+                raise BadEdit(f"no file {file}, or no old text")
+            with open(path, encoding="utf-8") as it:
+                text = it.read()
+            if text.count(old) != 1:
+                raise BadEdit(f"an old text is in {file} {text.count(old)} times, and not once")
+            with open(path, "w", encoding="utf-8") as it:
+                it.write(text.replace(old, new))
+
+
+def batches_of(edits):
+    """The edits in groups for a run each: those of one crate, shown by tests of one crate."""
+    groups = {}
+    for it in edits:
+        groups.setdefault((it.crate, it.target), []).append(it)
+    for group in groups.values():
+        count = -(-len(group) // MOST)
+        yield from (group[at::count] for at in range(count))
+
+
+def rewrite(folder, change):
+    """Changes the text of each file below a folder."""
+    for at, _, files in os.walk(folder):
+        for file in files:
+            with open(f"{at}/{file}", encoding="utf-8") as it:
+                text = it.read()
+            with open(f"{at}/{file}", "w", encoding="utf-8") as it:
+                it.write(change(text))
+
+
+def renamed(text, names):
+    """The text with other names of crates, where they stand in a path."""
+    for old, new in names.items():
+        text = re.sub(rf"\b{old}(?=::)|(?<=Rattle\.){old}\b", new, text)
+    return text
+
+
+def lay_module(room, target, module, tests, names, change):
+    """Lays the crate of tests as a module of the batch, with these of its tests alone, over crates of these names, `change` being
+    made of it first."""
+    source = f"{room}/crates/{BATCH}/src/{module}"
+    folder = f"{room}/{module}"
+    shutil.copytree(f"{ROOT}/crates/{target}/src", f"{folder}/src")
+    change(folder)
+    shutil.move(f"{folder}/src", source)
+    kept = {it.rpartition("::")[2] for it in tests}
+
+    def one_module(text):
+        text = TEST.sub(lambda found: found[0] if found[2] in kept else "", text)
+        return renamed(re.sub(r"\bcrate::", f"crate::{module}::", text), names)
+
+    rewrite(source, one_module)
+    root = f"{source}/{'main' if tries.is_program(target) else 'lib'}.rt"
+    with open(root, encoding="utf-8") as it:
+        lines = [line for line in MAIN.sub("", it.read()).splitlines() if not line.startswith("#![")]
+    os.remove(root)
+    with open(f"{source}.rt", "w", encoding="utf-8") as it:
+        it.write("\n".join(lines) + "\n")
+
+
+def lay_edited(room, module, edit):
+    """Lays what one edit changes, and its test over that; answers the crates that its module stands on."""
+    changed = {it for it in tries.below(edit.target) if edit.crate in tries.below(it) | {it}}
+    names = {it: f"{it}_of_{module}" for it in changed}
+    for crate, name in names.items():
+        folder = f"{room}/crates/{name}"
+        shutil.copytree(f"{ROOT}/crates/{crate}", folder, ignore=tries.UNUSED)
+        if crate == edit.crate:
+            edit.apply(folder)
+        rewrite(f"{folder}/src", lambda text: renamed(text, names))
+    tries.list_crates(room, {name: [names.get(it, it) for it in tries.DEPENDENCIES[crate]] for crate, name in names.items()})
+    nothing = lambda folder: None
+    lay_module(room, edit.target, module, [edit.test], names, edit.apply if edit.crate == edit.target else nothing)
+    return [names.get(it, it) for it in tries.DEPENDENCIES[edit.target]]
+
+
+def lay_batch(room, edits):
+    """Lays a repository in which the tests of a batch can be run."""
+    target = edits[0].target
+    tries.copy_crates(room, tries.below(target))
+    os.makedirs(f"{room}/crates/{BATCH}/src")
+    modules = {f"edit_{at}": edit for at, edit in enumerate(edits)}
+    needed = list(tries.DEPENDENCIES[target])
+    for module, edit in modules.items():
+        needed += lay_edited(room, module, edit)
+    lay_module(room, target, AS_IT_IS, [it.test for it in edits], {}, lambda folder: None)
+    tries.list_crates(room, {BATCH: dict.fromkeys(needed)})
+    lines = [f"#[cfg(test)]\nmod {module};\n" for module in [AS_IT_IS, *modules]]
+    with open(f"{room}/crates/{BATCH}/src/lib.rt", "w", encoding="utf-8") as it:
+        it.write("//! Wrong bodies, each with its test.\n#![tactic(auto)]\n\n" + "".join(lines))
+
+
+def tests_of_batch(room, edits):
+    """What became of the test of each edit, without it and with it."""
+    became = tries.tests_of(room, BATCH)
+
+    def end_in(module, edit):
+        found = [test.end for path, test in became.items() if path.startswith(f"{module}::") and edit.names(path)]
+        if len(found) != 1:
+            raise BadEdit(f"{len(found)} tests are named {edit.test}")
+        return found[0]
+
+    return [(end_in(AS_IT_IS, edit), end_in(f"edit_{at}", edit)) for at, edit in enumerate(edits)]
+
+
+def lay_edit(room, edit, with_it=True):
+    """Lays the repository's crates as they are, with the edit or without."""
+    tries.copy_crates(room, [*tries.below(edit.target), edit.target])
+    if with_it:
+        edit.apply(f"{room}/crates/{edit.crate}")
