@@ -59,11 +59,6 @@ class Edit:
         if not self.test or not self.changes:
             raise BadEdit(f"{self.name}: it names no test, case or output, or changes nothing")
 
-    @property
-    def subject(self):
-        """What is run without the edit."""
-        return self.target, self.case
-
     def names(self, path):
         """Whether this is the path of its test."""
         return path == self.test or path.endswith(f"::{self.test}")
@@ -83,9 +78,11 @@ class Edit:
 
 
 def batches_of(edits):
-    """The edits in groups for a run each: those of one crate, shown by tests of one crate."""
+    """The edits that tests must show in groups for a run each: those of one crate, shown by tests of one crate."""
     groups = {}
     for it in edits:
+        if it.is_of_a_program:
+            continue
         groups.setdefault((it.crate, it.target), []).append(it)
     for group in groups.values():
         count = -(-len(group) // MOST)
@@ -148,33 +145,44 @@ def lay_edited(room, module, edit):
     return [names.get(it, it) for it in tries.DEPENDENCIES[edit.target]]
 
 
-def lay_batch(room, edits):
-    """Lays a repository in which the tests of a batch can be run."""
+def lay_batch(room, edits, as_it_is):
+    """Lays a repository in which the tests of a batch can be run, and where it is asked for those over the crates as they are."""
     target = edits[0].target
     tries.copy_crates(room, tries.below(target))
     os.makedirs(f"{room}/crates/{BATCH}/src")
-    modules = {f"edit_{at}": edit for at, edit in enumerate(edits)}
+    modules = [with_edit(it) for it in range(len(edits))]
     needed = list(tries.DEPENDENCIES[target])
-    for module, edit in modules.items():
+    for module, edit in zip(modules, edits):
         needed += lay_edited(room, module, edit)
-    lay_module(room, target, AS_IT_IS, [it.test for it in edits], {}, lambda folder: None)
+    if as_it_is:
+        lay_module(room, target, AS_IT_IS, [it.test for it in edits], {}, lambda folder: None)
+        modules.append(AS_IT_IS)
     tries.list_crates(room, {BATCH: dict.fromkeys(needed)})
-    lines = [f"#[cfg(test)]\nmod {module};\n" for module in [AS_IT_IS, *modules]]
+    lines = [f"#[cfg(test)]\nmod {module};\n" for module in modules]
     with open(f"{room}/crates/{BATCH}/src/lib.rt", "w", encoding="utf-8") as it:
         it.write("//! Wrong bodies, each with its test.\n#![tactic(auto)]\n\n" + "".join(lines))
 
 
-def tests_of_batch(room, edits):
-    """What became of the test of each edit, without it and with it."""
-    became = tries.tests_of(room, BATCH)
+def with_edit(number):
+    """The module of the batch's wrong body of this number."""
+    return f"edit_{number}"
 
-    def end_in(module, edit):
-        found = [test.end for path, test in became.items() if path.startswith(f"{module}::") and edit.names(path)]
-        if len(found) != 1:
-            raise BadEdit(f"{len(found)} tests are named {edit.test}")
-        return found[0]
 
-    return [(end_in(AS_IT_IS, edit), end_in(f"edit_{at}", edit)) for at, edit in enumerate(edits)]
+def end_with(became, edits, edit):
+    """What became of the edit's test with it, of what became of the tests of the batch."""
+    return end_in(became, with_edit(edits.index(edit)), edit)
+
+
+def end_as_it_is(became, edit):
+    """And without it."""
+    return end_in(became, AS_IT_IS, edit)
+
+
+def end_in(became, module, edit):
+    found = [test.end for path, test in became.items() if path.startswith(f"{module}::") and edit.names(path)]
+    if len(found) != 1:
+        raise BadEdit(f"{len(found)} tests are named {edit.test}")
+    return found[0]
 
 
 def lay_edit(room, edit, with_it=True):
