@@ -3,18 +3,19 @@ use Rattle.std.proofs.Common.{◌≡◌, ℕ, ℤ, ◌+◌, ◌-◌, ◌<◌, �
 use Rattle.std.proofs.lemmas.Bool.{false≢true}
 use Rattle.std.specs.FinMap.{get, len, get-empty}
 use Rattle.event_manager.specs.Consistency.{AreConsistent}
-use Rattle.event_manager.specs.Cancelled.{IsAscending}
-use Rattle.event_manager.specs.Event.{Event}
+use Rattle.dispatch_tables.specs.Cancelled.{IsAscending}
+use Rattle.dispatch_tables.specs.Event.{Event}
 use Rattle.event_manager.specs.RegistrationState.{RegistrationState}
 use Rattle.event_manager.specs.Registry.{is_id}
 use Rattle.event_manager.specs.Releasing.{AreWithout}
-use Rattle.event_manager.specs.Owners.{OwnerMaps, no_owners, with_owner_at, with_none_at, AreCounted}
-use Rattle.event_manager.specs.declared.owners.Owner.{Owner}
-use Rattle.event_manager.specs.WatchLists.{watch_list, times_in, AreSorted, AreWatched, HasOneMore, HasList, HasSameLists}
+use Rattle.dispatch_tables.specs.Owners.{OwnerMaps, no_owners, with_owner_at, with_none_at, AreCounted}
+use Rattle.dispatch_tables.specs.declared.owners.Owner.{Owner}
+use Rattle.dispatch_tables.specs.WatchLists.{watch_list, times_in, AreSorted, HasOneMore, HasList, HasSameLists}
+use Rattle.event_manager.specs.Consistency.{AreWatched}
 use Rattle.event_manager.specs.ReadyList.{AreDescriptors}
-use Rattle.event_manager.specs.declared.watch_lists.WatchLists.{WatchLists}
-use Rattle.event_manager.proofs.Counting.{held_one, one_fewer}
-use Rattle.event_manager.proofs.RaisedOwners.{none_counted, restored}
+use Rattle.dispatch_tables.specs.declared.watch_lists.WatchLists.{WatchLists}
+use Rattle.dispatch_tables.proofs.Counting.{held_one, one_fewer}
+use Rattle.dispatch_tables.proofs.RaisedOwners.{none_counted, restored}
 use Rattle.event_manager.proofs.Watching.{watched_pushed, watched_removed, watched_same, watched_taken, descriptors_pushed, descriptors_removed, descriptors_taken}
 
 -- the same owners with the same priorities and the same positions are the same state

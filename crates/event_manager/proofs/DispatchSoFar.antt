@@ -1,6 +1,6 @@
 -- A batch that is dispatched from the front: one more position.
 use Rattle.std.proofs.Common.{◌≡◌, refl, sym, ap, subst, List, [], ◌∷◌, ◌++◌, append_assoc, append-nil}
-use Rattle.event_manager.specs.Event.{Event}
+use Rattle.dispatch_tables.specs.Event.{Event}
 use Rattle.event_manager.specs.Exchange.{Exchanges}
 use Rattle.event_manager.specs.Registry.{Registry}
 use Rattle.event_manager.specs.Dispatch.{Position, Outcome, IsOutcome, AreDispatched, events_of}

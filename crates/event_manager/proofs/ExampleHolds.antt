@@ -4,7 +4,7 @@ use Rattle.std.specs.FinMap.{get, insert, remove, empty, get-empty, get-insert, 
 use Rattle.std.specs.Cmp.{nat_cmp_total}
 use Rattle.event_manager.specs.Registrations.{Registrations}
 use Rattle.event_manager.specs.DispatchOrder.{class_of}
-use Rattle.event_manager.proofs.DispatchOrders.{ordered_already}
+use Rattle.dispatch_tables.proofs.DispatchOrders.{ordered_already}
 use Rattle.event_manager.specs.Exchange.{by_agreement, call_for}
 use Rattle.event_manager.specs.Iteration.{ManagerState}
 use Rattle.event_manager.specs.Trace.{HasEffect, new_state}

@@ -2,7 +2,7 @@
 use Rattle.std.proofs.Common.{◌≡◌, ℕ, List, [], ◌∷◌, ◌++◌, refl, sym, ap, subst, ◌∙◌, append_assoc, inl, inr, arith, Ok, Err, Bool, true, false, ◌||◌, ◌==◌, not, cond, map}
 use Rattle.std.proofs.lemmas.List.{append-nil}
 use Rattle.std.proofs.lemmas.Bool.Decides.{nat_tests}
-use Rattle.event_manager.specs.Event.{Event}
+use Rattle.dispatch_tables.specs.Event.{Event}
 use Rattle.event_manager.specs.PollerCall.{PollerCall, Control, Wait}
 use Rattle.event_manager.specs.Exchange.{Exchanges, ExchangesFit, Fits, Answer, IsVacant, IsAdditionRefused, by_manager, by_poller, by_agreement, removes, is_removal}
 use Rattle.event_manager.specs.Registrations.{Registrations, not_on}
@@ -12,7 +12,7 @@ use Rattle.event_manager.specs.Requests.{AreMade, AreMadeThrough}
 use Rattle.event_manager.specs.declared.error.Error.{Error}
 use Rattle.event_manager.specs.declared.events.Request.{Request}
 use Rattle.event_manager.specs.declared.events.Request.TheVariants.{Add, AddWithPriority, Modify, Remove}
-use Rattle.event_manager.specs.declared.priority.Priority.TheVariants.{Lowest}
+use Rattle.dispatch_tables.specs.declared.priority.Priority.TheVariants.{Lowest}
 use Rattle.event_manager.specs.declared.epoll.EpollWrapper.{EpollWrapper}
 use Rattle.event_manager.specs.declared.events.EventOps.{EventOps}
 

@@ -1,22 +1,11 @@
 -- Maps with only one id's entries.
-use Rattle.std.proofs.Common.{◌≡◌, ◌≢◌, ℕ, ◌==◌, cond, Bool, true, false, not, refl, sym, ◌∙◌, ap, Some, None, Option, ◌⊎◌, inl, inr, nat_cmp, eq-eqb, eqb-true, ne_eqb, is_eq, Equal}
+use Rattle.std.proofs.Common.{◌≡◌, ◌≢◌, ℕ, ◌==◌, cond, Bool, true, false, not, refl, sym, ◌∙◌, ap, Some, None, Option, nat_cmp, eq-eqb, eqb-true, ne_eqb}
 use Rattle.std.specs.Ordering.{eq_by_cmp}
 use Rattle.std.specs.FinMap.{FinMap, get, insert, remove, same_map, get-insert, get-remove, get-retain_keys, nat_cmp-IsAntisymmetric}
-use Rattle.std.specs.Cmp.{nat_cmp_total, Equal-is, nat_cmp_is}
-use Rattle.std.proofs.lemmas.Bool.Decides.{Decides-eqb, eqb_tells, same_from_decides}
+use Rattle.std.specs.Cmp.{nat_cmp_total}
+use Rattle.dispatch_tables.proofs.NumberTests.{nat_tied}
 use Rattle.event_manager.specs.Registry.{is_id, without_owner}
 use Rattle.event_manager.specs.Projection.{owned_by, only_values}
-
-pub nat_tied : (a b : ℕ) → eq_by_cmp nat_cmp a b ≡ true → a ≡ b
-nat_tied a b e = nat_cmp-IsAntisymmetric a b ((Equal-is (nat_cmp a b)).0 e)
-
--- the order's test and the plain one agree
-pub same_tests : (a b : ℕ) → eq_by_cmp nat_cmp a b ≡ (a == b)
-same_tests a b = same_from_decides _ _ (nat_tied a b, λ e. ap (λ x. eq_by_cmp nat_cmp x b) e ∙ ap is_eq (sym (nat_cmp_is b b Equal refl))) (Decides-eqb a b)
-
--- what a test of two descriptors tells
-pub fd_tells : (a b : ℕ) → ((eq_by_cmp nat_cmp a b ≡ true) × (a ≡ b) × ((a == b) ≡ true)) ⊎ ((eq_by_cmp nat_cmp a b ≡ false) × (a ≢ b) × ((a == b) ≡ false))
-fd_tells a b = elim (eqb_tells a b) [ inl p ↦ inl (same_tests a b ∙ p.0, p.1, p.0) | inr p ↦ inr (same_tests a b ∙ p.0, p.1, p.0) ]
 
 -- what a map of one id's descriptors answers; of all but those
 pub get-owned_by : (i : ℕ) (owner entries : FinMap nat_cmp ℕ) (fd : ℕ) → get (owned_by i owner entries) fd ≡ cond (is_id i (get owner fd)) (get entries fd) None

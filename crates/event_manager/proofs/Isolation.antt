@@ -4,9 +4,9 @@ use Rattle.std.specs.FinMap.{FinMap, get, insert, remove, get-insert, get-remove
 use Rattle.std.specs.Ordering.{eq_by_cmp}
 use Rattle.std.specs.Cmp.{nat_cmp_total}
 use Rattle.std.proofs.lemmas.Bool.Decides.{eqb_tells, nat_tests}
-use Rattle.event_manager.specs.Event.{Event}
+use Rattle.dispatch_tables.specs.Event.{Event}
 use Rattle.event_manager.specs.Registrations.{Registrations, Owns, IsFree, not_on}
-use Rattle.event_manager.specs.Priority.{number_of}
+use Rattle.dispatch_tables.specs.Priority.{number_of}
 use Rattle.event_manager.specs.PollerCall.{PollerCall}
 use Rattle.event_manager.specs.Exchange.{Answer, Exchanges, Fits, by_manager, by_poller, by_agreement, ExchangesFit, ReachesPoller, entered, registrations_after}
 use Rattle.event_manager.specs.Registry.{Registry, Step, Joined, NotJoined, Left, NotLeft, Replaced, NotReplaced, Requested, NotRequested, Steps, is_id, without_owner, left_by}
@@ -15,7 +15,8 @@ use Rattle.event_manager.specs.Projection.{names}
 use Rattle.event_manager.specs.Guarantees.{pending_of, IsUntouched, FreesExactly}
 use Rattle.event_manager.specs.declared.events.Request.{Request}
 use Rattle.event_manager.specs.declared.events.Request.TheVariants.{Add, AddWithPriority, Modify, Remove}
-use Rattle.event_manager.proofs.FiniteMaps.{fd_tells, get-without_owner, nat_tied}
+use Rattle.dispatch_tables.proofs.NumberTests.{fd_tells, nat_tied}
+use Rattle.event_manager.proofs.FiniteMaps.{get-without_owner}
 
 -- exchanges join
 pub exchanges_join : (i : ℕ) (before mid after : Registrations) (exchanges more : Exchanges) (calls rest : List PollerCall) → ExchangesFit i before exchanges calls mid → ExchangesFit i mid more rest after → ExchangesFit i before (exchanges ++ more) (calls ++ rest) after

@@ -4,7 +4,7 @@ use Rattle.std.proofs.lemmas.Bool.{false≢true}
 use Rattle.std.proofs.lemmas.List.{append-nil}
 use Rattle.std.proofs.lemmas.List.Elements.{All-head, All-tail}
 use Rattle.vmm_sys.specs.declared.errno.Errno.{Errno}
-use Rattle.event_manager.specs.Event.{Event}
+use Rattle.dispatch_tables.specs.Event.{Event}
 use Rattle.event_manager.specs.PollerCall.{Wait, Controls, Waits, Leads}
 use Rattle.event_manager.specs.Exchange.{Exchanges}
 use Rattle.event_manager.specs.Registry.{Registry, Step}

@@ -6,8 +6,6 @@ pub mod FiniteMaps
 pub mod HeldIds
 pub mod Isolation
 pub mod PendingAfter
-pub mod PlaceLemmas
-pub mod VacantPlaces
 pub mod Positions
 pub mod ProjectedDispatch
 pub mod ProjectedExchanges
@@ -16,17 +14,7 @@ pub mod ProjectedTrace
 pub mod ProjectionKept
 pub mod Releasing
 pub mod Soundness
-pub mod MapEntries
 pub mod StepExchangeLemmas
-pub mod OwnerMaps
-pub mod Ascending
-pub mod SortedLists
-pub mod ListChanges
-pub mod Counting
-pub mod RetainedKeys
-pub mod RaisedOwners
-pub mod ClassEntries
-pub mod DispatchOrders
 pub mod Consistent
 pub mod Watching
 pub mod LentSteps
@@ -36,3 +24,4 @@ pub mod JobLemmas
 pub mod RequestsSoFar
 pub mod TraceSoFar
 pub mod OneStep
+pub mod ReportedInOrder

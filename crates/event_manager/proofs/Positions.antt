@@ -4,10 +4,11 @@ use Rattle.vmm_sys.specs.declared.errno.Errno.{Errno}
 use Rattle.event_manager.specs.Registry as model
 use Rattle.std.proofs.lemmas.List.{append-nil}
 use Rattle.std.specs.FinMap.{get, insert}
-use Rattle.event_manager.specs.Event.{Event}
+use Rattle.dispatch_tables.specs.Event.{Event}
 use Rattle.event_manager.specs.Registrations.{Owns}
 use Rattle.event_manager.specs.DispatchOrder.{class_of, IsDispatchOrder}
-use Rattle.event_manager.proofs.DispatchOrders.{nil_cons, head_is, tail_is, reported_in_order}
+use Rattle.dispatch_tables.proofs.DispatchOrders.{nil_cons, head_is, tail_is}
+use Rattle.event_manager.proofs.ReportedInOrder.{reported_in_order}
 use Rattle.event_manager.specs.PollerCall.{PollerCall, Wait}
 use Rattle.event_manager.specs.Exchange.{Exchanges, ExchangesFit, removes}
 use Rattle.event_manager.specs.RegistrationState.{RegistrationState, not_cancelled, registrations_of, cancel_removed, all_pending, HasWaited}

@@ -3,10 +3,11 @@ use Rattle.std.proofs.Common.{◌≡◌, ◌≢◌, ℕ, ◌+◌, ◌≤◌, Boo
 use Rattle.std.specs.FinMap.{get}
 use Rattle.std.specs.Bool.{MatchBool}
 use Rattle.std.proofs.lemmas.Bool.Decides.{eqb_tells}
-use Rattle.event_manager.specs.Event.{Event}
+use Rattle.dispatch_tables.specs.Event.{Event}
 use Rattle.event_manager.specs.Exchange.{Exchanges}
 use Rattle.event_manager.specs.Registrations.{Registrations, Owns}
-use Rattle.event_manager.specs.DispatchOrder.{class_by, class_of, IsDispatchOrder}
+use Rattle.dispatch_tables.specs.ClassOrder.{class_by}
+use Rattle.event_manager.specs.DispatchOrder.{class_of, IsDispatchOrder}
 use Rattle.event_manager.specs.Registry.{Step, is_id}
 use Rattle.event_manager.specs.Dispatch.{Position, events_of}
 use Rattle.event_manager.specs.Iteration.{ManagerState, JobRun, IsAfterWait, AreRun}
@@ -15,7 +16,7 @@ use Rattle.event_manager.specs.Projection.{projected_registrations, projected_re
 use Rattle.vmm_sys.specs.declared.errno.Errno.{Errno}
 use Rattle.event_manager.proofs.ProjectedExchanges.{IsMine, calls_first, calls_then, adds_first, adds_then, or_left, or_right}
 use Rattle.event_manager.proofs.ProjectedSteps.{own_step, other_step}
-use Rattle.event_manager.proofs.DispatchOrders.{by_class, ordered_by_class, one_order_of_mine}
+use Rattle.dispatch_tables.proofs.DispatchOrders.{by_class, ordered_by_class, one_order_of_mine}
 use Rattle.event_manager.proofs.FiniteMaps.{get-owned_by}
 use Rattle.event_manager.proofs.ProjectedDispatch.{projected_dispatch, foreign_positions, weave, woven_projected}
 

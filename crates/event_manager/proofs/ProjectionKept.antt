@@ -1,7 +1,7 @@
 -- What a projection keeps of i.
 use Rattle.std.proofs.Common.{◌≡◌, ℕ, cond, Bool, true, false, filter, refl, sym, ◌∙◌, ap, subst, ap₂, List, [], ◌∷◌, ◌++◌, if◌then◌else◌, true≢false}
 use Rattle.std.specs.Bool.{MatchBool}
-use Rattle.event_manager.specs.Event.{Event}
+use Rattle.dispatch_tables.specs.Event.{Event}
 use Rattle.event_manager.specs.Exchange.{Exchanges}
 use Rattle.event_manager.specs.Registry.{Step, Joined, NotJoined, Left, NotLeft, Replaced, NotReplaced, Requested, NotRequested}
 use Rattle.event_manager.specs.Dispatch.{Outcome, Nobody, To, Position}

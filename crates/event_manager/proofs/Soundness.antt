@@ -4,7 +4,7 @@ use Rattle.std.specs.FinMap.{FinMap, get, insert, remove, get-insert, get-remove
 use Rattle.std.specs.Cmp.{nat_cmp_total, nat_cmp_is}
 use Rattle.std.specs.Ordering.{eq_by_cmp}
 use Rattle.std.proofs.lemmas.Bool.Decides.{eqb_tells}
-use Rattle.event_manager.specs.Event.{Event}
+use Rattle.dispatch_tables.specs.Event.{Event}
 use Rattle.event_manager.specs.Registrations.{Registrations, Owns, IsFree}
 use Rattle.event_manager.specs.PollerCall.{PollerCall}
 use Rattle.event_manager.specs.Exchange.{Answer, Exchanges, Fits, by_manager, by_poller, by_agreement, ExchangesFit, ReachesPoller, entered, registrations_after}
@@ -16,10 +16,11 @@ use Rattle.event_manager.specs.Guarantees.{IsSound, HasPriority, HavePriorities,
 use Rattle.vmm_sys.specs.declared.errno.Errno.{Errno}
 use Rattle.event_manager.specs.declared.events.Request.{Request}
 use Rattle.event_manager.specs.declared.events.Request.TheVariants.{Add, AddWithPriority, Modify, Remove}
-use Rattle.event_manager.specs.Priority.{number_of}
-use Rattle.event_manager.proofs.FiniteMaps.{fd_tells, get-without_owner}
+use Rattle.dispatch_tables.specs.Priority.{number_of}
+use Rattle.dispatch_tables.proofs.NumberTests.{fd_tells}
+use Rattle.event_manager.proofs.FiniteMaps.{get-without_owner}
 use Rattle.event_manager.proofs.ProjectedSteps.{from_disowned}
-use Rattle.event_manager.proofs.ClassEntries.{at_most_3}
+use Rattle.dispatch_tables.proofs.ClassEntries.{at_most_3}
 use Rattle.event_manager.proofs.HeldIds.{removed_value, below_insert, below_joined, below_removed}
 use Rattle.event_manager.proofs.Isolation.{insert_other_value, remove_other_value}
 

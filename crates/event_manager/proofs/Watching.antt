@@ -1,22 +1,22 @@
 -- Watch lists beside the owners: how often a descriptor stands in a list.
-use Rattle.std.proofs.Common.{◌≡◌, ◌≢◌, ℕ, zero, suc, ◌+◌, ◌==◌, ◌<◌, ◌≤◌, refl, sym, ap, subst, ◌∙◌, List, [], ◌∷◌, Bool, true, false, not, cond, Option, Some, None, inl, inr, arith, length, get_or, take, Contains, AllPairs, nat_cmp, nat_lt, IsSome, All, ◌^◌}
+use Rattle.std.proofs.Common.{◌≡◌, ℕ, ◌+◌, ◌==◌, ◌<◌, ◌≤◌, refl, sym, ap, subst, ◌∙◌, List, [], Bool, true, false, not, cond, Option, Some, None, inl, inr, arith, length, get_or, take, Contains, nat_cmp, nat_lt, IsSome, All, ◌^◌}
 use Rattle.std.proofs.lemmas.Bool.{false≢true}
 use Rattle.std.proofs.lemmas.Bool.Decides.{nat_tests, eqb_tells}
 use Rattle.std.proofs.lemmas.List.Elements.{Contains-get_or}
-use Rattle.std.proofs.lemmas.List.Sums.{sum_by_more, sum_by-cons}
+use Rattle.std.proofs.lemmas.List.Sums.{sum_by_more}
 use Rattle.std.specs.Ordering.{eq_by_cmp}
 use Rattle.std.specs.Cmp.{nat_cmp_total}
 use Rattle.std.specs.FinMap.{FinMap, get, insert, remove, get-insert, get-remove, same_map, nat_cmp-IsAntisymmetric}
+use Rattle.dispatch_tables.proofs.TimesListed.{times_in_cond, flipped, counted, contained, distinct}
 use Rattle.event_manager.specs.Registrations.{Registrations}
 use Rattle.event_manager.specs.Registry.{is_id, without_owner, AreOwnedBy}
-use Rattle.event_manager.specs.WatchLists.{watch_list, times_in, HasOneMore, HasList, HasSameLists, AreWatched}
+use Rattle.dispatch_tables.specs.WatchLists.{watch_list, times_in, HasOneMore, HasList, HasSameLists}
+use Rattle.event_manager.specs.Consistency.{AreWatched}
 use Rattle.event_manager.specs.ReadyList.{AreDescriptors}
 use Rattle.event_manager.specs.Releasing.{IsWithout}
-use Rattle.event_manager.specs.declared.watch_lists.WatchLists.{WatchLists}
-use Rattle.event_manager.proofs.FiniteMaps.{same_tests, nat_tied, get-without_owner}
-
-times_in_cons : (fds : List ℕ) (fd q : ℕ) → times_in (fd ∷ fds) q ≡ cond (fd == q) 1 0 + times_in fds q
-times_in_cons fds fd q = sum_by-cons (λ x. cond (x == q) 1 0) fd fds
+use Rattle.dispatch_tables.specs.declared.watch_lists.WatchLists.{WatchLists}
+use Rattle.dispatch_tables.proofs.NumberTests.{same_tests, nat_tied}
+use Rattle.event_manager.proofs.FiniteMaps.{get-without_owner}
 
 nothing : (b : Bool) → cond {A = ℕ} b 0 0 ≡ 0
 nothing true = refl
@@ -34,13 +34,6 @@ removed_times j i n o false was h = omega (arith, nothing (j == i), h)
 taken_times : (j i : ℕ) (o : Option ℕ) → cond {A = ℕ} (j == i) 0 (cond (is_id j o) 1 0) ≡ cond (is_id j (cond (is_id i o) None o)) 1 0
 taken_times j i None = grind (arith, nat_tests)
 taken_times j i (Some k) = grind (arith, nat_tests)
-
-pub times_in_cond : (b : Bool) (xs ys : List ℕ) (q : ℕ) → times_in (cond b xs ys) q ≡ cond b (times_in xs q) (times_in ys q)
-times_in_cond true xs ys q = refl
-times_in_cond false xs ys q = refl
-
-pub flipped : (a b : ℕ) → (a == b) ≡ (b == a)
-flipped a b = grind (arith, nat_tests)
 
 tests_alike : (fd q : ℕ) → (fd == q) ≡ eq_by_cmp nat_cmp q fd
 tests_alike fd q = flipped fd q ∙ sym (same_tests q fd)
@@ -138,35 +131,6 @@ without_more before now fds k below so_far q =
     ∙ ap (λ o. cond (fd == q) None o) (so_far q)
     ∙ without_answer (fd == q) (times_in (take k fds) q) (get before q)
     ∙ ap (λ n. cond (nat_lt 0 n) None (get before q)) (sym (sum_by_more (λ x. cond (x == q) 1 0) fds k 0 below))
-
--- what stands in a list is counted there
-counted_at : (q : ℕ) (fds : List ℕ) (k : ℕ) → k < length fds → get_or fds k q ≡ q → 0 < times_in fds q
-counted_at q [] k l e = absurd (omega arith)
-counted_at q (x ∷ fds) zero l e = grind (arith, nat_tests, e, times_in_cons fds x q)
-counted_at q (x ∷ fds) (suc k) l e = omega (arith, counted_at q fds k (omega arith) e, times_in_cons fds x q)
-
-pub counted : (fds : List ℕ) (q : ℕ) → Contains fds q → 0 < times_in fds q
-counted fds q c = counted_at q fds c.0 c.1 c.2
-
-pub contained : (fds : List ℕ) (q : ℕ) → 0 < times_in fds q → Contains fds q
-contained [] q h = absurd (omega arith)
-contained (x ∷ fds) q h = elim (eqb_tells x q) [
-  | inl p ↦ (0, omega arith, p.1)
-  | inr p ↦
-      let c : Contains fds q = contained fds q (grind (arith, nat_tests, h, p.0, times_in_cons fds x q)) in
-      (suc c.0, omega (arith, c.1), c.2)
-]
-
--- what is counted at most once stands there once
-pub distinct : (fds : List ℕ) → ((q : ℕ) → times_in fds q ≤ 1) → AllPairs (λ a b. a ≢ b) fds
-distinct [] h i j d a b = absurd (omega arith)
-distinct (x ∷ fds) h zero zero d a b = absurd (omega arith)
-distinct (x ∷ fds) h (suc i) zero d a b = absurd (omega arith)
-distinct (x ∷ fds) h zero (suc j) d a b =
-    λ e.
-    let more = counted fds x (subst (λ y. Contains fds y) (sym e) (Contains-get_or fds j d (omega arith))) in
-    grind (arith, nat_tests, more, h x, times_in_cons fds x x)
-distinct (x ∷ fds) h (suc i) (suc j) d a b = distinct fds (λ q. omega (arith, h q, times_in_cons fds x q)) i j d (omega arith) (omega arith)
 
 -- a list that has each descriptor of the id once
 module _ (owner : FinMap nat_cmp ℕ) (fds : List ℕ) (i : ℕ) (are : (fd : ℕ) → times_in fds fd ≡ cond (is_id i (get owner fd)) 1 0) where

@@ -1,7 +1,7 @@
 -- Counters of events, and what is observed beside them.
 use Rattle.std.specs.Prelude.{ℕ, ℤ, ◌+◌, ◌==◌, min, false, true, List, ◌++◌, codes, decimal, Option, Some, None, Ok, Err, unsigned_abs, if◌then◌else◌}
 use Rattle.std.specs.Fmt.{signed_decimal}
-use Rattle.event_manager.specs.Event.{Event}
+use Rattle.dispatch_tables.specs.Event.{Event}
 use Rattle.event_manager.specs.Exchange.{Answer}
 use Rattle.event_manager.specs.declared.error.Error.{Error}
 use Rattle.event_manager.specs.declared.utilities.subscribers.counter.Counter.{Counter}

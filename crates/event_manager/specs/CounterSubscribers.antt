@@ -1,6 +1,6 @@
 -- What the counting subscribers do, a row a line.
 use Rattle.std.specs.Prelude.{◌≡◌, [], ◌∷◌}
-use Rattle.event_manager.specs.Event.{Event}
+use Rattle.dispatch_tables.specs.Event.{Event}
 use Rattle.event_manager.specs.Exchange.{Answer, Exchanges}
 use Rattle.event_manager.specs.CounterEvents.{kind_of, new_counter, one_more, event_on, nothing_observed, with_error, with_spurious, with_fault, with_hang_up}
 use Rattle.event_manager.specs.declared.events.Request.TheVariants.{Add, Remove}

@@ -1,6 +1,6 @@
 -- What a subscriber with three counters does, a row a line.
 use Rattle.std.specs.Prelude.{◌≡◌, ℕ, ◌+◌, ◌==◌, Bool, false, List, [], ◌∷◌, ◌++◌, map, if◌then◌else◌}
-use Rattle.event_manager.specs.Event.{Event}
+use Rattle.dispatch_tables.specs.Event.{Event}
 use Rattle.event_manager.specs.Exchange.{Answer, Exchanges, requests_of, answers_of, first_refusal}
 use Rattle.event_manager.specs.CounterEvents.{kind_of, count_of, one_more, event_on, with_error, with_spurious, with_fault, with_hang_up}
 use Rattle.event_manager.specs.declared.events.Request.{Request}

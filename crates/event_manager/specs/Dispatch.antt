@@ -1,7 +1,7 @@
 -- Who gets which event of a batch.
 use Rattle.std.specs.Prelude.{◌≡◌, ℕ, Bool, false, not, ◌||◌, List, [], ◌∷◌, ◌++◌, map, filter}
 use Rattle.std.specs.FinMap as finite
-use Rattle.event_manager.specs.Event.{Event}
+use Rattle.dispatch_tables.specs.Event.{Event}
 use Rattle.event_manager.specs.Registrations.{Registrations, Owns}
 use Rattle.event_manager.specs.DispatchOrder.{IsDispatchOrder}
 use Rattle.event_manager.specs.PollerCall.{PollerCall}

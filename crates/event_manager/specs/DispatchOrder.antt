@@ -1,28 +1,13 @@
 -- In which order the events of a report are dispatched.
-use Rattle.std.specs.Prelude.{◌≡◌, ℕ, ◌≤◌, ◌==◌, List, filter, AllPairs, Option, Some, None}
+use Rattle.std.specs.Prelude.{ℕ, List}
 use Rattle.std.specs.FinMap as map
-use Rattle.event_manager.specs.Event.{Event}
+use Rattle.dispatch_tables.specs.Event.{Event}
+use Rattle.dispatch_tables.specs.ClassOrder.{class_by, IsOrdered}
 use Rattle.event_manager.specs.Registrations.{Registrations}
 
--- the class of a descriptor, by its owner and its priority: 0 where nobody owns it
-abbrev pub class_by : Option ℕ → Option ℕ → ℕ
-class_by None priority = 0
-class_by (Some id) None = 0
-class_by (Some id) (Some number) = number
-
+-- the class of a descriptor: 0 where nobody owns it
 abbrev pub class_of : Registrations → ℕ → ℕ
 class_of registrations fd = class_by (map.get registrations.owner fd) (map.get registrations.priority fd)
-
--- class: which class each descriptor has
-module _ (class : ℕ → ℕ) where
-  -- those of the events that are of class n
-  abbrev pub of_class : ℕ → List Event → List Event
-  of_class n events = filter (λ e. class e.fd == n) events
-
-  -- The higher classes come first; of each class there are the events that the report has of it, in the order of the report.
-  pub record IsOrdered (report ordered : List Event) : Type 0 where
-    pub descending : AllPairs (λ a b. class b.fd ≤ class a.fd) ordered
-    pub stable : (n : ℕ) → of_class n ordered ≡ of_class n report
 
 -- The order in which a report is dispatched: by the classes that the registrations give.
 abbrev pub IsDispatchOrder : Registrations → List Event → List Event → Type 0

@@ -1,7 +1,7 @@
 -- What `drive` promises: the calls with their replies are a trace, and the guarantees hold of that trace.
 use Rattle.std.specs.Prelude.{◌≡◌, ◌≢◌, ℕ, false, List, map, vec_len, Vec, Result, Ok, Err}
 use Rattle.std.specs.declared.alloc.Global.{Global}
-use Rattle.event_manager.specs.Event.{Event}
+use Rattle.dispatch_tables.specs.Event.{Event}
 use Rattle.event_manager.specs.PollerCall.{PollerCall, Controls, Waits, Leads}
 use Rattle.event_manager.specs.Exchange.{Exchanges, Answer, requests_of, answers_of}
 use Rattle.event_manager.specs.Registry.{Registry, Step, Steps, AreBelow, Left, Requested, NotRequested, Replaced, NotReplaced}

@@ -1,5 +1,5 @@
 -- A subscriber of one of two kinds stays of its kind.
-use Rattle.event_manager.specs.Event.{Event}
+use Rattle.dispatch_tables.specs.Event.{Event}
 use Rattle.event_manager.specs.Exchange.{Exchanges}
 use Rattle.event_manager.specs.declared.wrappers.Either.{Either}
 use Rattle.event_manager.specs.declared.wrappers.Either.TheVariants.{First, Second}

@@ -1,6 +1,6 @@
 -- A repeated report: subscriber 1 owns descriptor 3; at the first event it removes and adds it, and the second event goes to nobody.
 use Rattle.std.specs.Prelude.{ℕ, negsuc, List, [], ◌∷◌, Ok}
-use Rattle.event_manager.specs.Event.{Event}
+use Rattle.dispatch_tables.specs.Event.{Event}
 use Rattle.event_manager.specs.Exchange.{Exchanges, agreed, call_for}
 use Rattle.event_manager.specs.Registry.{Joined, Step}
 use Rattle.event_manager.specs.Dispatch.{To, Nobody}

@@ -1,10 +1,10 @@
 -- Requests of a subscriber, their answers, and what they do to the registrations.
 use Rattle.std.specs.Prelude.{◌≡◌, ℕ, ◌==◌, ℤ, Bool, false, ◌||◌, List, [], ◌∷◌, ◌++◌, map, ◌⊎◌, Result, Ok, Err, pos}
 use Rattle.std.specs.FinMap as finite
-use Rattle.event_manager.specs.Event.{Event}
+use Rattle.dispatch_tables.specs.Event.{Event}
 use Rattle.event_manager.specs.PollerCall.{PollerCall, Control}
 use Rattle.event_manager.specs.Registrations.{Registrations, Owns, IsFree, not_on}
-use Rattle.event_manager.specs.Priority.{number_of}
+use Rattle.dispatch_tables.specs.Priority.{number_of}
 use Rattle.vmm_sys.specs.declared.errno.Errno.{Errno}
 use Rattle.vmm_sys.specs.declared.epoll.ControlOperation.{ControlOperation}
 use Rattle.vmm_sys.specs.declared.epoll.ControlOperation.TheVariants as operation

@@ -1,7 +1,7 @@
 -- What users rely on, of every trace.
 use Rattle.std.specs.Prelude.{◌≡◌, ◌≢◌, ℕ, ◌+◌, ◌≤◌, List, [], ◌∷◌, ◌++◌, filter, ◌↔◌, Option, Some, None, IfSome, MatchOption, if◌then◌else◌}
 use Rattle.std.specs.FinMap as map
-use Rattle.event_manager.specs.Event.{Event}
+use Rattle.dispatch_tables.specs.Event.{Event}
 use Rattle.event_manager.specs.Registrations.{Registrations, Owns, IsFree}
 use Rattle.event_manager.specs.Registry.{Registry, Step, HasId, is_id, acts_on, given_by, removed_by}
 use Rattle.event_manager.specs.Iteration.{JobRun}

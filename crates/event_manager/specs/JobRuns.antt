@@ -1,6 +1,6 @@
 -- Jobs that ran on a registry of the program.
 use Rattle.std.specs.Prelude.{◌≡◌, ℕ, List, map}
-use Rattle.event_manager.specs.Event.{Event}
+use Rattle.dispatch_tables.specs.Event.{Event}
 use Rattle.event_manager.specs.PollerCall.{Controls, Waits, Leads}
 use Rattle.event_manager.specs.Exchange.{Exchanges}
 use Rattle.event_manager.specs.Registry.{Step}

@@ -5,7 +5,7 @@ use Rattle.vmm_sys.specs.declared.errno.Errno.{Errno}
 use Rattle.event_manager.specs.declared.error.Error.{Error}
 use Rattle.event_manager.specs.declared.error.Error.TheVariants.{InvalidId}
 use Rattle.event_manager.specs.declared.events.Request.{Request}
-use Rattle.event_manager.specs.Event.{Event}
+use Rattle.dispatch_tables.specs.Event.{Event}
 use Rattle.event_manager.specs.PollerCall.{PollerCall, Controls, Waits, Leads}
 use Rattle.event_manager.specs.Exchange.{Exchanges, Answer}
 use Rattle.event_manager.specs.Registry.{Registry, Step, Steps, Joined, NotJoined, Left, NotLeft, Requested, NotRequested, calls_of}

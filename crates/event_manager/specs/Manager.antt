@@ -3,7 +3,7 @@ use Rattle.std.specs.Prelude.{◌≡◌, ℕ, ◌<◌, ◌≤◌, unsigned_abs, 
 use Rattle.vmm_sys.specs.declared.epoll.ControlOperation.TheVariants as operation
 use Rattle.vmm_sys.specs.EventFd.{descriptor_of}
 use Rattle.vmm_sys.specs.declared.eventfd.EventFd.{EventFd}
-use Rattle.event_manager.specs.Event.{Event}
+use Rattle.dispatch_tables.specs.Event.{Event}
 use Rattle.event_manager.specs.PollerCall.{Controls}
 use Rattle.event_manager.specs.LoopState.{LoopState, new_loop}
 use Rattle.event_manager.specs.Subscribers.{loop_state}

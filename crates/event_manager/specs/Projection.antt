@@ -3,7 +3,7 @@ use Rattle.std.specs.Prelude.{◌≡◌, ◌≢◌, ℕ, nat_lt, ◌==◌, Bool,
 use Rattle.std.specs.FinMap as finite
 use Rattle.std.specs.Bool.{MatchBool}
 use Rattle.std.specs.Ordering.{nat_cmp}
-use Rattle.event_manager.specs.Event.{Event}
+use Rattle.dispatch_tables.specs.Event.{Event}
 use Rattle.event_manager.specs.Registrations.{Registrations, Owns}
 use Rattle.event_manager.specs.Exchange.{Exchanges, Answer}
 use Rattle.event_manager.specs.Registry.{Registry, Step, Joined, Requested, is_id, id_of}

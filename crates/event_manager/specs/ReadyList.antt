@@ -1,17 +1,12 @@
 -- The ready list: the part of the buffer that is still to come.
-use Rattle.std.specs.Prelude.{ℕ, ◌/◌, ◌%◌, ◌^◌, ℤ, Bool, List, take, drop, map, ◌<◌, IsSome, Result, Ok, Err}
+use Rattle.std.specs.Prelude.{ℕ, ◌^◌, ℤ, Bool, List, take, drop, map, ◌<◌, IsSome, Result, Ok, Err}
 use Rattle.vmm_sys.specs.declared.errno.Errno.{Errno}
 use Rattle.std.specs.Ordering.{nat_cmp}
 use Rattle.std.specs.FinMap as finite
 use Rattle.vmm_sys.specs.declared.epoll.EpollEvent.{EpollEvent}
-use Rattle.vmm_sys.specs.EpollEvent.{word_of, set_of, fd_of}
-use Rattle.vmm_sys.specs.EventSet.{bits_of}
-use Rattle.event_manager.specs.Event.{Event}
-use Rattle.event_manager.specs.Cancelled.{is_among}
-
--- the event that a reported entry stands for: descriptor in the low half of the word, data in the high half
-abbrev pub event_of_entry : EpollEvent → Event
-event_of_entry e = record { fd = word_of e % 2 ^ 32; payload = word_of e / 2 ^ 32; set = bits_of (set_of e) }
+use Rattle.vmm_sys.specs.EpollEvent.{fd_of}
+use Rattle.dispatch_tables.specs.Event.{Event, event_of_entry}
+use Rattle.dispatch_tables.specs.Cancelled.{is_among}
 
 -- whether the entry's descriptor stands in the list
 abbrev pub is_cancelled : List ℤ → EpollEvent → Bool

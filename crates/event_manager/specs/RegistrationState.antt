@@ -4,12 +4,12 @@ use Rattle.vmm_sys.specs.declared.errno.Errno.{Errno}
 use Rattle.std.specs.FinMap as finite
 use Rattle.std.specs.Ordering.{nat_cmp}
 use Rattle.std.specs.Coded.{Coded, code_by, coded×, coded_ℕ, coded_bool, coded_list}
-use Rattle.event_manager.specs.Event.{Event}
+use Rattle.dispatch_tables.specs.Event.{Event}
 use Rattle.event_manager.specs.Registrations.{Registrations}
 use Rattle.event_manager.specs.DispatchOrder.{IsDispatchOrder}
 use Rattle.event_manager.specs.Registry.{without_owner}
 use Rattle.event_manager.specs.Exchange.{Exchanges, removes}
-use Rattle.event_manager.specs.Event.{event_code}
+use Rattle.dispatch_tables.specs.Event.{event_code}
 
 pub record RegistrationState : Type 0 where
   pub owner : finite.FinMap nat_cmp ℕ

@@ -2,7 +2,7 @@
 use Rattle.std.specs.Prelude.{◌≡◌, ℕ, ◌==◌, not, List, filter, Some, None}
 use Rattle.std.specs.FinMap as map
 use Rattle.std.specs.Ordering.{nat_cmp}
-use Rattle.event_manager.specs.Event.{Event}
+use Rattle.dispatch_tables.specs.Event.{Event}
 
 -- Which id owns each descriptor, and the number of the priority at which it does; the endpoint's descriptor;
 -- the events of the current batch that are still to come and aren't cancelled (none outside a loop iteration).

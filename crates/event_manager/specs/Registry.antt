@@ -2,7 +2,7 @@
 use Rattle.std.specs.Prelude.{◌≡◌, ℕ, ◌+◌, ◌-◌, ◌^◌, ◌<◌, ◌==◌, Bool, false, not, List, [], ◌∷◌, ◌⊎◌, ◌↔◌, Option, Some, None, Result, Contains, AllPairs, ◌≢◌}
 use Rattle.std.specs.FinMap as map
 use Rattle.std.specs.Ordering.{nat_cmp}
-use Rattle.event_manager.specs.Event.{Event}
+use Rattle.dispatch_tables.specs.Event.{Event}
 use Rattle.event_manager.specs.Registrations.{Registrations, Owns}
 use Rattle.event_manager.specs.PollerCall.{PollerCall, Control}
 use Rattle.event_manager.specs.Exchange.{Exchanges, ExchangesFit}

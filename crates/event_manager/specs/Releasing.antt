@@ -5,8 +5,8 @@ use Rattle.std.specs.FinMap as map
 use Rattle.event_manager.specs.PollerCall.{PollerCall, Controls, Waits, Leads}
 use Rattle.event_manager.specs.Registry.{AreOwnedBy, AreDeletes}
 use Rattle.event_manager.specs.RegistrationState.{registrations_of, left_in}
-use Rattle.event_manager.specs.WatchLists.{times_in}
-use Rattle.event_manager.specs.Owners.{OwnerMaps}
+use Rattle.dispatch_tables.specs.WatchLists.{times_in}
+use Rattle.dispatch_tables.specs.Owners.{OwnerMaps}
 use Rattle.event_manager.specs.declared.epoll.EpollWrapper.{EpollWrapper}
 
 -- the map without the keys in the list

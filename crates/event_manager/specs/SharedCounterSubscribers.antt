@@ -1,6 +1,6 @@
 -- What a subscriber that is shared while it counts asks for, a row a line. Of its numbers nothing is claimed.
 use Rattle.std.specs.Prelude.{◌≡◌, [], ◌∷◌, unsigned_abs}
-use Rattle.event_manager.specs.Event.{Event}
+use Rattle.dispatch_tables.specs.Event.{Event}
 use Rattle.event_manager.specs.Exchange.{Answer, Exchanges}
 use Rattle.event_manager.specs.CounterEvents.{kind_of}
 use Rattle.event_manager.specs.declared.events.Request.TheVariants.{Add, Remove}

@@ -1,7 +1,7 @@
 -- A registry of the program, seen by the definitions, and one position of its ready list.
 use Rattle.std.specs.Prelude.{◌≡◌, ℕ, ℤ, ◌==◌, List, Bool, true, false, [], ◌∷◌, ◌⊎◌, Result, Ok, Err}
 use Rattle.std.specs.FinMap as map
-use Rattle.event_manager.specs.Event.{Event}
+use Rattle.dispatch_tables.specs.Event.{Event}
 use Rattle.event_manager.specs.PollerCall.{Wait, Controls, Waits, Leads}
 use Rattle.event_manager.specs.Exchange.{Exchanges, ExchangesFit}
 use Rattle.event_manager.specs.Registrations.{Owns}

@@ -2,36 +2,30 @@
 
 ghost use Rattle.std.specs.Prelude.{◌≡◌, ◌≤◌, ◌<◌, ◌^◌, List, [], ◌∷◌, None, OnOk, IfErr, IfOk, IfSome, Result, Bool, IsTrue, ◌↔◌, ◌==◌, MatchOption, All};
 ghost use Rattle.std.specs.FinMap as map;
-ghost use Rattle.event_manager.specs.Event.{Event};
+ghost use Rattle.dispatch_tables.specs.Event.{Event};
 ghost use Rattle.event_manager.specs.PollerCall.{Control, Wait, Leads};
 ghost use Rattle.event_manager.specs.Registrations.{Owns, IsFree};
 ghost use Rattle.event_manager.specs.Registry.{AreOwnedBy};
-ghost use Rattle.event_manager.specs.Priority.{number_of};
+ghost use Rattle.dispatch_tables.specs.Priority.{number_of};
 ghost use Rattle.event_manager.specs.Exchange.{IsVacant};
-ghost use Rattle.event_manager.specs.Owners.{owner_id, with_none_at, AreCounted};
-ghost use Rattle.event_manager.specs.ReadyList.{event_of_entry};
+ghost use Rattle.dispatch_tables.specs.Owners.{owner_id, with_none_at, AreCounted};
+ghost use Rattle.dispatch_tables.specs.Event.{event_of_entry};
 ghost use Rattle.event_manager.specs.RegistrationState.{registrations_of, cancel_on, left_in, HasWaited};
 ghost use Rattle.event_manager.specs.Releasing.{AreWithout, HasReleased};
 ghost use Rattle.vmm_sys.specs.declared.errno.Errno.{Errno};
 
-use crate::cancelled::{cancelled_at, enter};
-use crate::dispatch_order::{ClassedEntry, order_by_class};
 use crate::events::Events;
-use crate::owners::{Owner, Owners};
 use crate::poller::EventPoller;
-use crate::watch_lists::WatchLists;
 use crate::{Error, Result};
+use dispatch_tables::cancelled::{cancelled_at, enter};
+use dispatch_tables::descriptor::fd_of;
+use dispatch_tables::dispatch_order::{ClassedEntry, order_by_class};
+use dispatch_tables::owners::{Owner, Owners};
+use dispatch_tables::watch_lists::WatchLists;
 use std::alloc::{AllocError, Global};
 use std::marker::Model;
 use vmm_sys::epoll::{ControlOperation, EpollEvent, EventSet, RawFd};
 use vmm_sys::errno::Errno;
-
-/// The descriptor of a reported entry, as the low half of its word.
-pub(crate) fn fd_of(entry: &EpollEvent) -> u32
-    ensures { result ≡ (event_of_entry entry.now).fd }
-{
-    (entry.data() % 4294967296) as u32
-}
 
 /// Takes out the owner of one descriptor, if it has one, and counts the owned and the raised ones.
 fn disown(owners: &mut Owners, owned: &mut usize, raised: &mut usize, fd: u32)

@@ -2,7 +2,7 @@
 
 ghost use Rattle.std.specs.Prelude.{◌≡◌, ℕ, ◌≤ℤ◌, ◌<◌, ◌^◌, List, [], ◌∷◌, ℤ, pos, negsuc, unsigned_abs, IsTrue, ◌↔◌};
 ghost use Rattle.event_manager.specs.PollerCall.{PollerCall};
-ghost use Rattle.event_manager.specs.ReadyList.{event_of_entry};
+ghost use Rattle.dispatch_tables.specs.Event.{event_of_entry};
 ghost use Rattle.event_manager.specs.PollerRelations.{packed};
 ghost use Rattle.event_manager.specs.Exchange.{Exchanges, requests_of, answers_of, first_refusal};
 ghost use Rattle.event_manager.specs.Requests.{AreMadeThrough};
@@ -10,10 +10,10 @@ ghost use Rattle.event_manager.specs.declared.events.Request.{Request};
 ghost use Rattle.vmm_sys.specs.EventSet.{bits_of};
 
 use crate::epoll::EpollWrapper;
-use crate::owners::Owner;
 use crate::poller::EventPoller;
-use crate::priority::Priority;
 use crate::{Error, Result};
+use dispatch_tables::owners::Owner;
+use dispatch_tables::priority::Priority;
 use std::marker::Model;
 use vmm_sys::epoll::{AsRawFd, ControlOperation, EpollEvent, EventSet, RawFd};
 use vmm_sys::errno::Errno;
@@ -30,8 +30,8 @@ impl Model for Events {
     ghost use Rattle.std.specs.Prelude.{◌<◌, ◌^◌, ◌%◌};
     ghost use Rattle.std.proofs.Common.{ap};
     ghost use Rattle.vmm_sys.specs.EpollEvent.{word_of, set_of, event};
-    ghost use Rattle.event_manager.specs.Event.{Event, word_of_parts, word_of_parts-halves};
-    ghost use Rattle.event_manager.specs.ReadyList.{event_of_entry};
+    ghost use Rattle.dispatch_tables.specs.Event.{Event, word_of_parts, word_of_parts-halves};
+    ghost use Rattle.dispatch_tables.specs.Event.{event_of_entry};
     ghost use Rattle.event_manager.specs.PollerRelations.{packed};
 
     ghost Value = { Event };

@@ -5,10 +5,10 @@ ghost use Rattle.std.specs.List.{fold};
 ghost use Rattle.std.specs.Ordering.{nat_cmp};
 ghost use Rattle.std.specs.List.Sorted.{IsPermutation};
 ghost use Rattle.std.specs.Prelude.{IsTrue, ◌↔◌, ◌≡◌, ◌≢◌, ℕ, false, List, [], ◌∷◌, ◌++◌};
-ghost use Rattle.event_manager.specs.Event.{Event};
+ghost use Rattle.dispatch_tables.specs.Event.{Event};
 ghost use Rattle.event_manager.specs.PollerCall.{PollerCall};
 ghost use Rattle.event_manager.specs.Registrations.{Registrations};
-ghost use Rattle.event_manager.specs.Priority.{number_of};
+ghost use Rattle.dispatch_tables.specs.Priority.{number_of};
 ghost use Rattle.event_manager.specs.DispatchOrder.{class_of, IsDispatchOrder};
 ghost use Rattle.event_manager.specs.Exchange.{Exchanges, ExchangesFit};
 ghost use Rattle.event_manager.specs.Registry.{Registry, Step, Steps, Left, AreBelow};
@@ -20,8 +20,8 @@ ghost use Rattle.event_manager.specs.Guarantees.{AreGiven, steps_of, RemovedStay
 ghost use Rattle.event_manager.specs.Example.{any_begins, any_serves, any_may, joins, iterates};
 
 use crate::jobs::Job;
-use crate::priority::Priority;
 use crate::subscribers::{MutEventSubscriber, SubscriberId};
+use dispatch_tables::priority::Priority;
 use std::cmp::Ordering;
 use std::hash::{Hash, Hasher};
 

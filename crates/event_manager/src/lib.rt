@@ -7,8 +7,6 @@
 
 pub mod boxed_subscriber;
 pub mod calls;
-mod cancelled;
-mod dispatch_order;
 pub mod drive;
 pub mod endpoint;
 pub mod epoll;
@@ -17,20 +15,18 @@ pub mod events;
 pub mod jobs;
 pub mod laws;
 pub mod manager;
-mod owners;
-mod places;
 pub mod poller;
-pub mod priority;
 #[cfg(test)]
 mod subscriber_tests;
 pub mod subscribers;
 pub mod utilities;
-mod watch_lists;
 pub mod wrappers;
 
 pub use boxed_subscriber::{BoxedSubscriber, StepInput, StepSubscriber};
 pub use calls::{Call, Reply};
-pub use cancelled::cancelled_at;
+pub use dispatch_tables::cancelled::cancelled_at;
+pub use dispatch_tables::priority;
+pub use dispatch_tables::priority::Priority;
 pub use endpoint::RemoteEndpoint;
 pub use endpoint::closed::Closed;
 pub use error::{Error, Result};
@@ -40,7 +36,6 @@ pub use job_tickets::tickets::Ticket;
 pub use jobs::{Job, NoJob};
 pub use manager::{EventManager, MAX_READY_EVENTS_CAPACITY, SubscriberOps};
 pub use poller::{BoxedPoller, EventPoller, PlainPoller};
-pub use priority::Priority;
 pub use subscribers::{EventSubscriber, MutEventSubscriber, Registry, SubscriberId};
 pub use vmm_sys::epoll::EventSet;
 pub use wrappers::{Either, Locked};

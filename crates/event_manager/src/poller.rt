@@ -19,7 +19,7 @@ pub trait EventPoller {
     ghost use Rattle.std.specs.Prelude.{ℕ, ℤ, List, Result};
     ghost use Rattle.vmm_sys.specs.declared.errno.Errno.{Errno};
     ghost use Rattle.vmm_sys.specs.declared.epoll.ControlOperation.{ControlOperation};
-    ghost use Rattle.event_manager.specs.Event.{Event};
+    ghost use Rattle.dispatch_tables.specs.Event.{Event};
 
     /// From a value, with an operation, a descriptor and an event: which answer `control` may give, and which value it
     /// may leave.

@@ -2,7 +2,7 @@
 
 ghost use Rattle.std.specs.Prelude.{◌≡◌, ℕ, ◌≤◌, ◌<◌, ◌^◌, List, [], ◌∷◌, map, IfOk, MatchOption};
 ghost use Rattle.std.specs.Ordering.{nat_cmp};
-ghost use Rattle.event_manager.specs.Event.{Event};
+ghost use Rattle.dispatch_tables.specs.Event.{Event};
 ghost use Rattle.event_manager.specs.PollerCall.{PollerCall};
 ghost use Rattle.event_manager.specs.Exchange.{Exchanges};
 ghost use Rattle.event_manager.specs.Registry.{Step, HasId, LacksId};
@@ -13,9 +13,9 @@ ghost use Rattle.event_manager.specs.Subscribers.{TakesPosition, IsDispatched, I
 
 use crate::epoll::{EpollWrapper, Registrations};
 use crate::events::{EventOps, Events};
-use crate::places::SubscriberPlaces;
 use crate::poller::{BoxedPoller, EventPoller};
 use crate::{Error, Result};
+use dispatch_tables::places::SubscriberPlaces;
 use std::alloc::{AllocError, Global};
 use std::marker::Model;
 use vmm_sys::errno::Errno;
@@ -50,7 +50,7 @@ impl SubscriberId {
 /// A type states what its calls may ask for: `begins_shared` and `serves_shared` relate its value, the event, and the
 /// list of requests with their answers.
 pub trait EventSubscriber {
-    ghost use Rattle.event_manager.specs.Event.{Event};
+    ghost use Rattle.dispatch_tables.specs.Event.{Event};
     ghost use Rattle.event_manager.specs.Exchange.{Exchanges};
 
     /// What `init` may ask for.
@@ -75,7 +75,7 @@ pub trait EventSubscriber {
 /// A type states what its calls may ask for and do: `begins` and `serves` relate its value before, the event, the list
 /// of requests with their answers, and its value after. It changes the registrations through `ops` alone.
 pub trait MutEventSubscriber {
-    ghost use Rattle.event_manager.specs.Event.{Event};
+    ghost use Rattle.dispatch_tables.specs.Event.{Event};
     ghost use Rattle.event_manager.specs.Exchange.{Exchanges};
 
     /// What `init` may ask for, from the value before to the value after.

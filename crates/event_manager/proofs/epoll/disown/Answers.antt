@@ -1,6 +1,6 @@
 use Rattle.std.proofs.Common.{sym, subst, ◌∙◌, ◌-◌}
-use Rattle.event_manager.specs.Owners.{IsOwnerAt, AreCounted}
-use Rattle.event_manager.proofs.RaisedOwners.{owned_some, raised_some, lost_raised, lost_lowest, lost_none}
+use Rattle.dispatch_tables.specs.Owners.{IsOwnerAt, AreCounted}
+use Rattle.dispatch_tables.proofs.RaisedOwners.{owned_some, raised_some, lost_raised, lost_lowest, lost_none}
 use Rattle.event_manager.proofs.epoll.disown.Goals as goal
 
 pub overflow_sub-owned : goal.overflow_sub-owned

@@ -1,5 +1,5 @@
 use Rattle.std.proofs.Common.{subst, arith, take, ◌+◌, sym, get_or}
-use Rattle.event_manager.specs.Owners.{with_none_at}
+use Rattle.dispatch_tables.specs.Owners.{with_none_at}
 use Rattle.event_manager.specs.Releasing.{AreWithout}
 use Rattle.event_manager.proofs.Watching.{without_more}
 use Rattle.event_manager.proofs.epoll.disown_all.Goals as goal

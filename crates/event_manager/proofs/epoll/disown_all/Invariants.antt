@@ -1,5 +1,5 @@
 use Rattle.std.proofs.Common.{◌≤◌, take}
-use Rattle.event_manager.specs.Owners.{AreCounted}
+use Rattle.dispatch_tables.specs.Owners.{AreCounted}
 use Rattle.event_manager.specs.Releasing.{AreWithout}
 use Rattle.event_manager.proofs.epoll.disown_all.Given as goal
 

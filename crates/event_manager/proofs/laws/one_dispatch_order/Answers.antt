@@ -1,5 +1,5 @@
 use Rattle.event_manager.specs.DispatchOrder.{class_of}
-use Rattle.event_manager.proofs.DispatchOrders.{by_class, ordered_by_class, one_order, ordered_permutation, ordered_in_class_0}
+use Rattle.dispatch_tables.proofs.DispatchOrders.{by_class, ordered_by_class, one_order, ordered_permutation, ordered_in_class_0}
 use Rattle.event_manager.proofs.laws.one_dispatch_order.Goals as goal
 
 pub returns-clause-exists : goal.returns-clause-exists

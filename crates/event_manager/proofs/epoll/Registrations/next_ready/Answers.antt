@@ -1,6 +1,7 @@
 use Rattle.std.proofs.Common.{refl, arith, ap, sym, ◌∙◌, ◌∷◌, ◌+◌, ◌==◌, SFits, w32, rules}
 use Rattle.std.proofs.lemmas.Int.{to_z-of_z}
-use Rattle.event_manager.specs.ReadyList.{event_of_entry, ready_of}
+use Rattle.dispatch_tables.specs.Event.{event_of_entry}
+use Rattle.event_manager.specs.ReadyList.{ready_of}
 use Rattle.event_manager.proofs.Buffer.{ready_more}
 use Rattle.event_manager.proofs.epoll.Registrations.next_ready.Goals as goal
 

@@ -1,5 +1,5 @@
 use Rattle.std.proofs.Common.{refl, arith, sym, ap, ◌∙◌, ◌+◌, vec_len}
-use Rattle.event_manager.proofs.RaisedOwners.{raised_at_most, counted_raised, counted_lowest}
+use Rattle.dispatch_tables.proofs.RaisedOwners.{raised_at_most, counted_raised, counted_lowest}
 use Rattle.event_manager.proofs.Consistent.{consistent_registered, consistent_restored, same_owners, same_state}
 use Rattle.event_manager.specs.ReadyList.{ready_of}
 use Rattle.event_manager.proofs.epoll.Registrations.register.Goals as goal

@@ -2,7 +2,7 @@ use Rattle.std.proofs.Common.{arith, ap, ◌∙◌, vec_len, SFits, w32, rules}
 use Rattle.std.proofs.lemmas.Int.{to_z-of_z}
 use Rattle.event_manager.proofs.Consistent.{consistent_removed, room_for_it, same_state}
 use Rattle.event_manager.proofs.Watching.{listed_once}
-use Rattle.event_manager.specs.Owners.{with_none_at}
+use Rattle.dispatch_tables.specs.Owners.{with_none_at}
 use Rattle.event_manager.proofs.Buffer.{ready_cancelled}
 use Rattle.event_manager.proofs.epoll.Registrations.remove.Goals as goal
 

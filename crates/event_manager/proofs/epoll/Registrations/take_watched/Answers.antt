@@ -1,7 +1,7 @@
 use Rattle.event_manager.specs.Registry.{without_owner}
 use Rattle.std.proofs.Common.{◌≡◌, refl, sym, ap, ◌∙◌, vec_len}
 use Rattle.event_manager.specs.RegistrationState.{RegistrationState, registrations_of}
-use Rattle.event_manager.specs.WatchLists.{times_in}
+use Rattle.dispatch_tables.specs.WatchLists.{times_in}
 use Rattle.event_manager.proofs.Consistent.{consistent_taken, same_state}
 use Rattle.event_manager.proofs.Watching.{entries_taken, owned_once, listed_are_descriptors}
 use Rattle.event_manager.proofs.epoll.Registrations.take_watched.Goals as goal

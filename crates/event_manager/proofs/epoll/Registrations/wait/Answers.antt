@@ -2,13 +2,14 @@ use Rattle.std.proofs.Common.{◌≡◌, refl, arith, sym, ap, subst, ◌∙◌,
 use Rattle.std.proofs.lemmas.List.{with_items_is}
 use Rattle.std.specs.Vec.{with_items}
 use Rattle.std.proofs.lemmas.Int.{to_z-of_z}
-use Rattle.event_manager.specs.Owners.{class_in}
-use Rattle.event_manager.specs.DispatchOrder.{IsOrdered}
-use Rattle.event_manager.specs.ReadyList.{event_of_entry, ready_of}
+use Rattle.dispatch_tables.specs.Owners.{class_in}
+use Rattle.dispatch_tables.specs.ClassOrder.{IsOrdered}
+use Rattle.dispatch_tables.specs.Event.{event_of_entry}
+use Rattle.event_manager.specs.ReadyList.{ready_of}
 use Rattle.event_manager.proofs.Buffer.{ready_all_pending, length_events}
 use Rattle.event_manager.proofs.Consistent.{same_state}
-use Rattle.event_manager.proofs.DispatchOrders.{ordered_in_class_0}
-use Rattle.event_manager.proofs.RaisedOwners.{all_lowest}
+use Rattle.dispatch_tables.proofs.DispatchOrders.{ordered_in_class_0}
+use Rattle.dispatch_tables.proofs.RaisedOwners.{all_lowest}
 use Rattle.event_manager.proofs.epoll.Registrations.wait.Goals.{then-self-gt0, else-self-gt0}
 use Rattle.event_manager.proofs.epoll.Registrations.wait.Goals as goal
 

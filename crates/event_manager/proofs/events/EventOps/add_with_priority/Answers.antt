@@ -4,8 +4,8 @@ use Rattle.event_manager.specs.Exchange.{by_manager, by_poller, by_agreement}
 use Rattle.event_manager.specs.PollerCall.{Control}
 use Rattle.event_manager.specs.declared.events.Request.TheVariants.{AddWithPriority}
 use Rattle.std.specs.FinMap.{remove, get}
-use Rattle.event_manager.specs.Priority.{number_of}
-use Rattle.event_manager.proofs.MapEntries.{remove_insert, get_same}
+use Rattle.dispatch_tables.specs.Priority.{number_of}
+use Rattle.dispatch_tables.proofs.MapEntries.{remove_insert, get_same}
 use Rattle.event_manager.proofs.ExchangeLemmas.{one_made_through, kept, refused_by_manager, cancel_removed_other}
 use Rattle.event_manager.specs.RegistrationState.{RegistrationState, registrations_of}
 use Rattle.event_manager.proofs.events.EventOps.add_with_priority.Goals as goal

@@ -1,7 +1,7 @@
 use Rattle.std.proofs.Common.{refl, ap, sym, ◌∙◌, List, [], ◌∷◌, Ok, Err}
 use Rattle.std.proofs.lemmas.Bool.{false≢true}
 use Rattle.vmm_sys.specs.declared.epoll.ControlOperation.TheVariants as operation
-use Rattle.event_manager.specs.Event.{Event}
+use Rattle.dispatch_tables.specs.Event.{Event}
 use Rattle.event_manager.specs.Exchange.{by_manager, by_poller, by_agreement}
 use Rattle.event_manager.specs.PollerCall.{Control}
 use Rattle.std.specs.FinMap.{remove}

@@ -1,5 +1,5 @@
 use Rattle.std.proofs.Common.{sym, ap, ◌∙◌, arith, []}
-use Rattle.event_manager.specs.Event.{Event}
+use Rattle.dispatch_tables.specs.Event.{Event}
 use Rattle.event_manager.specs.LoopState.{LoopState, new_loop}
 use Rattle.event_manager.specs.RegistrationState.{RegistrationState, registrations_of}
 use Rattle.event_manager.proofs.manager.EventManager.new_with_capacity.Goals as goal

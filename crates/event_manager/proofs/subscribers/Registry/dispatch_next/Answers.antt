@@ -1,5 +1,5 @@
 use Rattle.std.proofs.Common.{refl, sym, ap, ◌∙◌, inl, inr}
-use Rattle.event_manager.specs.Owners.{owner_id}
+use Rattle.dispatch_tables.specs.Owners.{owner_id}
 use Rattle.event_manager.proofs.Positions.{nobody_position, served_position, not_owned, not_there}
 use Rattle.event_manager.proofs.subscribers.Registry.dispatch_next.Goals as goal
 

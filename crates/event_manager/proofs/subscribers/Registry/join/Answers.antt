@@ -1,6 +1,6 @@
 use Rattle.std.proofs.Common.{◌≡◌, Some, None, refl, ap, ◌∙◌, inr, arith, ◌+◌, subst, []}
 use Rattle.std.specs.FinMap.{insert, get}
-use Rattle.event_manager.proofs.MapEntries.{insert_twice, get_same, some_is}
+use Rattle.dispatch_tables.proofs.MapEntries.{insert_twice, get_same, some_is}
 use Rattle.event_manager.proofs.ExchangeLemmas.{idle_fits}
 use Rattle.event_manager.specs.Registry.{Joined, NotJoined}
 use Rattle.event_manager.specs.Subscribers.{idle}

@@ -1,0 +1,14 @@
+pub mod NumberTests
+pub mod TimesListed
+pub mod PlaceLemmas
+pub mod VacantPlaces
+pub mod OwnerMaps
+pub mod Counting
+pub mod RaisedOwners
+pub mod RetainedKeys
+pub mod MapEntries
+pub mod ClassEntries
+pub mod DispatchOrders
+pub mod Ascending
+pub mod SortedLists
+pub mod ListChanges

@@ -1,0 +1,141 @@
+//! Who owns which descriptor, and at which priority.
+
+ghost use Rattle.std.specs.Prelude.{◌≡◌, ◌<◌, ◌≤◌, length, None, Some, OnOk, OnErr};
+ghost use Rattle.dispatch_tables.specs.Priority.{number_of};
+ghost use Rattle.dispatch_tables.specs.Owners.{no_owners, with_owner_at, with_none_at, owner_at, HasOwnerAt, IsOwnerAt, class_in};
+
+use crate::priority::Priority;
+use std::alloc::{AllocError, Global};
+use std::collections::HashMap;
+use std::marker::Model;
+
+/// Descriptors below this number are low: their owners stand in a vector, by descriptor.
+const LOW_DESCRIPTORS: u32 = 65536;
+
+/// Who owns a descriptor: the id of a subscriber, the place where the registry was holding it when it added the
+/// descriptor, and the priority that it then gave.
+#[derive(Clone, Copy)]
+pub struct Owner {
+    pub id: u64,
+    pub place: usize,
+    pub priority: Priority,
+}
+
+/// The owners of the descriptors. A look-up of a low descriptor reads one place of a vector, which is as long as the
+/// highest low descriptor that was ever added; one of another descriptor searches a hash map.
+#[derive(Drop)]
+pub struct Owners {
+    low: Vec<Option<Owner>>,
+    high: HashMap<u32, Owner>,
+}
+
+impl Model for Owners {
+    ghost use Rattle.dispatch_tables.specs.Owners.{OwnerMaps, owner_maps_code, owners_in, AreApart};
+
+    ghost Value = { OwnerMaps };
+
+    ghost coded = { owner_maps_code };
+
+    ghost view = { λ o. owners_in o.low.items o.high.entries };
+
+    ghost invariant = { λ o. AreApart o.low.items o.high.entries };
+}
+
+impl Owners {
+    /// No owner.
+    pub fn new(alloc: Global) -> Self
+        ensures { result ≡ no_owners }
+    {
+        Owners {
+            low: Vec::new(alloc),
+            high: HashMap::new(alloc),
+        }
+    }
+
+    /// The owner of the descriptor.
+    pub fn get(&self, fd: u32) -> Option<Owner>
+        ensures { IsOwnerAt self.now fd result }
+    {
+        if fd < LOW_DESCRIPTORS {
+            return copy_at(&self.low, fd as usize);
+        }
+        self.high.get(&fd).copied()
+    }
+
+    /// The class of the descriptor: its priority, the lowest where it has no owner.
+    pub fn class(&self, fd: u32) -> Priority
+        ensures { number_of result ≡ class_in self.now fd }
+    {
+        match self.get(fd) {
+            Some(owner) => owner.priority,
+            None => Priority::Lowest,
+        }
+    }
+
+    /// Enters the owner of a descriptor. Where memory is refused, all owners stay as they were.
+    pub fn insert(&mut self, fd: u32, owner: Owner) -> std::result::Result<(), AllocError>
+        ensures ok { OnOk result (self.new ≡ with_owner_at fd owner self.old) }
+        ensures err { OnErr result (self.new ≡ self.old) }
+    {
+        if fd < LOW_DESCRIPTORS {
+            put_at(&mut self.low, fd as usize, owner)?;
+            return Ok(());
+        }
+        match self.high.insert(fd, owner) {
+            Ok(_) => {}
+            Err(_) => return Err(AllocError),
+        }
+        Ok(())
+    }
+
+    /// Takes out the owner of the descriptor, and answers it. Takes no memory.
+    pub fn remove(&mut self, fd: u32) -> Option<Owner>
+        ensures value { IsOwnerAt self.old fd result }
+        ensures removed { self.new ≡ with_none_at fd self.old }
+    {
+        if fd < LOW_DESCRIPTORS {
+            return take_at(&mut self.low, fd as usize);
+        }
+        self.high.remove(&fd)
+    }
+}
+
+/// Puts an owner at a descriptor, and makes the vector as long as it takes. Where memory is refused, it stays.
+fn put_at(
+    low: &mut Vec<Option<Owner>>,
+    fd: usize,
+    owner: Owner,
+) -> std::result::Result<(), AllocError>
+    requires { fd < 65536 }
+    ensures len { length low.old.items ≤ 65536 → length low.new.items ≤ 65536 }
+    ensures ok { OnOk result (HasOwnerAt low.old.items fd (Some owner) low.new.items) }
+    ensures err { OnErr result (low.new.items ≡ low.old.items) }
+{
+    if fd >= low.len() {
+        low.resize(fd + 1, None)?;
+    }
+    low[fd] = Some(owner);
+    Ok(())
+}
+
+/// The owner at a descriptor.
+fn copy_at(low: &[Option<Owner>], fd: usize) -> Option<Owner>
+    ensures { result ≡ owner_at low.now fd }
+{
+    match low.get(fd) {
+        Some(owner) => *owner,
+        None => None,
+    }
+}
+
+/// Takes out the owner at a descriptor, and answers it.
+fn take_at(low: &mut Vec<Option<Owner>>, fd: usize) -> Option<Owner>
+    ensures value { result ≡ owner_at low.old.items fd }
+    ensures taken { HasOwnerAt low.old.items fd None low.new.items }
+    ensures len { length low.new.items ≡ length low.old.items }
+{
+    if fd < low.len() {
+        return low[fd].take();
+    }
+    None
+}
