@@ -7,14 +7,13 @@ use Rattle.std.proofs.lemmas.Int.{ints, to_z_pos}
 use Rattle.std.proofs.lemmas.Bool.Decides.{same_from_decides, Decides-like, Decides-int_eq, Decides-eqb}
 use Rattle.std.proofs.lemmas.List.{length-take-le, drop_all}
 use Rattle.vmm_sys.specs.EpollEvent.{fd_of, word_of}
-use Rattle.dispatch_tables.specs.Event.{Event}
+use Rattle.dispatch_tables.specs.Event.{Event, event_of_entry}
 use Rattle.dispatch_tables.specs.Cancelled.{HasEntered}
 use base.Stored.{Gv}
 use Rattle.vmm_sys.specs.declared.poller.Poller.{Ghosts}
 use Rattle.event_manager.specs.PollerRelations.{waits}
 use Rattle.event_manager.specs.RegistrationState.{all_pending, cancel_on}
 use Rattle.vmm_sys.specs.declared.epoll.EpollEvent.{EpollEvent}
-use Rattle.dispatch_tables.specs.Event.{event_of_entry}
 use Rattle.event_manager.specs.ReadyList.{is_cancelled, ready_of}
 
 -- one more position: the entry with its mark, and then the others

@@ -2,7 +2,7 @@
 use Rattle.std.proofs.Common.{◌≡◌, ℕ, ℤ, ◌+◌, ◌-◌, ◌<◌, ◌≤◌, ◌^◌, sym, ap, subst, ◌∙◌, List, [], length, get_or, Some, None, is_some, IsSome, arith, nat_cmp, cond, Bool}
 use Rattle.std.proofs.lemmas.Bool.{false≢true}
 use Rattle.std.specs.FinMap.{get, len, get-empty}
-use Rattle.event_manager.specs.Consistency.{AreConsistent}
+use Rattle.event_manager.specs.Consistency.{AreConsistent, AreWatched}
 use Rattle.dispatch_tables.specs.Cancelled.{IsAscending}
 use Rattle.dispatch_tables.specs.Event.{Event}
 use Rattle.event_manager.specs.RegistrationState.{RegistrationState}
@@ -11,7 +11,6 @@ use Rattle.event_manager.specs.Releasing.{AreWithout}
 use Rattle.dispatch_tables.specs.Owners.{OwnerMaps, no_owners, with_owner_at, with_none_at, AreCounted}
 use Rattle.dispatch_tables.specs.declared.owners.Owner.{Owner}
 use Rattle.dispatch_tables.specs.WatchLists.{watch_list, times_in, AreSorted, HasOneMore, HasList, HasSameLists}
-use Rattle.event_manager.specs.Consistency.{AreWatched}
 use Rattle.event_manager.specs.ReadyList.{AreDescriptors}
 use Rattle.dispatch_tables.specs.declared.watch_lists.WatchLists.{WatchLists}
 use Rattle.dispatch_tables.proofs.Counting.{held_one, one_fewer}

@@ -5,10 +5,9 @@ use Rattle.vmm_sys.specs.declared.epoll.EpollEvent.{EpollEvent}
 use Rattle.vmm_sys.specs.declared.errno.Errno.{Errno}
 use Rattle.vmm_sys.specs.declared.epoll.ControlOperation.{ControlOperation}
 use Rattle.vmm_sys.specs.declared.poller.Poller.{Ghosts}
-use Rattle.dispatch_tables.specs.Event.{Event, word_of_parts}
+use Rattle.dispatch_tables.specs.Event.{Event, word_of_parts, event_of_entry}
 use Rattle.vmm_sys.specs.EpollEvent.{event}
 use Rattle.vmm_sys.specs.EventSet.{with_bits}
-use Rattle.dispatch_tables.specs.Event.{event_of_entry}
 
 -- an event as it is packed for a poller
 abbrev pub packed : Event → EpollEvent

@@ -2,14 +2,13 @@
 
 ghost use Rattle.std.specs.Prelude.{◌≡◌, ◌≤◌, ◌<◌, ◌^◌, List, [], ◌∷◌, None, OnOk, IfErr, IfOk, IfSome, Result, Bool, IsTrue, ◌↔◌, ◌==◌, MatchOption, All};
 ghost use Rattle.std.specs.FinMap as map;
-ghost use Rattle.dispatch_tables.specs.Event.{Event};
+ghost use Rattle.dispatch_tables.specs.Event.{Event, event_of_entry};
 ghost use Rattle.event_manager.specs.PollerCall.{Control, Wait, Leads};
 ghost use Rattle.event_manager.specs.Registrations.{Owns, IsFree};
 ghost use Rattle.event_manager.specs.Registry.{AreOwnedBy};
 ghost use Rattle.dispatch_tables.specs.Priority.{number_of};
 ghost use Rattle.event_manager.specs.Exchange.{IsVacant};
 ghost use Rattle.dispatch_tables.specs.Owners.{owner_id, with_none_at, AreCounted};
-ghost use Rattle.dispatch_tables.specs.Event.{event_of_entry};
 ghost use Rattle.event_manager.specs.RegistrationState.{registrations_of, cancel_on, left_in, HasWaited};
 ghost use Rattle.event_manager.specs.Releasing.{AreWithout, HasReleased};
 ghost use Rattle.vmm_sys.specs.declared.errno.Errno.{Errno};

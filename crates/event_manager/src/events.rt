@@ -30,8 +30,7 @@ impl Model for Events {
     ghost use Rattle.std.specs.Prelude.{◌<◌, ◌^◌, ◌%◌};
     ghost use Rattle.std.proofs.Common.{ap};
     ghost use Rattle.vmm_sys.specs.EpollEvent.{word_of, set_of, event};
-    ghost use Rattle.dispatch_tables.specs.Event.{Event, word_of_parts, word_of_parts-halves};
-    ghost use Rattle.dispatch_tables.specs.Event.{event_of_entry};
+    ghost use Rattle.dispatch_tables.specs.Event.{Event, word_of_parts, word_of_parts-halves, event_of_entry};
     ghost use Rattle.event_manager.specs.PollerRelations.{packed};
 
     ghost Value = { Event };
