@@ -16,6 +16,8 @@ mod gated;
 #[cfg(test)]
 mod kicks;
 #[cfg(test)]
+mod looks;
+#[cfg(test)]
 mod making;
 #[cfg(test)]
 mod members;

@@ -199,3 +199,46 @@ fn jobs_are_run_where_the_counter_has_nothing(rt: HostRuntime) -> std::result::R
     };
     with_endpoint(parts, body)
 }
+
+/// Runs over a script, kicks, and runs again: the first run has an event of the endpoint, and the second none.
+#[derive(Drop)]
+struct RunBehindKick<'a, R> {
+    rt: &'a R,
+    counter: EventFd,
+}
+
+impl<R: Wait + Clock + Abort> WithEndpoint for RunBehindKick<'_, R> {
+    type Subscriber = Idle;
+
+    type Job = Work;
+
+    fn run<L: Ledger, T: Ledger, P: EventPoller>(
+        self,
+        manager: &mut EventManager<Idle, Work, L, T, P>,
+        endpoint: &RemoteEndpoint<Idle, Work, L, T>,
+    ) -> std::result::Result<(), Fail> {
+        let RunBehindKick { rt, counter } = self;
+        expect_run(rt, manager, Ok(1));
+        endpoint.kick(rt)?;
+        expect_run(rt, manager, Ok(1));
+        expect_same(rt, &counter.read(rt), &Ok(1));
+        Ok(())
+    }
+}
+
+#[test]
+fn endpoint_event_is_answered_by_its_own_run_alone(
+    rt: HostRuntime,
+) -> std::result::Result<(), Fail> {
+    let Parts { event_fd, .. } = on_table(rt, rt.alloc(), 3)?;
+    let counter = event_fd.try_clone()?;
+    let mut script = script_of(rt.alloc(), &[(0, EventSet::IN)])?;
+    script.push_report(vec![in rt.alloc(); EpollEvent::new(EventSet::IN, 7)]?)?;
+    let parts = Parts {
+        alloc: rt.alloc(),
+        poller: PlainPoller(script),
+        event_fd,
+    };
+    let body = RunBehindKick { rt: &rt, counter };
+    with_endpoint(parts, body)
+}

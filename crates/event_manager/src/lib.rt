@@ -16,8 +16,6 @@ pub mod jobs;
 pub mod laws;
 pub mod manager;
 pub mod poller;
-#[cfg(test)]
-mod subscriber_tests;
 pub mod subscribers;
 pub mod utilities;
 pub mod wrappers;

@@ -274,6 +274,3 @@ impl<S: MutEventSubscriber + Drop, J: Job<S>, L: Ledger, T: Ledger, P: EventPoll
         self.registry.event_ops(id)
     }
 }
-
-#[cfg(test)]
-mod tests;

@@ -137,23 +137,6 @@ impl<S: MutEventSubscriber, P: EventPoller> Registry<S, P> {
         })
     }
 
-    /// As [`new`](Registry::new), with another next id.
-    #[cfg(test)]
-    pub(crate) fn with_next_id(
-        alloc: Global,
-        poller: P,
-        endpoint: u32,
-        capacity: usize,
-        next: u64,
-    ) -> std::result::Result<Self, AllocError>
-    where
-        P: Drop,
-    {
-        let mut registry = Registry::new(alloc, poller, endpoint, capacity)?;
-        registry.next = next;
-        Ok(registry)
-    }
-
     /// Takes one position of the batch: hands its event to the owner of its descriptor, where there is one and the
     /// event isn't cancelled. Answers whether the event was on the endpoint's descriptor; `None` where no position is
     /// left.
