@@ -1,4 +1,4 @@
-//! A thread that looks how many jobs wait, while another sends.
+//! A thread that looks how many jobs wait, while another's sends are refused under the lock.
 
 ghost use Rattle.std.specs.Prelude.{◌≡◌};
 
@@ -6,9 +6,10 @@ use crate::expecting::{expect_pending, expect_same};
 use crate::making::{Idle, OnTable, make, on_table};
 use crate::threads::Host;
 use crate::work::Work;
-use event_manager::{RemoteEndpoint, Result};
+use event_manager::RemoteEndpoint;
 use std::marker::Brand;
 use std::sync::Wait;
+use std::sync::atomic::{AtomicBool, Ordering};
 use std::sync::ledger::{Blank, Ledger};
 use std::test::Fail;
 use std::thread;
@@ -16,38 +17,40 @@ use std::time::Clock;
 
 type Sender<L, T> = RemoteEndpoint<Idle, Work, L, T>;
 
-/// How many jobs are sent.
-const JOBS: usize = 20_000;
+/// How often a thread looks, and how often the other sends, at most: for seconds.
+const MOST: u32 = 50_000_000;
 
-/// How often the other thread looks at most.
-const LOOKS: u32 = 10_000_000;
-
-/// Sends the jobs.
-fn send_all<L: Ledger, T: Ledger, R: Wait + Clock>(rt: &R, endpoint: &Sender<L, T>) -> Result<()> {
-    for _job in 0..JOBS {
-        let _ticket = endpoint.fire(Work::Own(0), rt)?;
-    }
-    Ok(())
-}
-
-/// Looks until all jobs wait: whether no answer was below the one before.
-fn only_goes_up<L: Ledger, T: Ledger>(endpoint: &Sender<L, T>) -> bool {
-    let mut most = 0;
-    for _look in 0..LOOKS {
-        if let Some(count) = endpoint.pending() {
-            if count < most {
-                return false;
-            }
-            most = count;
+/// Sends until it is told to stop: whether each send was refused.
+fn send_in_vain<L: Ledger, T: Ledger, R: Wait + Clock>(
+    rt: &R,
+    endpoint: &Sender<L, T>,
+    is_over: &AtomicBool,
+) -> bool {
+    for _send in 0..MOST {
+        if is_over.load(Ordering::SeqCst) {
+            return true;
         }
-        if most == JOBS {
-            break;
+        if endpoint.fire(Work::Own(0), rt).is_ok() {
+            return false;
         }
     }
     true
 }
 
-/// A thread that sends, and one that looks, at an endpoint of a manager of these parts.
+/// Looks until the answer isn't that one job waits, and tells the other thread to stop.
+fn look<L: Ledger, T: Ledger>(endpoint: &Sender<L, T>, is_over: &AtomicBool) -> Option<usize> {
+    let mut seen = Some(1);
+    for _look in 0..MOST {
+        seen = endpoint.pending();
+        if seen != Some(1) {
+            break;
+        }
+    }
+    is_over.store(true, Ordering::SeqCst);
+    seen
+}
+
+/// A thread that sends in vain, and one that looks, at an endpoint of a manager of these parts.
 fn look_beside_sends<L: Ledger + Send + Sync, T: Ledger + Send + Sync, R: Host>(
     rt: &R,
     parts: OnTable<R>,
@@ -61,16 +64,23 @@ fn look_beside_sends<L: Ledger + Send + Sync, T: Ledger + Send + Sync, R: Host>(
 {
     let manager = make::<Idle, Work, L, T, _>(parts, tickets, taken)?;
     let endpoint = manager.remote_endpoint()?;
-    let (sent, went_up) = thread::join(rt, || send_all(rt, &endpoint), || only_goes_up(&endpoint));
-    sent?;
-    expect_same(rt, &went_up, &true);
-    expect_pending(rt, &endpoint, JOBS);
+    // the counter is full behind it
+    let _ticket = endpoint.fire(Work::Own(0), rt)?;
+    let is_over = AtomicBool::new(false);
+    let (is_refused, seen) = thread::join(
+        rt,
+        || send_in_vain(rt, &endpoint, &is_over),
+        || look(&endpoint, &is_over),
+    );
+    expect_same(rt, &is_refused, &true);
+    expect_same(rt, &seen, &None);
+    expect_pending(rt, &endpoint, 1);
     Ok(())
 }
 
 #[test]
-fn pending_only_goes_up_beside_sends(rt: HostRuntime) -> std::result::Result<(), Fail> {
-    let parts = on_table(rt, rt.alloc(), 0)?;
+fn pending_is_unknown_while_the_lock_is_held(rt: HostRuntime) -> std::result::Result<(), Fail> {
+    let parts = on_table(rt, rt.alloc(), u64::MAX - 2)?;
     let tickets = Blank::new(9223372036854775808);
     look_beside_sends::<Brand, Brand, HostRuntime>(&rt, parts, tickets, Blank::new(1))
 }

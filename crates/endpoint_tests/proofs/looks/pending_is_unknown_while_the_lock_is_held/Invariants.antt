@@ -1,4 +1,4 @@
-use Rattle.endpoint_tests.proofs.looks.pending_only_goes_up_beside_sends.Given as goal
+use Rattle.endpoint_tests.proofs.looks.pending_is_unknown_while_the_lock_is_held.Given as goal
 
 abbrev pub ghosts-look_beside_sends-L-Ledger : goal.ghosts-look_beside_sends-L-Ledger
 ghosts-look_beside_sends-L-Ledger g a = record { name = a.tickets.name; parts = a.tickets.parts }
