@@ -1,10 +1,10 @@
 -- What an actor asks for.
 use Rattle.std.specs.Prelude.{Option, Some, None, unsigned_abs}
 use Rattle.event_manager.specs.Event.{Event}
-use Rattle.event_manager.specs.declared.boxed_subscriber.StepInput.{StepInput}
-use Rattle.event_manager.specs.declared.boxed_subscriber.StepInput.TheVariants.{Init, Event as event, Answer}
-use Rattle.event_manager.specs.declared.events.Request.{Request}
-use Rattle.event_manager.specs.declared.events.Request.TheVariants.{Add}
+use Rattle.event_manager.specs.StepInput.{StepInput}
+use Rattle.event_manager.specs.StepInput.TheVariants.{Init, Event as event, Answer}
+use Rattle.event_manager.specs.Request.{Request}
+use Rattle.event_manager.specs.Request.TheVariants.{Add}
 use Rattle.vmm_sys.specs.EventFd.{descriptor_of}
 use Rattle.actors.specs.declared.mailbox.Mailbox.{Mailbox}
 

@@ -15,7 +15,7 @@ impl Job<Counter> for CountOne {
     ghost use Rattle.std.specs.Prelude.{◌≡◌, [], ◌∷◌, ◌⊎◌, Ok, Err};
     ghost use Rattle.event_manager.specs.CounterEvents.{next_count};
     ghost use Rattle.event_manager.specs.Registry.{Step, Replaced, NotReplaced};
-    ghost use Rattle.event_manager.specs.declared.error.Error.TheVariants.{InvalidId};
+    ghost use Rattle.event_manager.specs.Error.TheVariants.{InvalidId};
     ghost use Rattle.bench.specs.declared.subscribers.Counter.{Counter};
 
     ghost may = { λ self steps reply. ((old : Counter) × (steps ≡ Replaced self.0 old (record old { count = next_count old.count }) ∷ []))

@@ -109,7 +109,7 @@ impl Toggler {
 impl MutEventSubscriber for Toggler {
     ghost use Rattle.std.specs.Prelude.{◌≡◌, ◌+◌, [], ◌∷◌};
     ghost use Rattle.event_manager.specs.Exchange.{Answer};
-    ghost use Rattle.event_manager.specs.declared.events.Request.TheVariants.{Add, Remove};
+    ghost use Rattle.event_manager.specs.Request.TheVariants.{Add, Remove};
 
     ghost begins = { λ v exchanges w. w.count ≡ v.count };
 
@@ -148,7 +148,7 @@ pub struct Reader<R> {
 impl<R: Wait> MutEventSubscriber for Reader<R> {
     ghost use Rattle.std.specs.Prelude.{◌≡◌, [], ◌∷◌, unsigned_abs};
     ghost use Rattle.event_manager.specs.Exchange.{Answer};
-    ghost use Rattle.event_manager.specs.declared.events.Request.TheVariants.{Add};
+    ghost use Rattle.event_manager.specs.Request.TheVariants.{Add};
     ghost use Rattle.vmm_sys.specs.EventFd.{descriptor_of};
 
     ghost begins = { λ v exchanges w. (answer : Answer) × (exchanges ≡ (Add (record { fd = unsigned_abs (descriptor_of v.counter); payload = 0; set = 1 }), answer) ∷ []) × (w ≡ v) };

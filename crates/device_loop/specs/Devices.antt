@@ -2,7 +2,7 @@
 use Rattle.std.specs.Prelude.{Result, Ok, Err}
 use Rattle.event_manager.specs.Event.{Event}
 use Rattle.event_manager.specs.Exchange.{Answer, Exchanges}
-use Rattle.event_manager.specs.declared.error.Error.{Error}
+use Rattle.event_manager.specs.Error.{Error}
 use Rattle.device_loop.specs.declared.devices.QueueDevice.{QueueDevice}
 use Rattle.device_loop.specs.declared.devices.Console.{Console}
 use Rattle.device_loop.specs.declared.devices.Device.{Device}

@@ -45,7 +45,7 @@ impl<R: Wait + Drop> QueueDevice<R> {
 
 impl<R: Wait> MutEventSubscriber for QueueDevice<R> {
     ghost use Rattle.std.specs.Prelude.{◌≡◌, ◌==◌, ◌||◌, [], ◌∷◌, is_ok, MatchBool};
-    ghost use Rattle.event_manager.specs.declared.events.Request.TheVariants.{Add};
+    ghost use Rattle.event_manager.specs.Request.TheVariants.{Add};
     ghost use Rattle.device_loop.specs.Kicks.{kicks};
 
     // It asks to add the first queue's counter, and keeps the answer.
@@ -100,7 +100,7 @@ impl<R: Wait + Drop> Console<R> {
 
 impl<R: Wait> MutEventSubscriber for Console<R> {
     ghost use Rattle.std.specs.Prelude.{◌≡◌, ◌==◌, [], ◌∷◌, true, MatchBool, bit_and, unsigned_abs};
-    ghost use Rattle.event_manager.specs.declared.events.Request.TheVariants.{Add, Remove};
+    ghost use Rattle.event_manager.specs.Request.TheVariants.{Add, Remove};
     ghost use Rattle.vmm_sys.specs.Line.{descriptor_of};
 
     // It asks to add its line, wanted for IN, and keeps the answer.

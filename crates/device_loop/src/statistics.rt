@@ -40,7 +40,7 @@ impl<R: Wait + Drop> Job<Device<R>> for ReadStatistics {
 
     ghost use Rattle.std.specs.Prelude.{◌≡◌, [], ◌∷◌, ◌⊎◌, Err};
     ghost use Rattle.event_manager.specs.Registry.{Step, Replaced, NotReplaced};
-    ghost use Rattle.event_manager.specs.declared.error.Error.TheVariants.{InvalidId};
+    ghost use Rattle.event_manager.specs.Error.TheVariants.{InvalidId};
     ghost use Rattle.device_loop.specs.declared.devices.Device.{Device};
     ghost use Rattle.device_loop.specs.Devices.{statistics_of};
 

@@ -52,7 +52,7 @@ pub fn wanted(fd: u8) -> Events {
 impl MutEventSubscriber for Noting {
     ghost use Rattle.std.specs.Prelude.{◌≡◌, [], ◌∷◌};
     ghost use Rattle.event_manager.specs.Exchange.{Answer};
-    ghost use Rattle.event_manager.specs.declared.events.Request.TheVariants.{Add};
+    ghost use Rattle.event_manager.specs.Request.TheVariants.{Add};
 
     ghost begins = { λ v exchanges w. (x y : Answer) × (exchanges ≡ (Add v.first, x) ∷ (Add v.second, y) ∷ []) };
 

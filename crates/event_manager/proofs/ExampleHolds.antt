@@ -2,13 +2,13 @@
 use Rattle.std.proofs.Common.{◌≡◌, ℕ, true≢false, refl, ap, [], ◌∷◌, Some, None, Ok, lit<, arith, nat_cmp, ◌==◌}
 use Rattle.std.specs.FinMap.{get, insert, remove, empty, get-empty, get-insert, get-remove}
 use Rattle.std.specs.Cmp.{nat_cmp_total}
-use Rattle.event_manager.specs.Registrations.{Registrations}
-use Rattle.event_manager.specs.DispatchOrder.{class_of}
+use Rattle.event_loop.specs.Registrations.{Registrations}
+use Rattle.event_loop.specs.DispatchOrder.{class_of}
 use Rattle.dispatch_tables.proofs.DispatchOrders.{ordered_already}
-use Rattle.event_manager.specs.Exchange.{by_agreement, call_for}
-use Rattle.event_manager.specs.Iteration.{ManagerState}
+use Rattle.event_loop.specs.Exchange.{by_agreement, call_for}
+use Rattle.event_loop.specs.Iteration.{ManagerState}
 use Rattle.event_manager.specs.Trace.{HasEffect, new_state}
-use Rattle.event_manager.specs.declared.events.Request.TheVariants.{Add, Remove}
+use Rattle.event_loop.specs.declared.events.Request.TheVariants.{Add, Remove}
 use Rattle.event_manager.specs.Example.{three, joins, iterates, any_begins, any_serves, any_may}
 
 not_end : ¬ (◌≡◌ {A = ℕ} 3 9)

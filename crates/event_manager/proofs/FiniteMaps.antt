@@ -4,15 +4,13 @@ use Rattle.std.specs.Ordering.{eq_by_cmp}
 use Rattle.std.specs.FinMap.{FinMap, get, insert, remove, same_map, get-insert, get-remove, get-retain_keys, nat_cmp-IsAntisymmetric}
 use Rattle.std.specs.Cmp.{nat_cmp_total}
 use Rattle.dispatch_tables.proofs.NumberTests.{nat_tied}
-use Rattle.event_manager.specs.Registry.{is_id, without_owner}
+use Rattle.event_loop.specs.Registry.{is_id, without_owner}
+use Rattle.event_loop.proofs.WithoutOwner.{get-without_owner}
 use Rattle.event_manager.specs.Projection.{owned_by, only_values}
 
--- what a map of one id's descriptors answers; of all but those
+-- what a map of one id's descriptors answers
 pub get-owned_by : (i : ℕ) (owner entries : FinMap nat_cmp ℕ) (fd : ℕ) → get (owned_by i owner entries) fd ≡ cond (is_id i (get owner fd)) (get entries fd) None
 get-owned_by i owner entries fd = get-retain_keys entries _ fd (λ x e. ap (λ y. is_id i (get owner y)) (sym (nat_cmp-IsAntisymmetric fd x e)))
-
-pub get-without_owner : (i : ℕ) (owner entries : FinMap nat_cmp ℕ) (fd : ℕ) → get (without_owner i owner entries) fd ≡ cond (not (is_id i (get owner fd))) (get entries fd) None
-get-without_owner i owner entries fd = get-retain_keys entries _ fd (λ x e. ap (λ y. not (is_id i (get owner y))) (sym (nat_cmp-IsAntisymmetric fd x e)))
 
 pub get_only : {V : Type 0} (i : ℕ) (values : FinMap nat_cmp V) (j : ℕ) → get (only_values i values) j ≡ cond (j == i) (get values j) None
 get_only i values j = get-retain_keys values _ j (λ x e. ap (λ y. y == i) (sym (nat_cmp-IsAntisymmetric j x e)))

@@ -3,7 +3,7 @@ use Rattle.std.proofs.Common.{◌≡◌, ◌⊎◌, ℕ, ◌+◌, ◌<◌, cond,
 use Rattle.std.specs.FinMap.{FinMap, get, insert, remove, get-remove}
 use Rattle.std.specs.Cmp.{nat_cmp_total, nat_cmp_is}
 use Rattle.std.proofs.lemmas.Bool.Decides.{eqb_tells}
-use Rattle.event_manager.specs.Registry.{AreBelow}
+use Rattle.event_loop.specs.Registry.{AreBelow}
 use Rattle.event_manager.proofs.Isolation.{insert_other_value, remove_other_value}
 
 module _ {V : Type 0} where

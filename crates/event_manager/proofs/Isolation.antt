@@ -5,18 +5,18 @@ use Rattle.std.specs.Ordering.{eq_by_cmp}
 use Rattle.std.specs.Cmp.{nat_cmp_total}
 use Rattle.std.proofs.lemmas.Bool.Decides.{eqb_tells, nat_tests}
 use Rattle.dispatch_tables.specs.Event.{Event}
-use Rattle.event_manager.specs.Registrations.{Registrations, Owns, IsFree, not_on}
+use Rattle.event_loop.specs.Registrations.{Registrations, Owns, IsFree, not_on}
 use Rattle.dispatch_tables.specs.Priority.{number_of}
-use Rattle.event_manager.specs.PollerCall.{PollerCall}
-use Rattle.event_manager.specs.Exchange.{Answer, Exchanges, Fits, by_manager, by_poller, by_agreement, ExchangesFit, ReachesPoller, entered, registrations_after}
-use Rattle.event_manager.specs.Registry.{Registry, Step, Joined, NotJoined, Left, NotLeft, Replaced, NotReplaced, Requested, NotRequested, Steps, is_id, without_owner, left_by}
-use Rattle.event_manager.specs.Dispatch.{Position, To, IsOutcome, still_pending}
+use Rattle.event_loop.specs.PollerCall.{PollerCall}
+use Rattle.event_loop.specs.Exchange.{Answer, Exchanges, Fits, by_manager, by_poller, by_agreement, ExchangesFit, ReachesPoller, entered, registrations_after}
+use Rattle.event_loop.specs.Registry.{Registry, Step, Joined, NotJoined, Left, NotLeft, Replaced, NotReplaced, Requested, NotRequested, Steps, is_id, without_owner, left_by}
+use Rattle.event_loop.specs.Dispatch.{Position, To, IsOutcome, still_pending}
 use Rattle.event_manager.specs.Projection.{names}
 use Rattle.event_manager.specs.Guarantees.{pending_of, IsUntouched, FreesExactly}
-use Rattle.event_manager.specs.declared.events.Request.{Request}
-use Rattle.event_manager.specs.declared.events.Request.TheVariants.{Add, AddWithPriority, Modify, Remove}
+use Rattle.event_loop.specs.declared.events.Request.{Request}
+use Rattle.event_loop.specs.declared.events.Request.TheVariants.{Add, AddWithPriority, Modify, Remove}
 use Rattle.dispatch_tables.proofs.NumberTests.{fd_tells, nat_tied}
-use Rattle.event_manager.proofs.FiniteMaps.{get-without_owner}
+use Rattle.event_loop.proofs.WithoutOwner.{get-without_owner}
 
 -- exchanges join
 pub exchanges_join : (i : ℕ) (before mid after : Registrations) (exchanges more : Exchanges) (calls rest : List PollerCall) → ExchangesFit i before exchanges calls mid → ExchangesFit i mid more rest after → ExchangesFit i before (exchanges ++ more) (calls ++ rest) after

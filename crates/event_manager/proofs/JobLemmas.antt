@@ -5,17 +5,17 @@ use Rattle.std.proofs.lemmas.List.{append-nil}
 use Rattle.std.proofs.lemmas.List.Elements.{All-head, All-tail}
 use Rattle.vmm_sys.specs.declared.errno.Errno.{Errno}
 use Rattle.dispatch_tables.specs.Event.{Event}
-use Rattle.event_manager.specs.PollerCall.{Wait, Controls, Waits, Leads}
-use Rattle.event_manager.specs.Exchange.{Exchanges}
-use Rattle.event_manager.specs.Registry.{Registry, Step}
-use Rattle.event_manager.specs.Dispatch.{Position}
-use Rattle.event_manager.specs.Iteration.{IsAfterWait, is_reported, calls_of_steps, calls_of_positions, calls_of_jobs}
-use Rattle.event_manager.specs.LoopState.{LoopState, HasStepped, IsDispatchedAfter, IsLoopIteration}
+use Rattle.event_loop.specs.PollerCall.{Wait, Controls, Waits, Leads}
+use Rattle.event_loop.specs.Exchange.{Exchanges}
+use Rattle.event_loop.specs.Registry.{Registry, Step}
+use Rattle.event_loop.specs.Dispatch.{Position}
+use Rattle.event_loop.specs.Iteration.{IsAfterWait, is_reported, calls_of_steps, calls_of_positions, calls_of_jobs}
+use Rattle.event_loop.specs.LoopState.{LoopState, HasStepped, IsDispatchedAfter, IsLoopIteration}
 use Rattle.event_manager.specs.JobRuns.{HasRun, JobsAreRun}
-use Rattle.event_manager.specs.Subscribers.{IsBatch, Notices, count_of}
-use Rattle.event_manager.specs.declared.subscribers.Batch.{Batch}
-use Rattle.event_manager.specs.declared.error.Error.{Error}
-use Rattle.event_manager.proofs.ExchangeLemmas.{leads_join}
+use Rattle.event_loop.specs.Subscribers.{IsBatch, Notices, count_of}
+use Rattle.event_loop.specs.declared.subscribers.Batch.{Batch}
+use Rattle.event_loop.specs.declared.error.Error.{Error}
+use Rattle.event_loop.proofs.ExchangeLemmas.{leads_join}
 
 -- a step of the registry is the manager's, whatever it has taken
 pub with_taken : {S P : Type 0} {begins : S → Exchanges → S → Type 0} {controls : Controls P} {waits : Waits P} (n : ℕ) {before after : LoopState S P} {step : Step S}

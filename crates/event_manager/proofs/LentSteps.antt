@@ -1,13 +1,13 @@
 -- Requests through what `event_ops` lent, as a step of the lender.
 use Rattle.std.proofs.Common.{◌≡◌, ℕ, List, sym, subst, refl, ◌∙◌, []}
-use Rattle.event_manager.specs.Exchange.{Exchanges, ExchangesFit}
-use Rattle.event_manager.specs.PollerCall.{PollerCall, Controls, Waits, Leads}
-use Rattle.event_manager.specs.RegistrationState.{registrations_of}
-use Rattle.event_manager.specs.Registry.{HasId, Requested}
-use Rattle.event_manager.specs.LoopState.{LoopState, HasStepped}
-use Rattle.event_manager.specs.Requests.{AreMadeThrough, StandsFor, with_ops}
-use Rattle.event_manager.specs.declared.events.EventOps.{EventOps}
-use Rattle.event_manager.proofs.ExchangeLemmas.{idle_fits}
+use Rattle.event_loop.specs.Exchange.{Exchanges, ExchangesFit}
+use Rattle.event_loop.specs.PollerCall.{PollerCall, Controls, Waits, Leads}
+use Rattle.event_loop.specs.RegistrationState.{registrations_of}
+use Rattle.event_loop.specs.Registry.{HasId, Requested}
+use Rattle.event_loop.specs.LoopState.{LoopState, HasStepped}
+use Rattle.event_loop.specs.Requests.{AreMadeThrough, StandsFor, with_ops}
+use Rattle.event_loop.specs.declared.events.EventOps.{EventOps}
+use Rattle.event_loop.proofs.ExchangeLemmas.{idle_fits}
 
 module _ {S P : Type 0} {begins : S → Exchanges → S → Type 0} {controls : Controls P} {waits : Waits P} where
   pub lent_step : (before after : LoopState S P) (lent left : EventOps P) (id : ℕ) (value : S) (exchanges : Exchanges) (calls : List PollerCall)

@@ -3,10 +3,10 @@ use Rattle.std.proofs.Common.{◌≡◌, ◌≢◌, ℕ, Bool, true, false, ◌|
 use Rattle.std.specs.FinMap.{FinMap, get}
 use Rattle.std.proofs.lemmas.Bool.Decides.{eqb_tells}
 use Rattle.dispatch_tables.specs.Event.{Event}
-use Rattle.event_manager.specs.PollerCall.{PollerCall}
-use Rattle.event_manager.specs.Exchange.{Exchanges, removes}
-use Rattle.event_manager.specs.Registry.{Registry}
-use Rattle.event_manager.specs.Dispatch.{Outcome, Nobody, To, Position, exchanges_of, is_removed, still_pending, events_of, IsFor, IsOutcome, AreDispatched}
+use Rattle.event_loop.specs.PollerCall.{PollerCall}
+use Rattle.event_loop.specs.Exchange.{Exchanges, removes}
+use Rattle.event_loop.specs.Registry.{Registry}
+use Rattle.event_loop.specs.Dispatch.{Outcome, Nobody, To, Position, exchanges_of, is_removed, still_pending, events_of, IsFor, IsOutcome, AreDispatched}
 use Rattle.event_manager.specs.Projection.{owned_by, only_values, projected_registrations, projected_registry, is_to, IsOnly, AreProjected, outcome_exchanges, positions_exchanges, asks_to_add, adds}
 use Rattle.dispatch_tables.proofs.DispatchOrders.{nil_cons, head_is, tail_is}
 use Rattle.event_manager.proofs.FiniteMaps.{only_outcome-insert_own, only_outcome-insert_other}

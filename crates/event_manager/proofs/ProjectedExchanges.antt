@@ -4,14 +4,14 @@ use Rattle.std.specs.FinMap.{FinMap, get, insert, remove, get-insert, get-remove
 use Rattle.std.specs.Cmp.{nat_cmp_total}
 use Rattle.std.proofs.lemmas.Bool.Decides.{nat_tests, eqb_tells}
 use Rattle.dispatch_tables.specs.Event.{Event}
-use Rattle.event_manager.specs.Registrations.{Registrations, not_on}
-use Rattle.event_manager.specs.PollerCall.{PollerCall}
-use Rattle.event_manager.specs.Exchange.{Answer, Exchanges, Fits, by_manager, by_poller, by_agreement, ExchangesFit, IsAdditionRefused, IsRefusedByManager, ReachesPoller, entered, registrations_after, removes, is_removal, agreed}
+use Rattle.event_loop.specs.Registrations.{Registrations, not_on}
+use Rattle.event_loop.specs.PollerCall.{PollerCall}
+use Rattle.event_loop.specs.Exchange.{Answer, Exchanges, Fits, by_manager, by_poller, by_agreement, ExchangesFit, IsAdditionRefused, IsRefusedByManager, ReachesPoller, entered, registrations_after, removes, is_removal, agreed}
 use Rattle.dispatch_tables.specs.Priority.{number_of}
-use Rattle.event_manager.specs.Registry.{is_id}
+use Rattle.event_loop.specs.Registry.{is_id}
 use Rattle.event_manager.specs.Projection.{owned_by, projected_registrations, is_add, is_agreed, asks_to_add, adds}
-use Rattle.event_manager.specs.declared.events.Request.{Request}
-use Rattle.event_manager.specs.declared.events.Request.TheVariants.{Add, AddWithPriority, Modify, Remove}
+use Rattle.event_loop.specs.declared.events.Request.{Request}
+use Rattle.event_loop.specs.declared.events.Request.TheVariants.{Add, AddWithPriority, Modify, Remove}
 use Rattle.dispatch_tables.proofs.NumberTests.{fd_tells}
 use Rattle.event_manager.proofs.FiniteMaps.{get-owned_by, owned_by-insert_own, owned_by-insert_other, owned_by-remove, owned_by-remove_other}
 

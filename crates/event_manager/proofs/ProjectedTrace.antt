@@ -4,13 +4,13 @@ use Rattle.std.specs.FinMap.{get}
 use Rattle.std.specs.Bool.{MatchBool}
 use Rattle.std.proofs.lemmas.Bool.Decides.{eqb_tells}
 use Rattle.dispatch_tables.specs.Event.{Event}
-use Rattle.event_manager.specs.Exchange.{Exchanges}
-use Rattle.event_manager.specs.Registrations.{Registrations, Owns}
+use Rattle.event_loop.specs.Exchange.{Exchanges}
+use Rattle.event_loop.specs.Registrations.{Registrations, Owns}
 use Rattle.dispatch_tables.specs.ClassOrder.{class_by}
-use Rattle.event_manager.specs.DispatchOrder.{class_of, IsDispatchOrder}
-use Rattle.event_manager.specs.Registry.{Step, is_id}
-use Rattle.event_manager.specs.Dispatch.{Position, events_of}
-use Rattle.event_manager.specs.Iteration.{ManagerState, JobRun, IsAfterWait, AreRun}
+use Rattle.event_loop.specs.DispatchOrder.{class_of, IsDispatchOrder}
+use Rattle.event_loop.specs.Registry.{Step, is_id}
+use Rattle.event_loop.specs.Dispatch.{Position, events_of}
+use Rattle.event_loop.specs.Iteration.{ManagerState, JobRun, IsAfterWait, AreRun}
 use Rattle.event_manager.specs.Trace.{Effect, Stepped, Iterated, Entry, Matches, HasEffect, IsTrace}
 use Rattle.event_manager.specs.Projection.{projected_registrations, projected_registry, projected_state, AreProjected, positions_exchanges, effect_exchanges, exchanges_in, asks_to_add, adds, stays, names, IsProjectedEffect, IsProjection, projected_next, NonInterference}
 use Rattle.vmm_sys.specs.declared.errno.Errno.{Errno}

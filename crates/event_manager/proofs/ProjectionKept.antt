@@ -2,9 +2,9 @@
 use Rattle.std.proofs.Common.{◌≡◌, ℕ, cond, Bool, true, false, filter, refl, sym, ◌∙◌, ap, subst, ap₂, List, [], ◌∷◌, ◌++◌, if◌then◌else◌, true≢false}
 use Rattle.std.specs.Bool.{MatchBool}
 use Rattle.dispatch_tables.specs.Event.{Event}
-use Rattle.event_manager.specs.Exchange.{Exchanges}
-use Rattle.event_manager.specs.Registry.{Step, Joined, NotJoined, Left, NotLeft, Replaced, NotReplaced, Requested, NotRequested}
-use Rattle.event_manager.specs.Dispatch.{Outcome, Nobody, To, Position}
+use Rattle.event_loop.specs.Exchange.{Exchanges}
+use Rattle.event_loop.specs.Registry.{Step, Joined, NotJoined, Left, NotLeft, Replaced, NotReplaced, Requested, NotRequested}
+use Rattle.event_loop.specs.Dispatch.{Outcome, Nobody, To, Position}
 use Rattle.event_manager.specs.Trace.{Effect, Stepped, Iterated, Entry}
 use Rattle.event_manager.specs.Projection.{is_to, AreProjected, names, stays, IsProjectedEffect, IsProjection, step_exchanges, outcome_exchanges, positions_exchanges, effect_exchanges, exchanges_in, delivered_as, deliveries_of, effect_deliveries, deliveries, is_for, replies_to, ProjectionKeeps}
 

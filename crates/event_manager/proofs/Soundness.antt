@@ -5,20 +5,20 @@ use Rattle.std.specs.Cmp.{nat_cmp_total, nat_cmp_is}
 use Rattle.std.specs.Ordering.{eq_by_cmp}
 use Rattle.std.proofs.lemmas.Bool.Decides.{eqb_tells}
 use Rattle.dispatch_tables.specs.Event.{Event}
-use Rattle.event_manager.specs.Registrations.{Registrations, Owns, IsFree}
-use Rattle.event_manager.specs.PollerCall.{PollerCall}
-use Rattle.event_manager.specs.Exchange.{Answer, Exchanges, Fits, by_manager, by_poller, by_agreement, ExchangesFit, ReachesPoller, entered, registrations_after}
-use Rattle.event_manager.specs.Registry.{acts_on, removed_by, Registry, Step, Joined, NotJoined, Left, NotLeft, Replaced, NotReplaced, Requested, NotRequested, Steps, is_id, without_owner, left_by, HasId, LacksId, AreBelow}
-use Rattle.event_manager.specs.Dispatch.{Outcome, Nobody, To, Position, IsOutcome, AreDispatched, still_pending, events_of}
-use Rattle.event_manager.specs.Iteration.{ManagerState, JobRun, IsAfterWait, AreRun, AllSteps}
+use Rattle.event_loop.specs.Registrations.{Registrations, Owns, IsFree}
+use Rattle.event_loop.specs.PollerCall.{PollerCall}
+use Rattle.event_loop.specs.Exchange.{Answer, Exchanges, Fits, by_manager, by_poller, by_agreement, ExchangesFit, ReachesPoller, entered, registrations_after}
+use Rattle.event_loop.specs.Registry.{acts_on, removed_by, Registry, Step, Joined, NotJoined, Left, NotLeft, Replaced, NotReplaced, Requested, NotRequested, Steps, is_id, without_owner, left_by, HasId, LacksId, AreBelow}
+use Rattle.event_loop.specs.Dispatch.{Outcome, Nobody, To, Position, IsOutcome, AreDispatched, still_pending, events_of}
+use Rattle.event_loop.specs.Iteration.{ManagerState, JobRun, IsAfterWait, AreRun, AllSteps}
 use Rattle.event_manager.specs.Trace.{Effect, Stepped, Iterated, Entry, HasEffect, IsTrace, new_state}
 use Rattle.event_manager.specs.Guarantees.{IsSound, HasPriority, HavePriorities, steps_of_jobs, steps_of_effect, steps_of, AreGiven, AreRefusedTo, RemovedStayGone}
 use Rattle.vmm_sys.specs.declared.errno.Errno.{Errno}
-use Rattle.event_manager.specs.declared.events.Request.{Request}
-use Rattle.event_manager.specs.declared.events.Request.TheVariants.{Add, AddWithPriority, Modify, Remove}
+use Rattle.event_loop.specs.declared.events.Request.{Request}
+use Rattle.event_loop.specs.declared.events.Request.TheVariants.{Add, AddWithPriority, Modify, Remove}
 use Rattle.dispatch_tables.specs.Priority.{number_of}
 use Rattle.dispatch_tables.proofs.NumberTests.{fd_tells}
-use Rattle.event_manager.proofs.FiniteMaps.{get-without_owner}
+use Rattle.event_loop.proofs.WithoutOwner.{get-without_owner}
 use Rattle.event_manager.proofs.ProjectedSteps.{from_disowned}
 use Rattle.dispatch_tables.proofs.ClassEntries.{at_most_3}
 use Rattle.event_manager.proofs.HeldIds.{removed_value, below_insert, below_joined, below_removed}

@@ -3,20 +3,20 @@ use Rattle.std.proofs.Common.{◌≡◌, ℕ, ℤ, List, [], ◌∷◌, ◌++◌
 use Rattle.std.proofs.lemmas.List.{append-nil, map-append}
 use Rattle.std.specs.declared.alloc.Global.{Global}
 use Rattle.dispatch_tables.specs.Event.{Event}
-use Rattle.event_manager.specs.PollerCall.{Controls, Waits, Leads}
-use Rattle.event_manager.specs.Exchange.{Exchanges, Answer}
-use Rattle.event_manager.specs.Registry.{Step}
-use Rattle.event_manager.specs.Iteration.{ManagerState}
-use Rattle.event_manager.specs.LoopState.{LoopState, HasStepped, IsJoin, IsLeave, IsLoopIteration, manager_state}
+use Rattle.event_loop.specs.PollerCall.{Controls, Waits, Leads}
+use Rattle.event_loop.specs.Exchange.{Exchanges, Answer}
+use Rattle.event_loop.specs.Registry.{Step}
+use Rattle.event_loop.specs.Iteration.{ManagerState}
+use Rattle.event_loop.specs.LoopState.{LoopState, HasStepped, IsJoin, IsLeave, IsLoopIteration, manager_state}
 use Rattle.event_manager.specs.Trace.{Effect, Stepped, Iterated, Entry, Matches, HasEffect, IsTrace, calls_of_effect, calls_of_trace}
 use Rattle.event_manager.specs.Driven.{IsAsk, IsReplacement, HasCalled, IsGuaranteed, IsDriven}
-use Rattle.event_manager.specs.declared.error.Error.{Error}
-use Rattle.event_manager.specs.declared.events.Request.{Request}
+use Rattle.event_loop.specs.declared.error.Error.{Error}
+use Rattle.event_loop.specs.declared.events.Request.{Request}
 use Rattle.event_manager.specs.declared.calls.Call.{Call}
 use Rattle.event_manager.specs.declared.calls.Call.TheVariants as call
 use Rattle.event_manager.specs.declared.calls.Reply.{Reply}
 use Rattle.event_manager.specs.declared.calls.Reply.TheVariants as reply
-use Rattle.event_manager.proofs.ExchangeLemmas.{leads_join}
+use Rattle.event_loop.proofs.ExchangeLemmas.{leads_join}
 use Rattle.event_manager.proofs.Isolation.{isolated_step, isolated_delivery, left_frees}
 use Rattle.event_manager.proofs.Soundness.{trace_follows}
 use Rattle.event_manager.proofs.ProjectedTrace.{non_interference}

@@ -1,8 +1,8 @@
 -- The account of sends, takes and closes, without a queue.
 use Rattle.std.specs.Prelude.{◌≡◌, ℕ, ◌+◌, Bool, true, false, cond, ltb, List, [], ◌∷◌, ◌++◌, length, take, None, Result, Ok, Err}
 use Rattle.vmm_sys.specs.declared.errno.Errno.{Errno}
-use Rattle.event_manager.specs.declared.error.Error.{Error}
-use Rattle.event_manager.specs.declared.error.Error.TheVariants.{ChannelSend, EventFd, TicketsUsedUp, OutOfMemory}
+use Rattle.event_loop.specs.declared.error.Error.{Error}
+use Rattle.event_loop.specs.declared.error.Error.TheVariants.{ChannelSend, EventFd, TicketsUsedUp, OutOfMemory}
 use Rattle.event_manager.specs.declared.jobs.account.Step.{Step}
 use Rattle.event_manager.specs.declared.jobs.account.Step.TheVariants.{Send, Take, Close}
 use Rattle.event_manager.specs.JobQueue.{QueueState, IsSend, after_take, after_close, most}

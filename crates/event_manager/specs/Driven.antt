@@ -2,18 +2,18 @@
 use Rattle.std.specs.Prelude.{◌≡◌, ◌≢◌, ℕ, false, List, map, vec_len, Vec, Result, Ok, Err}
 use Rattle.std.specs.declared.alloc.Global.{Global}
 use Rattle.dispatch_tables.specs.Event.{Event}
-use Rattle.event_manager.specs.PollerCall.{PollerCall, Controls, Waits, Leads}
-use Rattle.event_manager.specs.Exchange.{Exchanges, Answer, requests_of, answers_of}
-use Rattle.event_manager.specs.Registry.{Registry, Step, Steps, AreBelow, Left, Requested, NotRequested, Replaced, NotReplaced}
-use Rattle.event_manager.specs.Dispatch.{Position, To, IsOutcome, still_pending}
-use Rattle.event_manager.specs.Iteration.{ManagerState}
-use Rattle.event_manager.specs.LoopState.{LoopState, manager_state}
+use Rattle.event_loop.specs.PollerCall.{PollerCall, Controls, Waits, Leads}
+use Rattle.event_loop.specs.Exchange.{Exchanges, Answer, requests_of, answers_of}
+use Rattle.event_loop.specs.Registry.{Registry, Step, Steps, AreBelow, Left, Requested, NotRequested, Replaced, NotReplaced}
+use Rattle.event_loop.specs.Dispatch.{Position, To, IsOutcome, still_pending}
+use Rattle.event_loop.specs.Iteration.{ManagerState}
+use Rattle.event_loop.specs.LoopState.{LoopState, manager_state}
 use Rattle.event_manager.specs.Trace.{Effect, Entry, HasEffect, IsTrace, calls_of_effect, calls_of_trace}
 use Rattle.event_manager.specs.Projection.{NonInterference, ProjectionKeeps, names}
 use Rattle.event_manager.specs.Guarantees.{IsSound, HavePriorities, AreGiven, RemovedStayGone, IsUntouched, FreesExactly, steps_of}
-use Rattle.event_manager.specs.declared.error.Error.{Error}
-use Rattle.event_manager.specs.declared.error.Error.TheVariants.{InvalidId}
-use Rattle.event_manager.specs.declared.events.Request.{Request}
+use Rattle.event_loop.specs.declared.error.Error.{Error}
+use Rattle.event_loop.specs.declared.error.Error.TheVariants.{InvalidId}
+use Rattle.event_loop.specs.declared.events.Request.{Request}
 use Rattle.event_manager.specs.declared.calls.Call.{Call}
 use Rattle.event_manager.specs.declared.calls.Call.TheVariants.{Add, Remove, Set, Ask, Run}
 use Rattle.event_manager.specs.declared.calls.Reply.{Reply}

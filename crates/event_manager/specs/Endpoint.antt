@@ -1,8 +1,8 @@
 -- Which refusals the calls of an endpoint may answer, and what is left of a manager that was closed.
 use Rattle.std.specs.Prelude.{◌≡◌, ◌⊎◌, ℕ}
 use Rattle.vmm_sys.specs.declared.errno.Errno.{Errno}
-use Rattle.event_manager.specs.declared.error.Error.{Error}
-use Rattle.event_manager.specs.declared.error.Error.TheVariants.{ChannelSend, ChannelRecv, EventFd, OutOfMemory, TicketsUsedUp}
+use Rattle.event_loop.specs.declared.error.Error.{Error}
+use Rattle.event_loop.specs.declared.error.Error.TheVariants.{ChannelSend, ChannelRecv, EventFd, OutOfMemory, TicketsUsedUp}
 
 -- of a ring: what the EventFd answered
 abbrev pub IsRingRefusal : Error → Type 0

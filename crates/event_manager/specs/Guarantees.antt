@@ -2,9 +2,9 @@
 use Rattle.std.specs.Prelude.{◌≡◌, ◌≢◌, ℕ, ◌+◌, ◌≤◌, List, [], ◌∷◌, ◌++◌, filter, ◌↔◌, Option, Some, None, IfSome, MatchOption, if◌then◌else◌}
 use Rattle.std.specs.FinMap as map
 use Rattle.dispatch_tables.specs.Event.{Event}
-use Rattle.event_manager.specs.Registrations.{Registrations, Owns, IsFree}
-use Rattle.event_manager.specs.Registry.{Registry, Step, HasId, is_id, acts_on, given_by, removed_by}
-use Rattle.event_manager.specs.Iteration.{JobRun}
+use Rattle.event_loop.specs.Registrations.{Registrations, Owns, IsFree}
+use Rattle.event_loop.specs.Registry.{Registry, Step, HasId, is_id, acts_on, given_by, removed_by}
+use Rattle.event_loop.specs.Iteration.{JobRun}
 use Rattle.event_manager.specs.Trace.{Effect, Stepped, Iterated, Entry}
 
 -- the pending events of id j: those on its descriptors

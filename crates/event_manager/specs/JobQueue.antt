@@ -3,8 +3,8 @@ use Rattle.std.specs.Prelude.{◌≡◌, ℕ, ◌+◌, ◌<◌, ◌≤◌, Bool,
 use Rattle.event_manager.specs.declared.jobs.queue.Entry.{Entry}
 use Rattle.event_manager.specs.declared.jobs.queue.Refused.{Refused}
 use Rattle.vmm_sys.specs.declared.errno.Errno.{Errno}
-use Rattle.event_manager.specs.declared.error.Error.{Error}
-use Rattle.event_manager.specs.declared.error.Error.TheVariants.{ChannelSend, ChannelRecv, EventFd, Epoll, FdAlreadyRegistered, InvalidId, InvalidCapacity, OutOfMemory, IdsUsedUp, TicketsUsedUp}
+use Rattle.event_loop.specs.declared.error.Error.{Error}
+use Rattle.event_loop.specs.declared.error.Error.TheVariants.{ChannelSend, ChannelRecv, EventFd, Epoll, FdAlreadyRegistered, InvalidId, InvalidCapacity, OutOfMemory, IdsUsedUp, TicketsUsedUp}
 
 pub record QueueState (J Q : Type 0) : Type 0 where
   pub taken : ℕ

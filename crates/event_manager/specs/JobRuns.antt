@@ -1,11 +1,11 @@
 -- Jobs that ran on a registry of the program.
 use Rattle.std.specs.Prelude.{◌≡◌, ℕ, List, map}
 use Rattle.dispatch_tables.specs.Event.{Event}
-use Rattle.event_manager.specs.PollerCall.{Controls, Waits, Leads}
-use Rattle.event_manager.specs.Exchange.{Exchanges}
-use Rattle.event_manager.specs.Registry.{Step}
-use Rattle.event_manager.specs.Iteration.{JobRun, AreRun, calls_of_jobs}
-use Rattle.event_manager.specs.LoopState.{LoopState, HaveStepped}
+use Rattle.event_loop.specs.PollerCall.{Controls, Waits, Leads}
+use Rattle.event_loop.specs.Exchange.{Exchanges}
+use Rattle.event_loop.specs.Registry.{Step}
+use Rattle.event_loop.specs.Iteration.{JobRun, AreRun, calls_of_jobs}
+use Rattle.event_loop.specs.LoopState.{LoopState, HaveStepped}
 
 module _ {S P J R : Type 0} (begins : S → Exchanges → S → Type 0) (may : J → List (Step S) → R → Type 0) (controls : Controls P) (waits : Waits P) where
   -- one job ran: it made steps that it may make, and gave a reply that it may then give

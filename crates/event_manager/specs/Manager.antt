@@ -4,12 +4,12 @@ use Rattle.vmm_sys.specs.declared.epoll.ControlOperation.TheVariants as operatio
 use Rattle.vmm_sys.specs.EventFd.{descriptor_of}
 use Rattle.vmm_sys.specs.declared.eventfd.EventFd.{EventFd}
 use Rattle.dispatch_tables.specs.Event.{Event}
-use Rattle.event_manager.specs.PollerCall.{Controls}
-use Rattle.event_manager.specs.LoopState.{LoopState, new_loop}
-use Rattle.event_manager.specs.Subscribers.{loop_state}
-use Rattle.event_manager.specs.declared.error.Error.{Error}
-use Rattle.event_manager.specs.declared.error.Error.TheVariants.{ChannelSend, ChannelRecv, Epoll, FdAlreadyRegistered, InvalidId, InvalidCapacity, OutOfMemory, IdsUsedUp, TicketsUsedUp}
-use Rattle.event_manager.specs.declared.error.Error.TheVariants as error
+use Rattle.event_loop.specs.PollerCall.{Controls}
+use Rattle.event_loop.specs.LoopState.{LoopState, new_loop}
+use Rattle.event_loop.specs.Subscribers.{loop_state}
+use Rattle.event_loop.specs.declared.error.Error.{Error}
+use Rattle.event_loop.specs.declared.error.Error.TheVariants.{ChannelSend, ChannelRecv, Epoll, FdAlreadyRegistered, InvalidId, InvalidCapacity, OutOfMemory, IdsUsedUp, TicketsUsedUp}
+use Rattle.event_loop.specs.declared.error.Error.TheVariants as error
 use Rattle.event_manager.specs.declared.manager.EventManager.{EventManager}
 
 abbrev pub state_of : {S J L T P R : Type 0} → EventManager S J L T P R → LoopState S P

@@ -4,15 +4,15 @@ use Rattle.std.specs.FinMap as finite
 use Rattle.std.specs.Bool.{MatchBool}
 use Rattle.std.specs.Ordering.{nat_cmp}
 use Rattle.dispatch_tables.specs.Event.{Event}
-use Rattle.event_manager.specs.Registrations.{Registrations, Owns}
-use Rattle.event_manager.specs.Exchange.{Exchanges, Answer}
-use Rattle.event_manager.specs.Registry.{Registry, Step, Joined, Requested, is_id, id_of}
-use Rattle.event_manager.specs.Dispatch.{Outcome, Nobody, To, Position}
-use Rattle.event_manager.specs.Iteration.{ManagerState}
+use Rattle.event_loop.specs.Registrations.{Registrations, Owns}
+use Rattle.event_loop.specs.Exchange.{Exchanges, Answer}
+use Rattle.event_loop.specs.Registry.{Registry, Step, Joined, Requested, is_id, id_of}
+use Rattle.event_loop.specs.Dispatch.{Outcome, Nobody, To, Position}
+use Rattle.event_loop.specs.Iteration.{ManagerState}
 use Rattle.event_manager.specs.Trace.{Effect, Stepped, Iterated, Entry, IsTrace}
 use Rattle.event_manager.specs.declared.calls.Reply.{Reply}
-use Rattle.event_manager.specs.declared.events.Request.{Request}
-use Rattle.event_manager.specs.declared.events.Request.TheVariants.{Add, AddWithPriority, Modify, Remove}
+use Rattle.event_loop.specs.declared.events.Request.{Request}
+use Rattle.event_loop.specs.declared.events.Request.TheVariants.{Add, AddWithPriority, Modify, Remove}
 
 -- only the entries at descriptors of id i
 abbrev pub owned_by : ℕ → finite.FinMap nat_cmp ℕ → finite.FinMap nat_cmp ℕ → finite.FinMap nat_cmp ℕ

@@ -3,12 +3,12 @@ use Rattle.std.specs.Prelude.{◌≡◌, ℕ, List, [], ◌∷◌, ◌++◌, Ok,
 use Rattle.std.specs.FinMap as finite
 use Rattle.std.specs.declared.alloc.Global.{Global}
 use Rattle.dispatch_tables.specs.Event.{Event}
-use Rattle.event_manager.specs.PollerCall.{PollerCall}
-use Rattle.event_manager.specs.Exchange.{Exchanges, Answer, requests_of, answers_of}
-use Rattle.event_manager.specs.Registry.{Step, Steps, Joined, NotJoined, Left, NotLeft, Replaced, NotReplaced, Requested, NotRequested, calls_of}
-use Rattle.event_manager.specs.Iteration.{ManagerState, Iteration, IsIteration, answer_of, calls_of_iteration}
-use Rattle.event_manager.specs.declared.error.Error.TheVariants.{InvalidId}
-use Rattle.event_manager.specs.declared.events.Request.{Request}
+use Rattle.event_loop.specs.PollerCall.{PollerCall}
+use Rattle.event_loop.specs.Exchange.{Exchanges, Answer, requests_of, answers_of}
+use Rattle.event_loop.specs.Registry.{Step, Steps, Joined, NotJoined, Left, NotLeft, Replaced, NotReplaced, Requested, NotRequested, calls_of}
+use Rattle.event_loop.specs.Iteration.{ManagerState, Iteration, IsIteration, answer_of, calls_of_iteration}
+use Rattle.event_loop.specs.declared.error.Error.TheVariants.{InvalidId}
+use Rattle.event_loop.specs.declared.events.Request.{Request}
 use Rattle.event_manager.specs.declared.calls.Call.{Call}
 use Rattle.event_manager.specs.declared.calls.Call.TheVariants as call
 use Rattle.event_manager.specs.declared.calls.Reply.{Reply}

@@ -1,8 +1,6 @@
 //! Calls of a manager and their replies, as values: what [`drive`](crate::drive::drive) makes, and what traces are made of.
 
-use crate::Result;
-use crate::events::Request;
-use crate::subscribers::SubscriberId;
+use event_loop::{Request, Result, SubscriberId};
 
 /// A call of a manager, as one of a list.
 #[derive(Drop)]

@@ -3,7 +3,7 @@
 ghost use Rattle.std.specs.Prelude.{◌≡◌, ◌<◌, IfOk, IfErr};
 ghost use Rattle.event_manager.specs.JobQueue.{answer_of};
 ghost use Rattle.event_manager.specs.Endpoint.{IsSendRefusal, IsCallRefusal, IsRingRefusal};
-ghost use Rattle.event_manager.specs.declared.error.Error.TheVariants.{OutOfMemory};
+ghost use Rattle.event_loop.specs.declared.error.Error.TheVariants.{OutOfMemory};
 
 pub(crate) mod channel;
 pub(crate) mod closed;
@@ -14,8 +14,7 @@ mod state;
 use crate::endpoint::channel::Channel;
 use crate::endpoint::slot::new_slot;
 use crate::jobs::{Job, Refused};
-use crate::subscribers::MutEventSubscriber;
-use crate::{Error, Result};
+use event_loop::{Error, MutEventSubscriber, Result};
 use job_tickets::tickets::Ticket;
 use std::sync::ledger::Ledger;
 use std::sync::{Arc, Wait};

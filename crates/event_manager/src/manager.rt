@@ -2,26 +2,23 @@
 
 ghost use Rattle.std.specs.Prelude.{◌≡◌, ℕ, negsuc, IfErr, IfOk};
 ghost use Rattle.std.specs.Borrow.{sem, LendsSoOk};
-ghost use Rattle.event_manager.specs.Registry.{Step, HasId, LacksId};
-ghost use Rattle.event_manager.specs.Requests.{StandsFor, with_ops};
-ghost use Rattle.event_manager.specs.contracts.events.EventOps.{the_row as ops_row};
-ghost use Rattle.event_manager.specs.LoopState.{HasStepped, IsJoin, IsLeave, IsLoopIteration, with_value};
-ghost use Rattle.event_manager.specs.Subscribers.{loop_state};
+ghost use Rattle.event_loop.specs.LoopState.{IsLoopIteration, with_value};
+ghost use Rattle.event_loop.specs.Requests.{StandsFor, with_ops};
 ghost use Rattle.event_manager.specs.Manager.{state_of, endpoint_of, IsMade};
 
 use crate::endpoint::RemoteEndpoint;
 use crate::endpoint::channel::EventManagerChannel;
 use crate::endpoint::closed::Closed;
-use crate::events::{EventOps, Events};
 use crate::jobs::Job;
-use crate::poller::{BoxedPoller, EventPoller};
-use crate::subscribers::{MutEventSubscriber, Registry, SubscriberId};
-use crate::{Error, Result};
+use event_loop::{
+    BoxedPoller, Error, EventOps, EventPoller, Events, MutEventSubscriber, Registry, Result,
+    SubscriberId, SubscriberOps,
+};
 use std::alloc::Global;
 use std::sync::Wait;
 use std::sync::ledger::{Blank, Ledger};
 use std::time::Clock;
-use vmm_sys::epoll::{ControlOperation, EventSet};
+use vmm_sys::epoll::EventSet;
 use vmm_sys::eventfd::EventFd;
 
 /// The largest capacity of a manager: 2147483647 bytes in entries of 12 bytes each, rounded down. A manager of it asks for
@@ -30,92 +27,6 @@ pub const MAX_READY_EVENTS_CAPACITY: usize = 178956970;
 
 /// The capacity of [`EventManager::new`].
 const DEFAULT_CAPACITY: usize = 256;
-
-/// What is done to subscribers from outside a batch.
-///
-/// `seen` is what a contract sees: the subscribers by id, the next id and the registrations; the poller; the capacity.
-/// Each refused call leaves all of it as it was.
-pub trait SubscriberOps {
-    /// The type of the subscribers.
-    type Subscriber: MutEventSubscriber;
-
-    /// The type of the poller.
-    type Poller: EventPoller;
-
-    ghost use Rattle.event_manager.specs.LoopState.{LoopState};
-
-    /// What a contract sees.
-    ghost seen: { Self → LoopState Self.Subscriber Self.Poller };
-
-    /// Takes a subscriber in under the next id, and calls its `init`. The subscriber stays whatever `init` asked for and
-    /// whatever it was answered.
-    ///
-    /// Refused, both before `init`, and the subscriber doesn't come back: `IdsUsedUp` where the next id is `u64::MAX`;
-    /// then `OutOfMemory`.
-    fn add_subscriber(&mut self, subscriber: Self::Subscriber) -> Result<SubscriberId>
-        ensures { (step : Step Self.Subscriber) × IsJoin subscriber result step
-            × HasStepped Self.Subscriber.begins Self.Poller.controls Self.Poller.waits (seen self.old) step (seen self.new) };
-
-    /// Takes the subscriber of the id out, and answers it. The poller is asked one Delete (with the empty set, data 0 and
-    /// descriptor 0 as event) for each of its descriptors; the answers are ignored, and all its descriptors are free.
-    /// The id is never given again. Takes no memory.
-    ///
-    /// `InvalidId` where there is none.
-    fn remove_subscriber(&mut self, id: SubscriberId) -> Result<Self::Subscriber>
-        ensures { (step : Step Self.Subscriber) × IsLeave id result step
-            × HasStepped Self.Subscriber.begins Self.Poller.controls Self.Poller.waits (seen self.old) step (seen self.new) };
-
-    /// Lends the subscriber of the id. Takes no memory. `InvalidId` where there is none.
-    fn subscriber_mut(&mut self, id: SubscriberId) -> Result<&mut Self::Subscriber>
-        ensures* lent { sem 𝓛 (LendsSoOk Self.row Self.Subscriber.row self.entry result (λ n w. seen n ≡ with_value (seen self.old) id w) (λ n. seen n ≡ seen self.old)) }
-        ensures found { IfOk result (λ r. HasId (seen self.old).registry id r.now) }
-        ensures lost { IfErr result (λ e. (e ≡ Error.InvalidId) × LacksId (seen self.old).registry id) };
-
-    /// Lends the [`EventOps`] of the subscriber of the id, for requests from outside a batch. Takes no memory.
-    ///
-    /// Subscribers and next id stay as they are; the registrations and the poller are then what the requests made
-    /// through the loan leave. `InvalidId` where no subscriber has the id; then all stays as it was. Who holds the loans of
-    /// two managers can swap what is behind them: each then has the other's registrations, and an event of an owner that is
-    /// held nowhere goes to nobody.
-    fn event_ops(&mut self, id: SubscriberId) -> Result<&mut EventOps<Self::Poller>>
-        ensures* lent { sem 𝓛 (LendsSoOk Self.row (ops_row Self.Poller.row) self.entry result (λ n w. seen n ≡ with_ops (seen self.old) w) (λ n. seen n ≡ seen self.old)) }
-        ensures found { IfOk result (λ ops. StandsFor ops.now id (seen self.old)) }
-        ensures held { IfOk result (λ ops. (value : Self.Subscriber) × HasId (seen self.old).registry id value) }
-        ensures lost { IfErr result (λ e. (e ≡ Error.InvalidId) × LacksId (seen self.old).registry id) };
-}
-
-impl<S: MutEventSubscriber + Drop, P: EventPoller> SubscriberOps for Registry<S, P> {
-    type Subscriber = S;
-
-    type Poller = P;
-
-    ghost seen = { λ r. loop_state r };
-
-    fn add_subscriber(&mut self, subscriber: S) -> Result<SubscriberId> {
-        self.join(subscriber)
-    }
-
-    fn remove_subscriber(&mut self, id: SubscriberId) -> Result<S> {
-        self.leave(id.number())
-    }
-
-    fn subscriber_mut(&mut self, id: SubscriberId) -> Result<&mut S> {
-        match self.subscribers.get_mut(id.number()) {
-            Some(subscriber) => Ok(subscriber),
-            None => Err(Error::InvalidId),
-        }
-    }
-
-    fn event_ops(&mut self, id: SubscriberId) -> Result<&mut EventOps<P>> {
-        let id = id.number();
-        if let Some(place) = self.subscribers.place_of(id) {
-            self.ops.id = id;
-            self.ops.place = place;
-            return Ok(&mut self.ops);
-        }
-        Err(Error::InvalidId)
-    }
-}
 
 /// An event loop over a poller, the subscribers that it serves, and the jobs that its endpoints send.
 ///
@@ -183,16 +94,11 @@ impl<S: MutEventSubscriber, J: Job<S>, L: Ledger, T: Ledger, P: EventPoller> Eve
             return Err(Error::InvalidCapacity);
         }
         let events = Events::new(&event_fd, EventSet::IN);
-        let Ok(mut registry) = Registry::new(alloc, poller, events.number(), capacity) else {
-            return Err(Error::OutOfMemory);
-        };
         let Ok(channel) = EventManagerChannel::new(alloc, event_fd, tickets, taken) else {
             return Err(Error::OutOfMemory);
         };
-        match registry.ops.epoll.ctl(ControlOperation::Add, events) {
-            Ok(()) => Ok(EventManager { registry, channel }),
-            Err(e) => Err(Error::Epoll(e)),
-        }
+        let registry = Registry::new(alloc, poller, events, capacity)?;
+        Ok(EventManager { registry, channel })
     }
 
     /// [`run_with_timeout`](EventManager::run_with_timeout) without a limit.

@@ -1,9 +1,9 @@
 -- What a boxed subscriber wants, by what it is given.
 use Rattle.std.specs.Prelude.{◌≡◌, ◌==◌, MatchBool, Option, Some, None}
-use Rattle.event_manager.specs.declared.boxed_subscriber.StepInput.{StepInput}
-use Rattle.event_manager.specs.declared.boxed_subscriber.StepInput.TheVariants.{Init, Event, Answer}
-use Rattle.event_manager.specs.declared.events.Request.{Request}
-use Rattle.event_manager.specs.declared.events.Request.TheVariants.{Add, Remove}
+use Rattle.event_manager.specs.StepInput.{StepInput}
+use Rattle.event_manager.specs.StepInput.TheVariants.{Init, Event, Answer}
+use Rattle.event_manager.specs.Request.{Request}
+use Rattle.event_manager.specs.Request.TheVariants.{Add, Remove}
 use Rattle.event_manager_tests.specs.declared.forms.Boxable.{Boxable}
 
 abbrev pub boxable_wants : Boxable → StepInput → Option Request → Boxable → Type 0

@@ -24,7 +24,7 @@ pub struct Counting {
 impl MutEventSubscriber for Counting {
     ghost use Rattle.std.specs.Prelude.{◌≡◌, [], ◌∷◌};
     ghost use Rattle.event_manager.specs.Exchange.{Answer};
-    ghost use Rattle.event_manager.specs.declared.events.Request.TheVariants.{Add};
+    ghost use Rattle.event_manager.specs.Request.TheVariants.{Add};
 
     ghost begins = { λ v exchanges w. (answer : Answer) × (exchanges ≡ (Add v.own, answer) ∷ []) };
 
@@ -49,7 +49,7 @@ pub struct SharedCounting {
 impl EventSubscriber for SharedCounting {
     ghost use Rattle.std.specs.Prelude.{◌≡◌, [], ◌∷◌};
     ghost use Rattle.event_manager.specs.Exchange.{Answer};
-    ghost use Rattle.event_manager.specs.declared.events.Request.TheVariants.{Add};
+    ghost use Rattle.event_manager.specs.Request.TheVariants.{Add};
 
     ghost begins_shared = { λ v exchanges. (answer : Answer) × (exchanges ≡ (Add v.own, answer) ∷ []) };
 
@@ -67,7 +67,7 @@ impl EventSubscriber for SharedCounting {
 impl MutEventSubscriber for SharedCounting {
     ghost use Rattle.std.specs.Prelude.{◌≡◌, [], ◌∷◌};
     ghost use Rattle.event_manager.specs.Exchange.{Answer};
-    ghost use Rattle.event_manager.specs.declared.events.Request.TheVariants.{Add};
+    ghost use Rattle.event_manager.specs.Request.TheVariants.{Add};
 
     ghost begins = { λ v exchanges w. (answer : Answer) × (exchanges ≡ (Add v.own, answer) ∷ []) };
 

@@ -17,7 +17,7 @@ impl MutEventSubscriber for Counting {
     ghost use Rattle.std.specs.Prelude.{◌≡◌, [], ◌∷◌};
     ghost use Rattle.event_manager.specs.CounterEvents.{next_count};
     ghost use Rattle.event_manager.specs.Exchange.{Answer};
-    ghost use Rattle.event_manager.specs.declared.events.Request.TheVariants.{Add};
+    ghost use Rattle.event_manager.specs.Request.TheVariants.{Add};
 
     ghost begins = { λ v exchanges w. (answer : Answer) × (exchanges ≡ (Add v.own, answer) ∷ []) × (w ≡ v) };
 
@@ -42,7 +42,7 @@ pub struct Leaving {
 impl MutEventSubscriber for Leaving {
     ghost use Rattle.std.specs.Prelude.{◌≡◌, [], ◌∷◌, ◌==◌, MatchBool};
     ghost use Rattle.event_manager.specs.Exchange.{Answer};
-    ghost use Rattle.event_manager.specs.declared.events.Request.TheVariants.{Add, Remove};
+    ghost use Rattle.event_manager.specs.Request.TheVariants.{Add, Remove};
 
     ghost begins = { λ v exchanges w. (answer : Answer) × (exchanges ≡ (Add v.own, answer) ∷ []) };
 
@@ -70,7 +70,7 @@ pub struct Numbered {
 impl MutEventSubscriber for Numbered {
     ghost use Rattle.std.specs.Prelude.{◌≡◌, [], ◌∷◌, ◌==◌, MatchBool};
     ghost use Rattle.event_manager.specs.Exchange.{Answer};
-    ghost use Rattle.event_manager.specs.declared.events.Request.TheVariants.{Add, Remove};
+    ghost use Rattle.event_manager.specs.Request.TheVariants.{Add, Remove};
 
     ghost begins = { λ v exchanges w. (answer : Answer) × (exchanges ≡ (Add v.own, answer) ∷ []) };
 
@@ -98,7 +98,7 @@ pub struct Renewing {
 impl MutEventSubscriber for Renewing {
     ghost use Rattle.std.specs.Prelude.{◌≡◌, [], ◌∷◌};
     ghost use Rattle.event_manager.specs.Exchange.{Answer};
-    ghost use Rattle.event_manager.specs.declared.events.Request.TheVariants.{Add, Remove};
+    ghost use Rattle.event_manager.specs.Request.TheVariants.{Add, Remove};
 
     ghost begins = { λ v exchanges w. (answer : Answer) × (exchanges ≡ (Add v.own, answer) ∷ []) };
 
@@ -124,7 +124,7 @@ pub struct Group {
 impl MutEventSubscriber for Group {
     ghost use Rattle.std.specs.Prelude.{◌≡◌, map};
     ghost use Rattle.event_manager.specs.Exchange.{requests_of};
-    ghost use Rattle.event_manager.specs.declared.events.Request.TheVariants.{Add, Remove};
+    ghost use Rattle.event_manager.specs.Request.TheVariants.{Add, Remove};
 
     ghost begins = { λ v exchanges w. requests_of exchanges ≡ map Add v.own };
 

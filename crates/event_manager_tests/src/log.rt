@@ -130,7 +130,7 @@ pub struct Watcher {
 impl MutEventSubscriber for Watcher {
     ghost use Rattle.std.specs.Prelude.{◌≡◌, [], ◌∷◌};
     ghost use Rattle.event_manager.specs.Exchange.{Answer};
-    ghost use Rattle.event_manager.specs.declared.events.Request.TheVariants.{Add};
+    ghost use Rattle.event_manager.specs.Request.TheVariants.{Add};
 
     ghost begins = { λ v exchanges w. (answer : Answer) × (exchanges ≡ (Add v.own, answer) ∷ []) };
 

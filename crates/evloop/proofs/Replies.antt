@@ -3,7 +3,7 @@ use Rattle.std.proofs.Common.{◌≡◌, arith, List, [], ◌∷◌, ◌++◌, l
 use Rattle.std.proofs.lemmas.List.{length-map, length-append, nil_from_length}
 use Rattle.event_manager.specs.declared.calls.Call.{Call}
 use Rattle.event_manager.specs.declared.calls.Reply.{Reply}
-use Rattle.event_manager.specs.declared.error.Error.TheVariants.{InvalidId}
+use Rattle.event_manager.specs.Error.TheVariants.{InvalidId}
 use Rattle.event_manager.specs.Driven.{IsDriven}
 use Rattle.event_manager.specs.Event.{Event}
 use Rattle.event_manager.specs.Exchange.{Exchanges}

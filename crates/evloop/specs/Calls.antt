@@ -6,8 +6,8 @@ use Rattle.event_manager.specs.declared.calls.Call.{Call}
 use Rattle.event_manager.specs.declared.calls.Call.TheVariants as call
 use Rattle.event_manager.specs.declared.calls.Reply.{Reply}
 use Rattle.event_manager.specs.declared.calls.Reply.TheVariants as reply
-use Rattle.event_manager.specs.declared.error.Error.{Error}
-use Rattle.event_manager.specs.declared.events.Request.{Request}
+use Rattle.event_manager.specs.Error.{Error}
+use Rattle.event_manager.specs.Request.{Request}
 use Rattle.event_manager.specs.Driven.{IsDriven}
 use Rattle.event_manager.specs.Event.{Event}
 use Rattle.event_manager.specs.Exchange.{Exchanges, Answer}

@@ -7,7 +7,7 @@ use Rattle.std.specs.declared.hash.BuildHasherDefault.{BuildHasherDefault}
 use Rattle.std.specs.declared.collections.VecDeque.{VecDeque}
 use Rattle.std.specs.HashMap.{get, HashMap}
 use Rattle.event_manager.specs.Exchange.{Exchanges, requests_of}
-use Rattle.event_manager.specs.declared.events.Request.{Request}
+use Rattle.event_manager.specs.Request.{Request}
 
 -- a queue for each descriptor
 abbrev pub Queues : Type 0

@@ -1,6 +1,6 @@
 -- How the program ends where the manager could not be made.
-use Rattle.event_manager.specs.declared.error.Error.{Error}
-use Rattle.event_manager.specs.declared.error.Error.TheVariants as manager
+use Rattle.event_manager.specs.Error.{Error}
+use Rattle.event_manager.specs.Error.TheVariants as manager
 use Rattle.evloop.specs.declared.fault.Fault.{Fault}
 use Rattle.evloop.specs.declared.fault.Fault.TheVariants.{Manager, OutOfMemory}
 

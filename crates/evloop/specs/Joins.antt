@@ -1,7 +1,7 @@
 -- What the joins of a script answered, in order.
 use Rattle.std.specs.Prelude.{ℕ, List, Option, Some, None, Result, Ok, Err, slice_get}
-use Rattle.event_manager.specs.declared.error.Error.{Error}
-use Rattle.event_manager.specs.declared.error.Error.TheVariants.{InvalidId}
+use Rattle.event_manager.specs.Error.{Error}
+use Rattle.event_manager.specs.Error.TheVariants.{InvalidId}
 
 -- the id of one join; none where it was refused or there is no such join
 abbrev pub id_of : Option (Option ℕ) → Result ℕ Error

@@ -53,8 +53,8 @@ impl Watcher {
 impl MutEventSubscriber for Watcher {
     ghost use Rattle.std.specs.Prelude.{◌≡◌, [], ◌∷◌, ◌⊎◌, Err};
     ghost use Rattle.event_manager.specs.Exchange.{Answer, requests_of};
-    ghost use Rattle.event_manager.specs.declared.error.Error.TheVariants.{OutOfMemory};
-    ghost use Rattle.event_manager.specs.declared.events.Request.TheVariants.{Add, Modify};
+    ghost use Rattle.event_manager.specs.Error.TheVariants.{OutOfMemory};
+    ghost use Rattle.event_manager.specs.Request.TheVariants.{Add, Modify};
 
     // It asks to add its descriptor; where memory is refused, it asks to modify it, and once more to add it.
     ghost begins = { λ v exchanges w. (modified : Answer) × ((exchanges ≡ (Add v.own, w.joined) ∷ []) ⊎ (exchanges ≡ (Add v.own, Err OutOfMemory) ∷ (Modify v.own, modified) ∷ (Add v.own, w.joined) ∷ [])) };

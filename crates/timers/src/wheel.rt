@@ -119,7 +119,7 @@ impl<R: Wait + Print> Wheel<R> {
 impl<R: Wait + Print> MutEventSubscriber for Wheel<R> {
     ghost use Rattle.std.specs.Prelude.{◌≡◌, [], ◌∷◌, MatchBool};
     ghost use Rattle.event_manager.specs.Exchange.{Answer};
-    ghost use Rattle.event_manager.specs.declared.events.Request.TheVariants.{Remove};
+    ghost use Rattle.event_manager.specs.Request.TheVariants.{Remove};
     ghost use Rattle.timers.specs.OneShot.{is_one_shot};
 
     ghost begins = { λ v exchanges w. (exchanges ≡ []) × (w ≡ v) };

@@ -1,18 +1,14 @@
 //! Calls for one subscriber that stand in lists: requests in order, and another value.
 
 ghost use Rattle.std.specs.Prelude.{◌≡◌, ◌≤◌, List, [], length, vec_capacity};
-ghost use Rattle.event_manager.specs.Exchange.{Exchanges, requests_of, answers_of};
-ghost use Rattle.event_manager.specs.PollerCall.{PollerCall};
-ghost use Rattle.event_manager.specs.Registry.{Step};
-ghost use Rattle.event_manager.specs.Requests.{AreMadeThrough};
-ghost use Rattle.event_manager.specs.LoopState.{HasStepped};
+ghost use Rattle.event_loop.specs.Exchange.{Exchanges, requests_of, answers_of};
+ghost use Rattle.event_loop.specs.PollerCall.{PollerCall};
+ghost use Rattle.event_loop.specs.Registry.{Step};
+ghost use Rattle.event_loop.specs.Requests.{AreMadeThrough};
+ghost use Rattle.event_loop.specs.LoopState.{HasStepped};
 ghost use Rattle.event_manager.specs.Driven.{IsAsk, IsReplacement};
 
-use crate::Result;
-use crate::events::{EventOps, Request};
-use crate::manager::SubscriberOps;
-use crate::poller::EventPoller;
-use crate::subscribers::SubscriberId;
+use event_loop::{EventOps, EventPoller, Request, Result, SubscriberId, SubscriberOps};
 use std::mem;
 
 // Makes requests in order, and puts the answers into a list that has room for them.

@@ -3,8 +3,8 @@
 ghost use Rattle.std.specs.Prelude.{◌≡◌, ◌≤◌, [], IfOk, map, reverse, vec_capacity, vec_len};
 ghost use Rattle.event_manager.specs.Driven.{answers_to};
 
-use crate::Result;
 use crate::calls::Call;
+use event_loop::Result;
 use std::alloc::AllocError;
 
 /// A call, and an empty list with room for the answers to its requests.

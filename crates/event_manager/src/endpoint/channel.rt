@@ -2,7 +2,7 @@
 
 ghost use Rattle.std.specs.Prelude.{◌≡◌, ℕ, List, IfErr, IfOk};
 ghost use Rattle.event_manager.specs.JobRuns.{JobsAreRun};
-ghost use Rattle.event_manager.specs.Subscribers.{loop_state};
+ghost use Rattle.event_loop.specs.Subscribers.{loop_state};
 
 use crate::endpoint::RemoteEndpoint;
 use crate::endpoint::closed::Closed;
@@ -10,9 +10,7 @@ use crate::endpoint::runner::{JobRunner, WaitingJob};
 use crate::endpoint::slot::ReplySender;
 use crate::endpoint::state::ChannelState;
 use crate::jobs::{Entry, Job};
-use crate::poller::EventPoller;
-use crate::subscribers::{MutEventSubscriber, Registry};
-use crate::{Error, Result};
+use event_loop::{Error, EventPoller, MutEventSubscriber, Registry, Result};
 use job_tickets::taken;
 use job_tickets::taken::TakenCount;
 use job_tickets::tickets::Register;

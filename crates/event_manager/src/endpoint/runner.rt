@@ -3,12 +3,11 @@
 ghost use Rattle.std.specs.Prelude.{◌≡◌, ◌+◌, [], vec_len};
 ghost use Rattle.event_manager.specs.JobQueue.{TicketsFollow, tickets_and_jobs};
 ghost use Rattle.event_manager.specs.JobRuns.{HasRun, JobsAreRun};
-ghost use Rattle.event_manager.specs.Subscribers.{loop_state};
+ghost use Rattle.event_loop.specs.Subscribers.{loop_state};
 
 use crate::endpoint::slot::ReplySender;
 use crate::jobs::{Entry, Job};
-use crate::poller::EventPoller;
-use crate::subscribers::{MutEventSubscriber, Registry};
+use event_loop::{EventPoller, MutEventSubscriber, Registry};
 use std::marker::Model;
 use std::sync::Wait;
 use std::time::Clock;

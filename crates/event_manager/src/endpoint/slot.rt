@@ -1,11 +1,10 @@
 //! Where a caller waits for the reply of its job: a slot with two ends.
 
 ghost use Rattle.std.specs.Prelude.{◌≡◌, IfOk, IfErr, IfSome};
-ghost use Rattle.event_manager.specs.declared.error.Error.TheVariants.{ChannelRecv, OutOfMemory};
+ghost use Rattle.event_loop.specs.declared.error.Error.TheVariants.{ChannelRecv, OutOfMemory};
 
 use crate::jobs::Job;
-use crate::subscribers::MutEventSubscriber;
-use crate::{Error, Result};
+use event_loop::{Error, MutEventSubscriber, Result};
 use std::alloc::Global;
 use std::marker::{Model, PhantomData};
 use std::sync::{Arc, Condvar, Mutex, Wait};

@@ -3,7 +3,7 @@
 ghost use Rattle.std.specs.Prelude.{◌≡◌, ◌+◌, ◌<◌, ◌≤◌, [], length, Err, IfOk, IfErr, vec_len, false};
 ghost use Rattle.event_manager.specs.JobQueue.{new_queue, after_take, after_close, IsSend, TicketsFollow, answer_of};
 ghost use Rattle.event_manager.specs.Endpoint.{IsSendRefusal};
-ghost use Rattle.event_manager.specs.declared.error.Error.TheVariants.{TicketsUsedUp};
+ghost use Rattle.event_loop.specs.declared.error.Error.TheVariants.{TicketsUsedUp};
 
 use crate::Error;
 use crate::jobs::{Bell, Entry, JobQueue, Refused};

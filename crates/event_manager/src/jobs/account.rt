@@ -3,10 +3,10 @@
 ghost use Rattle.std.specs.Prelude.{◌≡◌, ◌++◌, [], IfOk, IfErr};
 ghost use Rattle.event_manager.specs.Account.{answers_of, handed_out, IsReplayed};
 ghost use Rattle.event_manager.specs.JobQueue.{tickets_and_jobs};
-ghost use Rattle.event_manager.specs.declared.error.Error.TheVariants.{OutOfMemory};
+ghost use Rattle.event_loop.specs.declared.error.Error.TheVariants.{OutOfMemory};
 
 use crate::jobs::queue::{Bell, Entry, JobQueue};
-use crate::{Error, Result};
+use event_loop::{Error, Result};
 use std::alloc::{AllocError, Global};
 use std::sync::Wait;
 use std::time::Clock;

@@ -1,12 +1,11 @@
 //! What a job is.
 
 ghost use Rattle.std.specs.Prelude.{◌≡◌, List, []};
-ghost use Rattle.event_manager.specs.Registry.{Step};
-ghost use Rattle.event_manager.specs.LoopState.{HaveStepped};
-ghost use Rattle.event_manager.specs.Subscribers.{loop_state};
+ghost use Rattle.event_loop.specs.Registry.{Step};
+ghost use Rattle.event_loop.specs.LoopState.{HaveStepped};
+ghost use Rattle.event_loop.specs.Subscribers.{loop_state};
 
-use crate::poller::EventPoller;
-use crate::subscribers::{MutEventSubscriber, Registry};
+use event_loop::{EventPoller, MutEventSubscriber, Registry};
 use std::sync::Wait;
 use std::time::Clock;
 
@@ -19,7 +18,7 @@ pub trait Job<S: MutEventSubscriber>: Drop {
     type Reply: Drop;
 
     ghost use Rattle.std.specs.Prelude.{List};
-    ghost use Rattle.event_manager.specs.Registry.{Step};
+    ghost use Rattle.event_loop.specs.Registry.{Step};
 
     /// Which steps it may make, with their answers, and which reply it may then give.
     ghost may: { Self → List (Step S) → Self.Reply → Type 0 };

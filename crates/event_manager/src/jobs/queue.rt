@@ -3,7 +3,7 @@
 ghost use Rattle.std.specs.Prelude.{◌≡◌, ◌+◌, ◌≤◌, true, [], length, IfErr};
 ghost use Rattle.event_manager.specs.JobQueue.{new_queue, after_take, after_close, IsSend, TicketsFollow, answer_of};
 
-use crate::{Error, Result};
+use event_loop::{Error, Result};
 use job_tickets::tickets::MOST_TICKETS;
 use std::alloc::{AllocError, Global};
 use std::marker::Model;

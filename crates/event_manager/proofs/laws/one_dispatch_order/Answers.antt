@@ -1,4 +1,4 @@
-use Rattle.event_manager.specs.DispatchOrder.{class_of}
+use Rattle.event_loop.specs.DispatchOrder.{class_of}
 use Rattle.dispatch_tables.proofs.DispatchOrders.{by_class, ordered_by_class, one_order, ordered_permutation, ordered_in_class_0}
 use Rattle.event_manager.proofs.laws.one_dispatch_order.Goals as goal
 

@@ -1,5 +1,5 @@
 use Rattle.std.proofs.Common.{rules, [], ◌∷◌}
-use Rattle.event_manager.specs.declared.events.Request.TheVariants.{Add, Remove}
+use Rattle.event_manager.specs.Request.TheVariants.{Add, Remove}
 use Rattle.event_manager.proofs.ExchangeLemmas.{exchanges_join}
 use Rattle.bench.proofs.subscribers.TogglerMutEventSubscriber.process.Goals as goal
 

@@ -1,5 +1,5 @@
 use Rattle.std.proofs.Common.{refl}
-use Rattle.event_manager.specs.Registry.{Requested}
+use Rattle.event_loop.specs.Registry.{Requested}
 use Rattle.event_manager.proofs.LentSteps.{lent_step}
 use Rattle.event_manager.proofs.drive.ask.ask.Goals as goal
 

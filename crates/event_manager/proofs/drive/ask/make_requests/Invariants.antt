@@ -1,5 +1,5 @@
 use Rattle.std.proofs.Common.{◌≡◌, ◌≤◌, length, vec_len, vec_capacity}
-use Rattle.event_manager.proofs.RequestsSoFar.{AreRequestedSoFar}
+use Rattle.event_loop.proofs.RequestsSoFar.{AreRequestedSoFar}
 use Rattle.event_manager.proofs.drive.ask.make_requests.Given as goal
 
 abbrev pub invariant-loop-request : goal.invariant-loop-request

@@ -1,6 +1,6 @@
 use Rattle.std.proofs.Common.{rules, ◌≡◌, Ok, Err}
 use Rattle.std.proofs.lemmas.Int.{to_z-of_z}
-use Rattle.event_manager.specs.Subscribers.{loop_state}
+use Rattle.event_loop.specs.Subscribers.{loop_state}
 use Rattle.event_manager.proofs.JobLemmas.{without_jobs, with_jobs}
 use Rattle.event_manager.proofs.manager.EventManager.run_with_timeout.Goals as goal
 

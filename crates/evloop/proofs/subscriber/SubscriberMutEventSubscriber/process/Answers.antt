@@ -1,6 +1,6 @@
 use Rattle.std.proofs.Common.{[], ◌≡◌, List, refl, subst, sym}
 use Rattle.event_manager.proofs.ExchangeLemmas.{none_made}
-use Rattle.event_manager.specs.declared.events.Request.{Request}
+use Rattle.event_manager.specs.Request.{Request}
 use Rattle.evloop.specs.Coming.{AreFirst}
 use Rattle.evloop.proofs.subscriber.SubscriberMutEventSubscriber.process.Goals as goal
 

@@ -1,5 +1,5 @@
 use Rattle.std.proofs.Common.{rules, [], ◌∷◌, inr}
-use Rattle.event_manager.specs.declared.events.Request.TheVariants.{Add, Modify}
+use Rattle.event_manager.specs.Request.TheVariants.{Add, Modify}
 use Rattle.event_manager.proofs.ExchangeLemmas.{exchanges_join}
 use Rattle.refusals.proofs.watcher.WatcherMutEventSubscriber.init.Goals as goal
 

@@ -1,7 +1,7 @@
 use Rattle.std.proofs.Common.{arith, ◌≡◌, [], ◌∷◌, reverse, ap, subst, ◌∙◌}
 use Rattle.std.proofs.lemmas.List.{nil_from_length, reverse-reverse, reverse-append}
 use Rattle.event_manager.specs.JobQueue.{TicketsFollow, tickets_and_jobs}
-use Rattle.event_manager.specs.Subscribers.{loop_state}
+use Rattle.event_loop.specs.Subscribers.{loop_state}
 use Rattle.event_manager.proofs.JobLemmas.{no_job_ran, first_job_ran}
 use Rattle.event_manager.proofs.endpoint.runner.JobRunner.run_all.Goals as goal
 

@@ -1,6 +1,6 @@
 use Rattle.std.proofs.Common.{◌≡◌, ◌+◌, ℕ, reverse, vec_len}
-use Rattle.event_manager.specs.LoopState.{LoopState}
-use Rattle.event_manager.specs.Subscribers.{loop_state}
+use Rattle.event_loop.specs.LoopState.{LoopState}
+use Rattle.event_loop.specs.Subscribers.{loop_state}
 use Rattle.event_manager.specs.JobQueue.{TicketsFollow, tickets_and_jobs}
 use Rattle.event_manager.specs.JobRuns.{JobsAreRun}
 use Rattle.event_manager.proofs.endpoint.runner.JobRunner.run_all.Given as goal

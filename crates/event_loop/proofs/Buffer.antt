@@ -1,0 +1,76 @@
+-- The positions of a buffer.
+use Rattle.std.proofs.Common.{◌≡◌, ℕ, suc, ◌+◌, ◌%◌, ◌^◌, ◌<◌, ◌≤◌, ◌==◌, ◌||◌, refl, sym, ap, subst, ◌∙◌, List, [], ◌∷◌, Bool, false, length, get_or, take, drop, add-one, arith, length-take, get_or-take, drop-cons, map, ℤ, pos, Ok, w32, inl, inr}
+use Rattle.std.proofs.lemmas.Bool.{cases_lt}
+use Rattle.std.specs.Int.{cast_signed}
+use Rattle.std.specs.Ordering.{int_eq}
+use Rattle.std.proofs.lemmas.Int.{ints, to_z_pos}
+use Rattle.std.proofs.lemmas.Bool.Decides.{same_from_decides, Decides-like, Decides-int_eq, Decides-eqb}
+use Rattle.std.proofs.lemmas.List.{length-take-le, drop_all}
+use Rattle.vmm_sys.specs.EpollEvent.{fd_of, word_of}
+use Rattle.dispatch_tables.specs.Event.{Event, event_of_entry}
+use Rattle.dispatch_tables.specs.Cancelled.{HasEntered}
+use base.Stored.{Gv}
+use Rattle.vmm_sys.specs.declared.poller.Poller.{Ghosts}
+use Rattle.event_loop.specs.PollerRelations.{waits}
+use Rattle.event_loop.specs.RegistrationState.{all_pending, cancel_on}
+use Rattle.vmm_sys.specs.declared.epoll.EpollEvent.{EpollEvent}
+use Rattle.event_loop.specs.ReadyList.{is_cancelled, ready_of}
+
+-- one more position: the entry with its mark, and then the others
+pub ready_more : (buffer : List EpollEvent) (cancelled : List ℤ) (i n : ℕ) (e : EpollEvent) → i < n → n ≤ length buffer → e ≡ get_or buffer i e → ready_of buffer cancelled i n ≡ (event_of_entry e, is_cancelled cancelled e) ∷ ready_of buffer cancelled (i + 1) n
+ready_more buffer cancelled i n e below fits is =
+    let long : i < length (take n buffer) = omega (arith, length-take n buffer) in
+    let marked : EpollEvent → Event × Bool = λ x. (event_of_entry x, is_cancelled cancelled x) in
+    ap (map marked) (drop-cons (take n buffer) i e long)
+    ∙ ap (λ x. marked x ∷ map marked (drop (suc i) (take n buffer))) (get_or-take n buffer i e below ∙ sym is)
+    ∙ ap (λ k. marked e ∷ map marked (drop k (take n buffer))) (sym (add-one i))
+
+none_cancelled : (es : List EpollEvent) → map (λ e. (event_of_entry e, is_cancelled [] e)) es ≡ all_pending (map event_of_entry es)
+none_cancelled [] = refl
+none_cancelled (e ∷ es) = ap (λ r. (event_of_entry e, false) ∷ r) (none_cancelled es)
+
+-- a new batch of n entries, with no descriptor cancelled
+pub ready_all_pending : (buffer : List EpollEvent) (n : ℕ) → ready_of buffer [] 0 n ≡ all_pending (map event_of_entry (take n buffer))
+ready_all_pending buffer n = none_cancelled (take n buffer)
+
+-- past the last position nothing is left
+pub ready_none : (buffer : List EpollEvent) (cancelled : List ℤ) (i n : ℕ) → n ≤ i → ready_of buffer cancelled i n ≡ []
+ready_none buffer cancelled i n past = ap (map (λ e. (event_of_entry e, is_cancelled cancelled e))) (drop_all i (take n buffer) (omega (arith, length-take n buffer, past)))
+
+-- a descriptor from 0 up is that of an entry exactly if it is the low half of its word
+to_number : (fd n : ℕ) → fd < 2 ^ 31 → n < 2 ^ 32 → pos fd ≡ cast_signed w32 n → fd ≡ n
+to_number fd n small half e = elim (cases_lt n (2 ^ 31)) [
+  | inl l ↦ omega (arith, ints, e, to_z_pos w32 n l)
+  | inr l ↦ absurd (grind (arith, ints, e, small, half, l))
+]
+
+from_number : (fd n : ℕ) → fd < 2 ^ 31 → fd ≡ n → pos fd ≡ cast_signed w32 n
+from_number fd n small e = sym (to_z_pos w32 n (omega (arith, e, small)) ∙ ap pos (sym e))
+
+same_descriptor : (fd n : ℕ) → fd < 2 ^ 31 → n < 2 ^ 32 → int_eq (pos fd) (cast_signed w32 n) ≡ (fd == n)
+same_descriptor fd n small half =
+    same_from_decides _ _ (Decides-like _ (to_number fd n small half) (from_number fd n small) (Decides-int_eq (pos fd) (cast_signed w32 n))) (Decides-eqb fd n)
+
+-- one more descriptor is cancelled
+entered_each : (before after : List ℤ) (fd : ℕ) → fd < 2 ^ 31 → HasEntered before (pos fd) after → (es : List EpollEvent)
+    → map (λ e. (event_of_entry e, is_cancelled after e)) es ≡ cancel_on fd (map (λ e. (event_of_entry e, is_cancelled before e)) es)
+entered_each before after fd small has [] = refl
+entered_each before after fd small has (e ∷ es) =
+    ap (λ b. (event_of_entry e, b) ∷ map (λ x. (event_of_entry x, is_cancelled after x)) es)
+    (has (fd_of e) ∙ ap (λ b. is_cancelled before e || b) (same_descriptor fd (word_of e % 2 ^ 32) small (omega arith)))
+    ∙ ap (λ r. (event_of_entry e, is_cancelled before e || (fd == (event_of_entry e).fd)) ∷ r) (entered_each before after fd small has es)
+
+pub ready_cancelled : (buffer : List EpollEvent) (before after : List ℤ) (fd i n : ℕ) → fd < 2 ^ 31 → HasEntered before (pos fd) after → ready_of buffer after i n ≡ cancel_on fd (ready_of buffer before i n)
+ready_cancelled buffer before after fd i n small has = entered_each before after fd small has (drop i (take n buffer))
+
+same_length : (es : List EpollEvent) → length (map event_of_entry es) ≡ length es
+same_length [] = refl
+same_length (e ∷ es) = ap suc (same_length es)
+
+pub length_events : (buffer : List EpollEvent) (n : ℕ) → n ≤ length buffer → length (map event_of_entry (take n buffer)) ≡ n
+length_events buffer n fits = same_length (take n buffer) ∙ length-take-le n buffer fits
+
+module _ {P : Type 0} (poller : Ghosts P) where
+  pub waits_ok : (before after : Gv) (ms : ℤ) (capacity : ℕ) (buffer : List EpollEvent) (n : ℕ) → n ≤ length buffer → poller.may_wait before ms capacity (Ok n) (take n buffer) after
+      → waits poller before ms capacity (Ok (map event_of_entry (take n buffer))) after
+  waits_ok before after ms capacity buffer n fits h = (take n buffer, refl, subst (λ k. poller.may_wait before ms capacity (Ok k) (take n buffer) after) (sym (length-take-le n buffer fits)) h)

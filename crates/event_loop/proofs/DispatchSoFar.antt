@@ -1,0 +1,25 @@
+-- A batch that is dispatched from the front: one more position.
+use Rattle.std.proofs.Common.{◌≡◌, refl, sym, ap, subst, List, [], ◌∷◌, ◌++◌, append_assoc, append-nil}
+use Rattle.dispatch_tables.specs.Event.{Event}
+use Rattle.event_loop.specs.Exchange.{Exchanges}
+use Rattle.event_loop.specs.Registry.{Registry}
+use Rattle.event_loop.specs.Dispatch.{Position, Outcome, IsOutcome, AreDispatched, events_of}
+
+module _ {V : Type 0} (serves : V → Event → Exchanges → V → Type 0) where
+  -- the positions so far lead from the start to now: whatever completes them there completes them from the start
+  abbrev pub AreDispatchedSoFar : Registry V → List (Position V) → List Event → Registry V → Type 0
+  AreDispatchedSoFar start earlier later now =
+      (rest : List (Position V)) (after : Registry V) → events_of rest ≡ later → AreDispatched serves now earlier rest after → AreDispatched serves start [] (earlier ++ rest) after
+
+  pub so_far_none : (start : Registry V) (report : List Event) → AreDispatchedSoFar start [] report start
+  so_far_none start report rest after e h = h
+
+  pub so_far_more : (start now next : Registry V) (earlier : List (Position V)) (event : Event) (later : List Event) (outcome : Outcome V) → AreDispatchedSoFar start earlier (event ∷ later) now → IsOutcome serves now earlier event later outcome next → AreDispatchedSoFar start (earlier ++ record { event = event; outcome = outcome } ∷ []) later next
+  so_far_more start now next earlier event later outcome so_far out rest after e h =
+      let position : Position V = record { event = event; outcome = outcome } in
+      subst (λ positions. AreDispatched serves start [] positions after) (sym (append_assoc earlier (position ∷ []) rest))
+      (so_far (position ∷ rest) after (ap (λ es. event ∷ es) e) (next, subst (λ es. IsOutcome serves now earlier event es outcome next) (sym e) out, h))
+
+  pub so_far_all : (start now : Registry V) (positions : List (Position V)) → AreDispatchedSoFar start positions [] now → AreDispatched serves start [] positions (record now { registrations = record now.registrations { pending = [] } })
+  so_far_all start now positions so_far =
+      subst (λ ds. AreDispatched serves start [] ds (record now { registrations = record now.registrations { pending = [] } })) (append-nil positions) (so_far [] _ refl refl)

@@ -1,0 +1,11 @@
+pub mod Buffer
+pub mod Consistent
+pub mod DispatchSoFar
+pub mod ExchangeLemmas
+pub mod Positions
+pub mod Releasing
+pub mod ReportedInOrder
+pub mod RequestsSoFar
+pub mod StepExchangeLemmas
+pub mod Watching
+pub mod WithoutOwner

@@ -1,0 +1,258 @@
+-- One position of a batch, and the batch.
+use Rattle.std.proofs.Common.{◌≡◌, ℕ, refl, sym, ap, subst, ◌∙◌, List, [], ◌∷◌, ◌++◌, Bool, true, false, ◌⊎◌, Some, None, Option, ⊎_elim, not, cond, ◌||◌, ◌==◌, map, append_assoc, length, Result, Ok, Err, ℤ}
+use Rattle.vmm_sys.specs.declared.errno.Errno.{Errno}
+use Rattle.event_loop.specs.Registry as model
+use Rattle.std.proofs.lemmas.List.{append-nil}
+use Rattle.std.specs.FinMap.{get, insert}
+use Rattle.dispatch_tables.specs.Event.{Event}
+use Rattle.event_loop.specs.Registrations.{Owns}
+use Rattle.event_loop.specs.DispatchOrder.{class_of, IsDispatchOrder}
+use Rattle.dispatch_tables.proofs.DispatchOrders.{nil_cons, head_is, tail_is}
+use Rattle.event_loop.proofs.ReportedInOrder.{reported_in_order}
+use Rattle.event_loop.specs.PollerCall.{PollerCall, Wait}
+use Rattle.event_loop.specs.Exchange.{Exchanges, ExchangesFit, removes}
+use Rattle.event_loop.specs.RegistrationState.{RegistrationState, not_cancelled, registrations_of, cancel_removed, all_pending, HasWaited}
+use Rattle.event_loop.specs.Registry.{HasId}
+use Rattle.event_loop.specs.Dispatch.{Outcome, Nobody, To, Position, exchanges_of, is_removed, still_pending, events_of, IsOutcome, AreDispatched}
+use Rattle.event_loop.specs.Iteration.{calls_of_outcome, calls_of_positions, is_reported}
+use Rattle.event_loop.proofs.DispatchSoFar.{AreDispatchedSoFar, so_far_none, so_far_more, so_far_all}
+use Rattle.event_loop.specs.Requests.{AreMade}
+use Rattle.event_loop.specs.PollerCall.{Controls, Waits, Leads}
+use Rattle.event_loop.specs.Subscribers.{registry_of, idle, loop_state, HasOutcome, TakesPosition, IsDispatched, IsBatch}
+use Rattle.event_loop.specs.declared.subscribers.Registry.{Registry}
+use Rattle.event_loop.proofs.ExchangeLemmas.{cancel_removed_marks, marked, leads_join, exchanges_keep_endpoint}
+
+module _ {S P : Type 0} {controls : Controls P} {waits : Waits P} (serves : S → Event → Exchanges → S → Type 0) where
+  pub nobody_position : (before after : Registry S P) (event : Event) (cancelled is_endpoint : Bool) (rest : List (Event × Bool))
+      → before.ops.epoll.registrations.ready ≡ (event, cancelled) ∷ rest → after.ops.epoll.registrations ≡ record before.ops.epoll.registrations { ready = rest } → after.subscribers ≡ before.subscribers → after.next ≡ before.next
+      → ((cancelled ≡ true) ⊎ ((i : ℕ) (value : S) → ¬ (Owns i (registrations_of before.ops.epoll.registrations) event.fd × HasId (registry_of before) i value)))
+      → Leads controls waits before.ops.epoll.poller [] after.ops.epoll.poller
+      → is_endpoint ≡ (event.fd == before.ops.epoll.registrations.endpoint)
+      → TakesPosition serves controls waits before is_endpoint after
+  nobody_position before after event cancelled is_endpoint rest was registrations subs next why led noticed = record {
+    event = event;
+    cancelled = cancelled;
+    later = rest;
+    outcome = Nobody;
+    was = was;
+    had = (why, λ k. record { values = subs k; next = next k; registrations = registrations_of (registrations k) });
+    ready = ap (λ (b : RegistrationState). b.ready) registrations;
+    led = led;
+    same_capacity = ap (λ (b : RegistrationState). b.capacity) registrations;
+    same_endpoint = ap (λ (b : RegistrationState). b.endpoint) registrations;
+    noticed = noticed;
+  }
+
+  pub served_position : (before after : Registry S P) (event : Event) (is_endpoint : Bool) (rest : List (Event × Bool)) (mid : RegistrationState)
+      (id : ℕ) (value held : S) (exchanges : Exchanges) (calls : List PollerCall)
+      → before.ops.epoll.registrations.ready ≡ (event, false) ∷ rest → mid ≡ record before.ops.epoll.registrations { ready = rest } → get mid.owner event.fd ≡ Some id → HasId (registry_of before) id value → serves value event exchanges held
+      → AreMade controls waits (record { registrations = mid; poller = before.ops.epoll.poller }) after.ops.epoll id exchanges calls
+      → after.subscribers ≡ insert before.subscribers id held → after.next ≡ before.next
+      → is_endpoint ≡ (event.fd == before.ops.epoll.registrations.endpoint)
+      → TakesPosition serves controls waits before is_endpoint after
+  served_position before after event is_endpoint rest mid id value held exchanges calls was registrations owns has served made values next noticed = record {
+    event = event;
+    cancelled = false;
+    later = rest;
+    outcome = To id exchanges calls held;
+    was = was;
+    had = (
+      value,
+      refl,
+      subst (λ (b : RegistrationState). get b.owner event.fd ≡ Some id) registrations owns,
+      has,
+      served,
+      subst (λ (b : RegistrationState). ExchangesFit id (registrations_of b) exchanges calls (registrations_of after.ops.epoll.registrations)) registrations made.fits,
+      λ k. record { values = values k; next = next k; registrations = registrations_of after.ops.epoll.registrations },
+    );
+    ready = made.ready ∙ ap (λ (b : RegistrationState). cancel_removed exchanges b.ready) registrations;
+    led = made.led;
+    same_capacity = made.same_capacity ∙ ap (λ (b : RegistrationState). b.capacity) registrations;
+    same_endpoint = exchanges_keep_endpoint id (registrations_of mid) exchanges calls (registrations_of after.ops.epoll.registrations) made.fits ∙ ap (λ (b : RegistrationState). b.endpoint) registrations;
+    noticed = noticed;
+  }
+
+taken : {A : Type 0} (x : A) → None ≡ Some x → ⊥
+taken x e = cc
+
+same_some : {A : Type 0} (o : Option A) (x y : A) → o ≡ Some x → o ≡ Some y → x ≡ y
+same_some o x y e f = cc
+
+module _ {S P : Type 0} (before : Registry S P) (mid : RegistrationState) (fd : ℕ) (rest : List (Event × Bool)) where
+  pub not_owned : mid ≡ record before.ops.epoll.registrations { ready = rest } → get mid.owner fd ≡ None → (i : ℕ) (value : S) → ¬ (Owns i (registrations_of before.ops.epoll.registrations) fd × HasId (registry_of before) i value)
+  not_owned registrations none i value h = taken i (sym (subst (λ (b : RegistrationState). get b.owner fd ≡ None) registrations none) ∙ h.0)
+
+  pub not_there : (id : ℕ) → mid ≡ record before.ops.epoll.registrations { ready = rest } → get mid.owner fd ≡ Some id → get before.subscribers id ≡ None → (i : ℕ) (value : S) → ¬ (Owns i (registrations_of before.ops.epoll.registrations) fd × HasId (registry_of before) i value)
+  not_there id registrations owns none i value h =
+      let same = same_some _ id i (subst (λ (b : RegistrationState). get b.owner fd ≡ Some id) registrations owns) h.0 in
+      taken value (sym (subst (λ j. get before.subscribers j ≡ None) same none) ∙ h.1)
+
+-- with a mark where one of these positions removed the descriptor
+abbrev pub cancelled_by : {V : Type 0} → List (Position V) → List Event → List (Event × Bool)
+cancelled_by positions later = map (λ (e : Event). (e, is_removed e.fd positions)) later
+
+or_false : (b : Bool) → b || false ≡ b
+or_false true = refl
+or_false false = refl
+
+or_assoc : (a b c : Bool) → a || (b || c) ≡ (a || b) || c
+or_assoc true b c = refl
+or_assoc false b c = refl
+
+removed_more : {V : Type 0} (fd : ℕ) (positions : List (Position V)) (d : Position V) → is_removed fd (positions ++ d ∷ []) ≡ is_removed fd positions || removes fd (exchanges_of d.outcome)
+removed_more fd [] d = or_false (removes fd (exchanges_of d.outcome))
+removed_more fd (x ∷ positions) d = ap (λ b. removes fd (exchanges_of x.outcome) || b) (removed_more fd positions d) ∙ or_assoc (removes fd (exchanges_of x.outcome)) (is_removed fd positions) (removes fd (exchanges_of d.outcome))
+
+marked_more : {V : Type 0} (positions : List (Position V)) (d : Position V) (later : List Event) → marked (exchanges_of d.outcome) (cancelled_by positions later) ≡ cancelled_by (positions ++ d ∷ []) later
+marked_more positions d [] = refl
+marked_more positions d (e ∷ later) = ap (λ b. (e, b) ∷ marked (exchanges_of d.outcome) (cancelled_by positions later)) (sym (removed_more e.fd positions d)) ∙ ap (λ r. (e, is_removed e.fd (positions ++ d ∷ [])) ∷ r) (marked_more positions d later)
+
+cancelled_more : {V : Type 0} (positions : List (Position V)) (d : Position V) (later : List Event) → cancel_removed (exchanges_of d.outcome) (cancelled_by positions later) ≡ cancelled_by (positions ++ d ∷ []) later
+cancelled_more positions d later = cancel_removed_marks (exchanges_of d.outcome) (cancelled_by positions later) ∙ marked_more positions d later
+
+not_cancelled_one : (e : Event) (b : Bool) (rest : List (Event × Bool)) (more : List Event) → not_cancelled rest ≡ more → not_cancelled ((e, b) ∷ rest) ≡ cond (not b) (e ∷ more) more
+not_cancelled_one e true rest more h = h
+not_cancelled_one e false rest more h = ap (λ l. e ∷ l) h
+
+not_cancelled_marks : {V : Type 0} (positions : List (Position V)) (later : List Event) → not_cancelled (cancelled_by positions later) ≡ still_pending positions later
+not_cancelled_marks positions [] = refl
+not_cancelled_marks positions (e ∷ later) = not_cancelled_one e (is_removed e.fd positions) (cancelled_by positions later) (still_pending positions later) (not_cancelled_marks positions later)
+
+calls_more : {V : Type 0} (positions : List (Position V)) (d : Position V) → calls_of_positions (positions ++ d ∷ []) ≡ calls_of_positions positions ++ calls_of_outcome d.outcome
+calls_more [] d = append-nil (calls_of_outcome d.outcome)
+calls_more (x ∷ positions) d = ap (λ xs. calls_of_outcome x.outcome ++ xs) (calls_more positions d) ∙ sym (append_assoc (calls_of_outcome x.outcome) (calls_of_positions positions) (calls_of_outcome d.outcome))
+
+events_more : {V : Type 0} (positions : List (Position V)) (d : Position V) (later : List Event) → events_of (positions ++ d ∷ []) ++ later ≡ events_of positions ++ d.event ∷ later
+events_more [] d later = refl
+events_more (x ∷ positions) d later = ap (λ xs. x.event ∷ xs) (events_more positions d later)
+
+reported_more : {V : Type 0} (fd : ℕ) (positions : List (Position V)) (d : Position V) → is_reported fd (events_of (positions ++ d ∷ [])) ≡ is_reported fd (events_of positions) || (d.event.fd == fd)
+reported_more fd [] d = or_false (d.event.fd == fd)
+reported_more fd (x ∷ positions) d = ap (λ b. (x.event.fd == fd) || b) (reported_more fd positions d) ∙ or_assoc (x.event.fd == fd) (is_reported fd (events_of positions)) (d.event.fd == fd)
+
+no_events : {V : Type 0} (positions : List (Position V)) (later : List Event) → cancelled_by positions later ≡ [] → later ≡ []
+no_events positions [] e = refl
+no_events positions (x ∷ later) e = absurd (nil_cons _ _ (sym e))
+
+true_false : (b : Bool) → b ≡ true → b ≡ false → ⊥
+true_false b e f = cc
+
+module _ {S P : Type 0} (serves : S → Event → Exchanges → S → Type 0) where
+  is_outcome : (before after : Registry S P) (positions : List (Position S)) (event : Event) (es : List Event) (outcome : Outcome S)
+      → HasOutcome serves before event (is_removed event.fd positions) (cancelled_by positions es) outcome after → IsOutcome serves (registry_of before) positions event es outcome (registry_of after)
+  is_outcome before after positions event es Nobody h = (
+    (λ i value f. ⊎_elim (λ e. true_false _ e f.1) (λ none. none i value (f.0, f.2)) h.0),
+    h.1 ∙ ap (λ l. record (registry_of before) { registrations = record (registrations_of before.ops.epoll.registrations) { pending = l } }) (not_cancelled_marks positions es),
+  )
+  is_outcome before after positions event es (To i exchanges calls held) h =
+      (h.0, registrations_of after.ops.epoll.registrations, (h.2, h.1, h.3), h.4, subst (λ l. ExchangesFit i (record (registrations_of before.ops.epoll.registrations) { pending = l }) exchanges calls (registrations_of after.ops.epoll.registrations)) (not_cancelled_marks positions es) h.5, h.6)
+
+  module _ (controls : Controls P) (waits : Waits P) where
+    -- the batch, as far as it was dispatched
+    pub record DispatchedSoFar (start now : Registry S P) (report : List Event) (endpoint_ready : Bool) : Type 0 where
+      pub positions : List (Position S)
+      pub later : List Event
+      pub events : events_of positions ++ later ≡ report
+      pub ready : now.ops.epoll.registrations.ready ≡ cancelled_by positions later
+      pub dispatched : AreDispatchedSoFar serves (registry_of start) positions later (registry_of now)
+      pub led : Leads controls waits start.ops.epoll.poller (calls_of_positions positions) now.ops.epoll.poller
+      pub same_capacity : now.ops.epoll.registrations.capacity ≡ start.ops.epoll.registrations.capacity
+      pub same_endpoint : now.ops.epoll.registrations.endpoint ≡ start.ops.epoll.registrations.endpoint
+      pub noticed : endpoint_ready ≡ is_reported start.ops.epoll.registrations.endpoint (events_of positions)
+
+    pub so_far_start : (start : Registry S P) (report : List Event) → start.ops.epoll.registrations.ready ≡ all_pending report → DispatchedSoFar start start report false
+    so_far_start start report h = record { positions = []; later = report; events = refl; ready = h; dispatched = so_far_none serves (registry_of start) report; led = refl; same_capacity = refl; same_endpoint = refl; noticed = refl }
+
+    next_one : (start now next : Registry S P) (report : List Event) (endpoint_ready is_endpoint : Bool) (positions : List (Position S)) (later : List Event) → events_of positions ++ later ≡ report → now.ops.epoll.registrations.ready ≡ cancelled_by positions later
+        → AreDispatchedSoFar serves (registry_of start) positions later (registry_of now) → Leads controls waits start.ops.epoll.poller (calls_of_positions positions) now.ops.epoll.poller
+        → now.ops.epoll.registrations.capacity ≡ start.ops.epoll.registrations.capacity → now.ops.epoll.registrations.endpoint ≡ start.ops.epoll.registrations.endpoint
+        → endpoint_ready ≡ is_reported start.ops.epoll.registrations.endpoint (events_of positions) → TakesPosition serves controls waits now is_endpoint next → DispatchedSoFar start next report (endpoint_ready || is_endpoint)
+    next_one start now next report endpoint_ready is_endpoint positions [] events ready dispatched led same same_endpoint noticed step = absurd (nil_cons _ _ (sym ready ∙ step.was))
+    next_one start now next report endpoint_ready is_endpoint positions (e ∷ es) events ready dispatched led same same_endpoint noticed step =
+        let both = sym ready ∙ step.was in
+        let first = head_is _ _ _ _ both in
+        let rest = tail_is _ _ _ _ both in
+        let position : Position S = record { event = e; outcome = step.outcome } in
+        let had = subst (λ r. HasOutcome serves now e (is_removed e.fd positions) r step.outcome next) (sym rest) (subst (λ p. HasOutcome serves now p.0 p.1 step.later step.outcome next) (sym first) step.had) in
+        record {
+          positions = positions ++ position ∷ [];
+          later = es;
+          events = events_more positions position es ∙ events;
+          ready = step.ready ∙ ap (cancel_removed (exchanges_of step.outcome)) (sym rest) ∙ cancelled_more positions position es;
+          dispatched = so_far_more serves (registry_of start) (registry_of now) (registry_of next) positions e es step.outcome dispatched (is_outcome now next positions e es step.outcome had);
+          led = subst (λ xs. Leads controls waits start.ops.epoll.poller xs next.ops.epoll.poller) (sym (calls_more positions position)) (leads_join controls waits start.ops.epoll.poller now.ops.epoll.poller next.ops.epoll.poller (calls_of_positions positions) (calls_of_outcome step.outcome) led step.led);
+          same_capacity = step.same_capacity ∙ same;
+          same_endpoint = step.same_endpoint ∙ same_endpoint;
+          noticed =
+              ap (λ b. b || is_endpoint) noticed ∙ ap (λ b. is_reported start.ops.epoll.registrations.endpoint (events_of positions) || b) (step.noticed ∙ ap (λ (p : Event × Bool). p.0.fd == now.ops.epoll.registrations.endpoint) (sym first) ∙ ap (λ fd. e.fd == fd) same_endpoint)
+              ∙ sym (reported_more start.ops.epoll.registrations.endpoint positions position);
+        }
+
+    pub so_far_position : (start now next : Registry S P) (report : List Event) (endpoint_ready is_endpoint : Bool) → DispatchedSoFar start now report endpoint_ready → TakesPosition serves controls waits now is_endpoint next → DispatchedSoFar start next report (endpoint_ready || is_endpoint)
+    so_far_position start now next report endpoint_ready is_endpoint so_far step =
+        next_one start now next report endpoint_ready is_endpoint so_far.positions so_far.later so_far.events so_far.ready so_far.dispatched so_far.led so_far.same_capacity so_far.same_endpoint so_far.noticed step
+
+    pub so_far_end : (start now : Registry S P) (report : List Event) (endpoint_ready : Bool) → DispatchedSoFar start now report endpoint_ready → now.ops.epoll.registrations.ready ≡ [] → IsDispatched serves controls waits start now report endpoint_ready
+    so_far_end start now report endpoint_ready so_far none =
+        let over = no_events so_far.positions so_far.later (sym so_far.ready ∙ none) in
+        let whole = sym (append-nil (events_of so_far.positions)) ∙ ap (λ l. events_of so_far.positions ++ l) (sym over) ∙ so_far.events in
+        let all = so_far_all serves (registry_of start) (registry_of now) so_far.positions (subst (λ l. AreDispatchedSoFar serves (registry_of start) so_far.positions l (registry_of now)) over so_far.dispatched) in
+        record {
+          positions = so_far.positions;
+          events = whole;
+          dispatched = subst (λ l. AreDispatched serves (registry_of start) [] so_far.positions (record (registry_of now) { registrations = record (registrations_of now.ops.epoll.registrations) { pending = not_cancelled l } })) (sym none) all;
+          led = so_far.led;
+          same_capacity = so_far.same_capacity;
+          over = none;
+          noticed = so_far.noticed ∙ ap (is_reported start.ops.epoll.registrations.endpoint) whole;
+        }
+
+fst_all_pending : (report : List Event) → map (λ (p : Event × Bool). p.0) (all_pending report) ≡ report
+fst_all_pending [] = refl
+fst_all_pending (e ∷ report) = ap (λ r. e ∷ r) (fst_all_pending report)
+
+ok_err : {A E : Type 0} (r : Result A E) (x : A) (e : E) → r ≡ Ok x → r ≡ Err e → ⊥
+ok_err r x e h k = cc
+
+ok_same : {A E : Type 0} (r : Result A E) (x y : A) → r ≡ Ok x → r ≡ Ok y → x ≡ y
+ok_same r x y h k = cc
+
+pub waited_all_pending : (s t : RegistrationState) (answer : Result (List Event) Errno) (result : Result ℕ Errno) (n : ℕ) → HasWaited s answer result t → result ≡ Ok n → t.ready ≡ all_pending (map (λ (p : Event × Bool). p.0) t.ready)
+waited_all_pending s t (Ok report) result n h is =
+    let came = ap (λ (b : RegistrationState). b.ready) h.3 in
+    came ∙ ap all_pending (sym (ap (map (λ (p : Event × Bool). p.0)) came ∙ fst_all_pending h.0))
+waited_all_pending s t (Err e) result n h is = absurd (ok_err result n e is h.0)
+
+module _ {V : Type 0} (serves : V → Event → Exchanges → V → Type 0) where
+  from_any_pending_one : (b : model.Registry V) (x : List Event) (e : Event) (es : List Event) (outcome : Outcome V) (a : model.Registry V) → IsOutcome serves (record b { registrations = record b.registrations { pending = x } }) [] e es outcome a → IsOutcome serves b [] e es outcome a
+  from_any_pending_one b x e es Nobody a h = h
+  from_any_pending_one b x e es (To i exchanges calls held) a h = h
+
+  from_any_pending : (b : model.Registry V) (x : List Event) (positions : List (Position V)) (a : model.Registry V) → AreDispatched serves (record b { registrations = record b.registrations { pending = x } }) [] positions a → AreDispatched serves b [] positions a
+  from_any_pending b x [] a h = h
+  from_any_pending b x (position ∷ positions) a h = (h.0, from_any_pending_one b x position.event (events_of positions) position.outcome h.0 h.1, h.2)
+
+module _ {S P : Type 0} (serves : S → Event → Exchanges → S → Type 0) (controls : Controls P) (waits : Waits P) where
+  pub batch_ok : (start after : Registry S P) (registrations : RegistrationState) (poller : P) (ms : ℤ) (answer : Result (List Event) Errno) (result : Result ℕ Errno) (n : ℕ) (endpoint_ready : Bool)
+      → Leads controls waits start.ops.epoll.poller (Wait ms start.ops.epoll.registrations.capacity answer ∷ []) poller → HasWaited start.ops.epoll.registrations answer result registrations → result ≡ Ok n
+      → IsDispatched serves controls waits (record { subscribers = start.subscribers; next = start.next; ops = record { epoll = record { registrations = registrations; poller = poller }; id = start.ops.id; place = start.ops.place } }) after (map (λ (p : Event × Bool). p.0) registrations.ready) endpoint_ready
+      → IsBatch serves controls waits (loop_state start) ms (Ok (record { count = n; endpoint_ready = endpoint_ready })) (loop_state after)
+  batch_ok start after registrations poller ms (Ok report) result n endpoint_ready led waited is dispatched =
+      let (ordered, order, counted, after_wait) = waited in
+      let came = ap (λ (b : RegistrationState). b.ready) after_wait in
+      let ready = ap (map (λ (p : Event × Bool). p.0)) came ∙ fst_all_pending ordered in
+      let from = subst (λ (b : RegistrationState). AreDispatched serves (record { values = start.subscribers; next = start.next; registrations = registrations_of b }) [] dispatched.positions (registry_of after)) after_wait dispatched.dispatched in
+      let onto = subst (λ l. AreDispatched serves (idle (registry_of start)) [] dispatched.positions (record (registry_of after) { registrations = record (registrations_of after.ops.epoll.registrations) { pending = not_cancelled l } })) dispatched.over
+      (from_any_pending serves (idle (registry_of start)) (not_cancelled (all_pending ordered)) dispatched.positions (registry_of after) from) in
+      record {
+        waited = Ok report;
+        positions = dispatched.positions;
+        answer = ap Ok (ok_same result n (length report) is counted);
+        noticed =
+            dispatched.noticed ∙ ap (λ l. is_reported registrations.endpoint l) ready ∙ ap (λ (b : RegistrationState). is_reported b.endpoint ordered) after_wait
+            ∙ reported_in_order (λ fd. class_of (registrations_of start.ops.epoll.registrations) fd) start.ops.epoll.registrations.endpoint report ordered order;
+        dispatched = (subst (λ es. IsDispatchOrder (registrations_of start.ops.epoll.registrations) report es) (sym (dispatched.events ∙ ready)) order, onto);
+        led = leads_join controls waits start.ops.epoll.poller poller after.ops.epoll.poller (Wait ms start.ops.epoll.registrations.capacity (Ok report) ∷ []) (calls_of_positions dispatched.positions) led dispatched.led;
+        same_capacity = dispatched.same_capacity ∙ ap (λ (b : RegistrationState). b.capacity) after_wait;
+      }
+  batch_ok start after registrations poller ms (Err e) result n endpoint_ready led waited is dispatched = absurd (ok_err result n e is waited.0)

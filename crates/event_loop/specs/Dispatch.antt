@@ -1,0 +1,61 @@
+-- Who gets which event of a batch.
+use Rattle.std.specs.Prelude.{◌≡◌, ℕ, Bool, false, not, ◌||◌, List, [], ◌∷◌, ◌++◌, map, filter}
+use Rattle.std.specs.FinMap as finite
+use Rattle.dispatch_tables.specs.Event.{Event}
+use Rattle.event_loop.specs.Registrations.{Registrations, Owns}
+use Rattle.event_loop.specs.DispatchOrder.{IsDispatchOrder}
+use Rattle.event_loop.specs.PollerCall.{PollerCall}
+use Rattle.event_loop.specs.Exchange.{Exchanges, ExchangesFit, removes}
+use Rattle.event_loop.specs.Registry.{Registry, HasId}
+
+-- what became of an event: nobody got it; or this id did, with its exchanges, their poller calls, and its value after
+pub data Outcome (V : Type 0) : Type 0 where
+  Nobody : Outcome V
+  To : (id : ℕ) (exchanges : Exchanges) (calls : List PollerCall) (after : V) → Outcome V
+
+-- a position of the batch, in the order of dispatch: the event as it was reported, and its outcome
+pub record Position (V : Type 0) : Type 0 where
+  pub event : Event
+  pub outcome : Outcome V
+
+abbrev pub exchanges_of : {V : Type 0} → Outcome V → Exchanges
+exchanges_of Nobody = []
+exchanges_of (To id exchanges calls after) = exchanges
+
+-- whether the exchanges of one of these positions hold an agreed Remove of the descriptor
+abbrev pub is_removed : {V : Type 0} → ℕ → List (Position V) → Bool
+is_removed fd [] = false
+is_removed fd (position ∷ positions) = removes fd (exchanges_of position.outcome) || is_removed fd positions
+
+-- the later events whose descriptor no exchange of the earlier positions removed
+abbrev pub still_pending : {V : Type 0} → List (Position V) → List Event → List Event
+still_pending earlier later = filter (λ e. not (is_removed e.fd earlier)) later
+
+abbrev pub events_of : {V : Type 0} → List (Position V) → List Event
+events_of positions = map (λ position. position.event) positions
+
+-- the event is for id i, which holds this value: i owns its descriptor now, and no earlier exchange removed it
+abbrev pub IsFor : {V : Type 0} → Registry V → List (Position V) → Event → ℕ → V → Type 0
+IsFor registry earlier event i value = Owns i registry.registrations event.fd × (is_removed event.fd earlier ≡ false) × HasId registry i value
+
+-- serves: which exchanges a subscriber may have on an event, from its value before to its value after.
+module _ {V : Type 0} (serves : V → Event → Exchanges → V → Type 0) where
+  -- the outcome of one position, between the earlier ones and the later events
+  abbrev pub IsOutcome : Registry V → List (Position V) → Event → List Event → Outcome V → Registry V → Type 0
+  IsOutcome before earlier event later Nobody after =
+      ((i : ℕ) (value : V) → ¬ IsFor before earlier event i value)
+      × (after ≡ record before { registrations = record before.registrations { pending = still_pending earlier later } })
+  IsOutcome before earlier event later (To i exchanges calls held) after =
+      (value : V) × (registrations : Registrations) × IsFor before earlier event i value × serves value event exchanges held
+      × ExchangesFit i (record before.registrations { pending = still_pending earlier later }) exchanges calls registrations
+      × (after ≡ record before { values = finite.insert before.values i held; registrations = registrations })
+
+  -- the positions, in the order in which they are dispatched, each after the earlier ones; at the end nothing is pending
+  abbrev pub AreDispatched : Registry V → List (Position V) → List (Position V) → Registry V → Type 0
+  AreDispatched before earlier [] after = after ≡ record before { registrations = record before.registrations { pending = [] } }
+  AreDispatched before earlier (position ∷ later) after =
+      (mid : Registry V) × IsOutcome before earlier position.event (events_of later) position.outcome mid × AreDispatched mid (earlier ++ position ∷ []) later after
+
+  -- a dispatch of the report: an outcome for each of its events, which come by the classes that they have before it
+  abbrev pub IsDispatch : Registry V → List Event → List (Position V) → Registry V → Type 0
+  IsDispatch before report positions after = IsDispatchOrder before.registrations report (events_of positions) × AreDispatched before [] positions after

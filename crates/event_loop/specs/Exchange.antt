@@ -1,0 +1,119 @@
+-- Requests of a subscriber, their answers, and what they do to the registrations.
+use Rattle.std.specs.Prelude.{◌≡◌, ℕ, ◌==◌, ℤ, Bool, false, ◌||◌, List, [], ◌∷◌, ◌++◌, map, ◌⊎◌, Result, Ok, Err, pos}
+use Rattle.std.specs.FinMap as finite
+use Rattle.dispatch_tables.specs.Event.{Event}
+use Rattle.event_loop.specs.PollerCall.{PollerCall, Control}
+use Rattle.event_loop.specs.Registrations.{Registrations, Owns, IsFree, not_on}
+use Rattle.dispatch_tables.specs.Priority.{number_of}
+use Rattle.vmm_sys.specs.declared.errno.Errno.{Errno}
+use Rattle.vmm_sys.specs.declared.epoll.ControlOperation.{ControlOperation}
+use Rattle.vmm_sys.specs.declared.epoll.ControlOperation.TheVariants as operation
+use Rattle.event_loop.specs.declared.error.Error.{Error}
+use Rattle.event_loop.specs.declared.error.Error.TheVariants.{Epoll, FdAlreadyRegistered, OutOfMemory}
+use Rattle.event_loop.specs.declared.events.Request.{Request}
+use Rattle.event_loop.specs.declared.events.Request.TheVariants.{Add, AddWithPriority, Modify, Remove}
+
+-- the answer to a request
+abbrev pub Answer : Type 0
+Answer = Result (Unit {0}) Error
+
+abbrev pub agreed : Answer
+agreed = Ok tt
+
+-- refused with the number n
+abbrev pub refused : ℤ → Answer
+refused n = Err (Epoll (record { 0 = n }))
+
+abbrev pub event_of : Request → Event
+event_of (Add e) = e
+event_of (AddWithPriority e priority) = e
+event_of (Modify e) = e
+event_of (Remove e) = e
+
+abbrev pub operation_of : Request → ControlOperation
+operation_of (Add e) = operation.Add
+operation_of (AddWithPriority e priority) = operation.Add
+operation_of (Modify e) = operation.Modify
+operation_of (Remove e) = operation.Delete
+
+-- the call of the poller for a request
+abbrev pub call_for : Request → Result (Unit {0}) Errno → PollerCall
+call_for request answer = Control (operation_of request) (event_of request).fd (event_of request) answer
+
+-- whether the descriptor of an event may be added, as far as the registrations say
+abbrev pub IsVacant : Registrations → Event → Answer → Type 0
+IsVacant registrations e (Ok entry) = IsFree registrations e.fd × ¬ (e.fd ≡ registrations.endpoint)
+IsVacant registrations e (Err error) = (¬ IsFree registrations e.fd × (error ≡ FdAlreadyRegistered)) ⊎ (IsFree registrations e.fd × (e.fd ≡ registrations.endpoint) × (error ≡ Epoll (record { 0 = pos 17 })))
+
+-- what an addition is answered without the poller being asked: a descriptor that someone owns, the
+-- endpoint's, or no memory, in this order
+abbrev pub IsAdditionRefused : Registrations → Event → Answer → Type 0
+IsAdditionRefused registrations e answer =
+    (¬ IsFree registrations e.fd × (answer ≡ Err FdAlreadyRegistered))
+    ⊎ (IsFree registrations e.fd × (e.fd ≡ registrations.endpoint) × (answer ≡ refused (pos 17)))
+    ⊎ (IsFree registrations e.fd × ¬ (e.fd ≡ registrations.endpoint) × (answer ≡ Err OutOfMemory))
+
+-- what id i is answered without the poller being asked: as said of an addition; a descriptor that is not its own
+abbrev pub IsRefusedByManager : ℕ → Registrations → Request → Answer → Type 0
+IsRefusedByManager i registrations (Add e) answer = IsAdditionRefused registrations e answer
+IsRefusedByManager i registrations (AddWithPriority e priority) answer = IsAdditionRefused registrations e answer
+IsRefusedByManager i registrations (Modify e) answer = ¬ Owns i registrations e.fd × (answer ≡ refused (pos 2))
+IsRefusedByManager i registrations (Remove e) answer = ¬ Owns i registrations e.fd × (answer ≡ refused (pos 2))
+
+-- whether the request reaches the poller
+abbrev pub ReachesPoller : ℕ → Registrations → Request → Type 0
+ReachesPoller i registrations (Add e) = IsFree registrations e.fd × ¬ (e.fd ≡ registrations.endpoint)
+ReachesPoller i registrations (AddWithPriority e priority) = IsFree registrations e.fd × ¬ (e.fd ≡ registrations.endpoint)
+ReachesPoller i registrations (Modify e) = Owns i registrations e.fd
+ReachesPoller i registrations (Remove e) = Owns i registrations e.fd
+
+-- with the descriptor of an event owned by id i, at the priority of this number
+abbrev pub entered : ℕ → Event → ℕ → Registrations → Registrations
+entered i e number registrations = record registrations { owner = finite.insert registrations.owner e.fd i; priority = finite.insert registrations.priority e.fd number }
+
+-- the registrations once the poller agreed: an addition without a priority is one at the lowest
+abbrev pub registrations_after : ℕ → Request → Registrations → Registrations
+registrations_after i (Add e) registrations = entered i e 0 registrations
+registrations_after i (AddWithPriority e priority) registrations = entered i e (number_of priority) registrations
+registrations_after i (Modify e) registrations = registrations
+registrations_after i (Remove e) registrations = record registrations { owner = finite.remove registrations.owner e.fd; priority = finite.remove registrations.priority e.fd; pending = not_on e.fd registrations.pending }
+
+-- From these registrations, id i may get this answer to the request after these poller calls, and leave the registrations after.
+pub data Fits (i : ℕ) (registrations : Registrations) (request : Request) (answer : Answer) (calls : List PollerCall) (after : Registrations) : Type 0 where
+  by_manager : IsRefusedByManager i registrations request answer → calls ≡ [] → after ≡ registrations → Fits i registrations request answer calls after
+  by_poller : (number : ℤ) → ReachesPoller i registrations request → calls ≡ call_for request (Err (record { 0 = number })) ∷ [] → answer ≡ refused number → after ≡ registrations → Fits i registrations request answer calls after
+  by_agreement : ReachesPoller i registrations request → calls ≡ call_for request (Ok tt) ∷ [] → answer ≡ agreed → after ≡ registrations_after i request registrations → Fits i registrations request answer calls after
+
+-- a list of requests with their answers
+abbrev pub Exchanges : Type 0
+Exchanges = List (Request × Answer)
+
+abbrev pub requests_of : Exchanges → List Request
+requests_of exchanges = map (λ exchange. exchange.0) exchanges
+
+abbrev pub answers_of : Exchanges → List Answer
+answers_of exchanges = map (λ exchange. exchange.1) exchanges
+
+-- the first answer that is a refusal; agreed where there is none
+abbrev pub first_refusal : List Answer → Answer
+first_refusal [] = agreed
+first_refusal (Ok entry ∷ answers) = first_refusal answers
+first_refusal (Err error ∷ answers) = Err error
+
+-- the exchanges of id i fit, each request from the registrations that the one before it left
+abbrev pub ExchangesFit : ℕ → Registrations → Exchanges → List PollerCall → Registrations → Type 0
+ExchangesFit i registrations [] calls after = (calls ≡ []) × (after ≡ registrations)
+ExchangesFit i registrations (exchange ∷ exchanges) calls after =
+    (first : List PollerCall) × (rest : List PollerCall) × (mid : Registrations) × (calls ≡ first ++ rest) × Fits i registrations exchange.0 exchange.1 first mid × ExchangesFit i mid exchanges rest after
+
+-- whether the exchange is an agreed Remove of the descriptor; whether the exchanges hold one
+abbrev pub is_removal : ℕ → Request → Answer → Bool
+is_removal fd (Remove e) (Ok entry) = e.fd == fd
+is_removal fd (Remove e) (Err error) = false
+is_removal fd (Add e) answer = false
+is_removal fd (AddWithPriority e priority) answer = false
+is_removal fd (Modify e) answer = false
+
+abbrev pub removes : ℕ → Exchanges → Bool
+removes fd [] = false
+removes fd (exchange ∷ exchanges) = is_removal fd exchange.0 exchange.1 || removes fd exchanges

@@ -1,0 +1,127 @@
+-- Subscribers by id, and the steps: a join, a leave, another value, a list of requests.
+use Rattle.std.specs.Prelude.{◌≡◌, ℕ, ◌+◌, ◌-◌, ◌^◌, ◌<◌, ◌==◌, Bool, false, not, List, [], ◌∷◌, ◌⊎◌, ◌↔◌, Option, Some, None, Result, Contains, AllPairs, ◌≢◌}
+use Rattle.std.specs.FinMap as map
+use Rattle.std.specs.Ordering.{nat_cmp}
+use Rattle.dispatch_tables.specs.Event.{Event}
+use Rattle.event_loop.specs.Registrations.{Registrations, Owns}
+use Rattle.event_loop.specs.PollerCall.{PollerCall, Control}
+use Rattle.event_loop.specs.Exchange.{Exchanges, ExchangesFit}
+use Rattle.vmm_sys.specs.declared.errno.Errno.{Errno}
+use Rattle.event_loop.specs.declared.error.Error.{Error}
+use Rattle.event_loop.specs.declared.error.Error.TheVariants.{IdsUsedUp, OutOfMemory}
+use Rattle.vmm_sys.specs.declared.epoll.ControlOperation.TheVariants as operation
+
+-- the subscribers' values by id, the id that is given next, the registrations
+pub record Registry (V : Type 0) : Type 0 where
+  pub values : map.FinMap nat_cmp V
+  pub next : ℕ
+  pub registrations : Registrations
+
+-- One step, with what was answered. V is the type of the subscribers.
+pub data Step (V : Type 0) : Type 0 where
+  Joined : (value : V) (id : ℕ) (exchanges : Exchanges) (calls : List PollerCall) (after : V) → Step V
+  NotJoined : V → Error → Step V
+  Left : (id : ℕ) (value : V) (calls : List PollerCall) → Step V
+  NotLeft : ℕ → Step V
+  Replaced : (id : ℕ) (old new : V) → Step V
+  NotReplaced : ℕ → Step V
+  Requested : (id : ℕ) (exchanges : Exchanges) (calls : List PollerCall) → Step V
+  NotRequested : ℕ → Step V
+
+-- is the owner id i?
+abbrev pub is_id : ℕ → Option ℕ → Bool
+is_id i None = false
+is_id i (Some j) = j == i
+
+-- the entries without those at descriptors of id i; the registrations once id i left
+abbrev pub without_owner : ℕ → map.FinMap nat_cmp ℕ → map.FinMap nat_cmp ℕ → map.FinMap nat_cmp ℕ
+without_owner i owner entries = map.retain_keys entries (λ fd. not (is_id i (map.get owner fd)))
+
+abbrev pub left_by : ℕ → Registrations → Registrations
+left_by i registrations = record registrations {
+  owner = without_owner i registrations.owner registrations.owner;
+  priority = without_owner i registrations.owner registrations.priority;
+}
+
+abbrev pub empty_event : Event
+empty_event = record { fd = 0; payload = 0; set = 0 }
+
+-- one Delete for each of the descriptors, in this order, whatever it answers
+abbrev pub AreDeletes : List ℕ → List PollerCall → Type 0
+AreDeletes [] calls = calls ≡ []
+AreDeletes (fd ∷ fds) calls =
+    (answer : Result (Unit {0}) Errno) × (rest : List PollerCall) × (calls ≡ Control operation.Delete fd empty_event answer ∷ rest) × AreDeletes fds rest
+
+-- the descriptors of id i, each once
+abbrev pub AreOwnedBy : ℕ → Registrations → List ℕ → Type 0
+AreOwnedBy i registrations fds = AllPairs (λ a b. a ≢ b) fds × ((fd : ℕ) → Contains fds fd ↔ Owns i registrations fd)
+
+abbrev pub HasId : {V : Type 0} → Registry V → ℕ → V → Type 0
+HasId registry i value = map.get registry.values i ≡ Some value
+
+abbrev pub LacksId : {V : Type 0} → Registry V → ℕ → Type 0
+LacksId registry i = map.get registry.values i ≡ None
+
+-- each id that is held is below this one
+abbrev pub AreBelow : {V : Type 0} → ℕ → map.FinMap nat_cmp V → Type 0
+AreBelow {V} next values = (id : ℕ) (value : V) → map.get values id ≡ Some value → id < next
+
+-- where this is the next id, the ids are used up
+abbrev pub ids_end : ℕ
+ids_end = 2 ^ 64 - 1
+
+-- begins: which exchanges a subscriber may have in its init, from its value before to its value after.
+module _ {V : Type 0} (begins : V → Exchanges → V → Type 0) where
+  abbrev pub Steps : Registry V → Step V → Registry V → Type 0
+  Steps before (Joined value id exchanges calls held) after =
+      (registrations : Registrations) × (before.next < ids_end) × (id ≡ before.next) × ExchangesFit id before.registrations exchanges calls registrations × begins value exchanges held
+      × (after ≡ record { values = map.insert before.values id held; next = before.next + 1; registrations = registrations })
+  Steps before (NotJoined value error) after =
+      (((before.next ≡ ids_end) × (error ≡ IdsUsedUp)) ⊎ ((before.next < ids_end) × (error ≡ OutOfMemory))) × (after ≡ before)
+  Steps before (Left id value calls) after =
+      (fds : List ℕ) × HasId before id value × AreOwnedBy id before.registrations fds × AreDeletes fds calls
+      × (after ≡ record before { values = map.remove before.values id; registrations = left_by id before.registrations })
+  Steps before (NotLeft id) after = LacksId before id × (after ≡ before)
+  Steps before (Replaced id old new) after = HasId before id old × (after ≡ record before { values = map.insert before.values id new })
+  Steps before (NotReplaced id) after = LacksId before id × (after ≡ before)
+  Steps before (Requested id exchanges calls) after =
+      (value : V) × (registrations : Registrations) × HasId before id value × ExchangesFit id before.registrations exchanges calls registrations × (after ≡ record before { registrations = registrations })
+  Steps before (NotRequested id) after = LacksId before id × (after ≡ before)
+
+-- the poller calls that a step made
+abbrev pub calls_of : {V : Type 0} → Step V → List PollerCall
+calls_of (Joined value id exchanges calls held) = calls
+calls_of (NotJoined value error) = []
+calls_of (Left id value calls) = calls
+calls_of (NotLeft id) = []
+calls_of (Replaced id old new) = []
+calls_of (NotReplaced id) = []
+calls_of (Requested id exchanges calls) = calls
+calls_of (NotRequested id) = []
+
+-- the id that a step is of: the one it was asked for, or gave
+abbrev pub id_of : {V : Type 0} → Step V → Option ℕ
+id_of (Joined value id exchanges calls held) = Some id
+id_of (Left id value calls) = Some id
+id_of (NotLeft id) = Some id
+id_of (Replaced id old new) = Some id
+id_of (NotReplaced id) = Some id
+id_of (Requested id exchanges calls) = Some id
+id_of (NotRequested id) = Some id
+id_of (NotJoined value error) = None
+
+-- the id that it acts on; none where it is refused
+abbrev pub acts_on : {V : Type 0} → Step V → Option ℕ
+acts_on (NotLeft id) = None
+acts_on (NotReplaced id) = None
+acts_on (NotRequested id) = None
+acts_on step = id_of step
+
+-- the id that it gives; the id that it removes
+abbrev pub given_by : {V : Type 0} → Step V → Option ℕ
+given_by (Joined value id exchanges calls held) = Some id
+given_by step = None
+
+abbrev pub removed_by : {V : Type 0} → Step V → Option ℕ
+removed_by (Left id value calls) = Some id
+removed_by step = None

@@ -1,0 +1,94 @@
+-- A registry of the program, seen by the definitions, and one position of its ready list.
+use Rattle.std.specs.Prelude.{◌≡◌, ℕ, ℤ, ◌==◌, List, Bool, true, false, [], ◌∷◌, ◌⊎◌, Result, Ok, Err}
+use Rattle.std.specs.FinMap as map
+use Rattle.dispatch_tables.specs.Event.{Event}
+use Rattle.event_loop.specs.PollerCall.{Wait, Controls, Waits, Leads}
+use Rattle.event_loop.specs.Exchange.{Exchanges, ExchangesFit}
+use Rattle.event_loop.specs.Registrations.{Owns}
+use Rattle.event_loop.specs.Registry.{HasId}
+use Rattle.event_loop.specs.Registry as model
+use Rattle.event_loop.specs.RegistrationState.{registrations_of, not_cancelled, cancel_removed}
+use Rattle.event_loop.specs.Dispatch.{Outcome, Nobody, To, Position, exchanges_of, events_of, AreDispatched}
+use Rattle.vmm_sys.specs.declared.errno.Errno.{Errno}
+use Rattle.event_loop.specs.Iteration.{calls_of_outcome, calls_of_positions, answer_of, is_reported}
+use Rattle.event_loop.specs.LoopState.{LoopState, IsDispatchedAfter, new_loop}
+use Rattle.event_loop.specs.declared.error.Error.{Error}
+use Rattle.event_loop.specs.declared.error.Error.TheVariants.{OutOfMemory, Epoll}
+use Rattle.vmm_sys.specs.declared.epoll.ControlOperation.TheVariants as operation
+use Rattle.event_loop.specs.declared.subscribers.Batch.{Batch}
+use Rattle.event_loop.specs.declared.subscribers.Registry.{Registry}
+
+-- with nothing pending
+abbrev pub idle : {S : Type 0} → model.Registry S → model.Registry S
+idle registry = record registry { registrations = record registry.registrations { pending = [] } }
+
+module _ {S P : Type 0} where
+  -- in the middle of a batch: the pending events are the entries of the ready list that aren't cancelled
+  abbrev pub registry_of : Registry S P → model.Registry S
+  registry_of r = record { values = r.subscribers; next = r.next; registrations = registrations_of r.ops.epoll.registrations }
+
+  -- between two batches nothing is pending: the next wait writes over the ready list; a registry alone takes no jobs
+  abbrev pub loop_state : Registry S P → LoopState S P
+  loop_state r = record { registry = idle (registry_of r); taken = 0; poller = r.ops.epoll.poller; capacity = r.ops.epoll.registrations.capacity }
+
+  module _ (serves : S → Event → Exchanges → S → Type 0) where
+    -- the position had this outcome; `cancelled` says whether it was cancelled before, `later` is what comes after it
+    abbrev pub HasOutcome : Registry S P → Event → Bool → List (Event × Bool) → Outcome S → Registry S P → Type 0
+    HasOutcome before event cancelled later Nobody after =
+        ((cancelled ≡ true) ⊎ ((i : ℕ) (value : S) → ¬ (Owns i (registrations_of before.ops.epoll.registrations) event.fd × HasId (registry_of before) i value)))
+        × (registry_of after ≡ record (registry_of before) { registrations = record (registrations_of before.ops.epoll.registrations) { pending = not_cancelled later } })
+    HasOutcome before event cancelled later (To i exchanges calls held) after =
+        (value : S) × (cancelled ≡ false) × Owns i (registrations_of before.ops.epoll.registrations) event.fd × HasId (registry_of before) i value × serves value event exchanges held
+        × ExchangesFit i (record (registrations_of before.ops.epoll.registrations) { pending = not_cancelled later }) exchanges calls (registrations_of after.ops.epoll.registrations)
+        × (registry_of after ≡ record (registry_of before) { values = map.insert (registry_of before).values i held; registrations = registrations_of after.ops.epoll.registrations })
+
+    -- one position was taken; `is_endpoint` says whether its event was on the endpoint's descriptor
+    pub record TakesPosition (controls : Controls P) (waits : Waits P) (before : Registry S P) (is_endpoint : Bool) (after : Registry S P) : Type 0 where
+      pub event : Event
+      pub cancelled : Bool
+      pub later : List (Event × Bool)
+      pub outcome : Outcome S
+      pub was : before.ops.epoll.registrations.ready ≡ (event, cancelled) ∷ later
+      pub had : HasOutcome before event cancelled later outcome after
+      pub ready : after.ops.epoll.registrations.ready ≡ cancel_removed (exchanges_of outcome) later
+      pub led : Leads controls waits before.ops.epoll.poller (calls_of_outcome outcome) after.ops.epoll.poller
+      pub same_capacity : after.ops.epoll.registrations.capacity ≡ before.ops.epoll.registrations.capacity
+      pub same_endpoint : after.ops.epoll.registrations.endpoint ≡ before.ops.epoll.registrations.endpoint
+      pub noticed : is_endpoint ≡ (event.fd == before.ops.epoll.registrations.endpoint)
+
+    -- the events of a batch were dispatched in this order; `endpoint_ready` says whether one of them was on the endpoint's descriptor
+    pub record IsDispatched (controls : Controls P) (waits : Waits P) (before after : Registry S P) (ordered : List Event) (endpoint_ready : Bool) : Type 0 where
+      pub positions : List (Position S)
+      pub events : events_of positions ≡ ordered
+      pub dispatched : AreDispatched serves (registry_of before) [] positions (registry_of after)
+      pub led : Leads controls waits before.ops.epoll.poller (calls_of_positions positions) after.ops.epoll.poller
+      pub same_capacity : after.ops.epoll.registrations.capacity ≡ before.ops.epoll.registrations.capacity
+      pub over : after.ops.epoll.registrations.ready ≡ []
+      pub noticed : endpoint_ready ≡ is_reported before.ops.epoll.registrations.endpoint ordered
+
+-- the count of a batch, or the refusal
+abbrev pub count_of : Result Batch Error → Result ℕ Error
+count_of (Ok batch) = Ok batch.count
+count_of (Err error) = Err error
+
+-- an event was on the endpoint's descriptor exactly if one of the report was
+abbrev pub Notices : ℕ → Result (List Event) Errno → Result Batch Error → Type 0
+Notices endpoint (Ok report) (Ok batch) = batch.endpoint_ready ≡ is_reported endpoint report
+Notices endpoint (Err errno) (Ok batch) = batch.endpoint_ready ≡ false
+Notices endpoint waited (Err error) = Unit {0}
+
+-- one wait with the capacity, and the dispatch of what that wait reported
+pub record IsBatch {S P : Type 0} (serves : S → Event → Exchanges → S → Type 0) (controls : Controls P) (waits : Waits P) (before : LoopState S P) (ms : ℤ) (result : Result Batch Error) (after : LoopState S P) : Type 0 where
+  pub waited : Result (List Event) Errno
+  pub positions : List (Position S)
+  pub answer : count_of result ≡ answer_of waited
+  pub noticed : Notices before.registry.registrations.endpoint waited result
+  pub dispatched : IsDispatchedAfter serves waited positions before.registry after.registry
+  pub led : Leads controls waits before.poller (Wait ms before.capacity waited ∷ calls_of_positions positions) after.poller
+  pub same_capacity : after.capacity ≡ before.capacity
+
+module _ {S P : Type 0} (controls : Controls P) (poller : P) (endpoint : Event) (capacity : ℕ) where
+  -- a new registry, whose poller agreed to add the endpoint's descriptor; or no memory; or what the poller answered
+  abbrev pub IsNew : Result (Registry S P) Error → Type 0
+  IsNew (Ok registry) = (after : P) × controls poller operation.Add endpoint.fd endpoint (Ok tt) after × (loop_state registry ≡ new_loop endpoint.fd after capacity)
+  IsNew (Err error) = (error ≡ OutOfMemory) ⊎ ((errno : Errno) × (after : P) × (error ≡ Epoll errno) × controls poller operation.Add endpoint.fd endpoint (Err errno) after)

@@ -1,0 +1,27 @@
+//! An event loop that waits and dispatches, without jobs: what `event_manager` stands on, and hands out again.
+//!
+//! Subscribers register descriptors with a poller through an [`EventOps`]; each run of a [`Registry`] waits once and hands
+//! each event of the report to the subscriber that owns its descriptor at that moment.
+#![tactic(auto)]
+
+pub mod boxed_subscriber;
+pub mod epoll;
+pub mod error;
+pub mod events;
+pub mod poller;
+pub mod subscriber_ops;
+pub mod subscribers;
+pub mod utilities;
+pub mod wrappers;
+
+pub use boxed_subscriber::{BoxedSubscriber, StepInput, StepSubscriber};
+pub use dispatch_tables::cancelled::cancelled_at;
+pub use dispatch_tables::priority;
+pub use dispatch_tables::priority::Priority;
+pub use error::{Error, Result};
+pub use events::{EventOps, Events, Request};
+pub use poller::{BoxedPoller, EventPoller, PlainPoller};
+pub use subscriber_ops::SubscriberOps;
+pub use subscribers::{Batch, EventSubscriber, MutEventSubscriber, Registry, SubscriberId};
+pub use vmm_sys::epoll::EventSet;
+pub use wrappers::{Either, Locked};

@@ -1,0 +1,88 @@
+//! Pollers, as the manager calls them.
+
+ghost use Rattle.std.specs.Prelude.{◌≡◌, ◌≤◌, ◌<◌, ◌^◌, length, pos, IfOk};
+ghost use Rattle.event_loop.specs.ReadyList.{report_of};
+ghost use Rattle.event_loop.specs.PollerRelations as boxed;
+ghost use Rattle.event_loop.specs.PollerRelations.{packed, WaitsBy};
+
+use crate::Events;
+use vmm_sys::epoll::{ControlOperation, EpollEvent};
+use vmm_sys::errno::Errno;
+use vmm_sys::poller::Poller;
+
+/// A poller, as a manager calls it.
+///
+/// Each type states two relations: which answer and which value after a call may give from the value before. All
+/// contracts of the manager speak of its poller by these relations alone, so they hold for every poller. A `vmm_sys`
+/// poller is one in a [`BoxedPoller`], or, where its type is known, in a [`PlainPoller`].
+pub trait EventPoller {
+    ghost use Rattle.std.specs.Prelude.{ℕ, ℤ, List, Result};
+    ghost use Rattle.vmm_sys.specs.declared.errno.Errno.{Errno};
+    ghost use Rattle.vmm_sys.specs.declared.epoll.ControlOperation.{ControlOperation};
+    ghost use Rattle.dispatch_tables.specs.Event.{Event};
+
+    /// From a value, with an operation, a descriptor and an event: which answer `control` may give, and which value it
+    /// may leave.
+    ghost controls: { Self → ControlOperation → ℕ → Event → Result (Unit {0}) Errno → Self → Type 0 };
+
+    /// From a value, with the milliseconds and the capacity of the buffer: which report or refusal `wait_into` may
+    /// give, and which value it may leave.
+    ghost waits: { Self → ℤ → ℕ → Result (List Event) Errno → Self → Type 0 };
+
+    /// Changes the interest in the descriptor `fd`.
+    ///
+    /// The event has the same descriptor, but for a `Delete` that comes from a subscriber's leaving: its event has
+    /// descriptor 0, data 0 and the empty set.
+    fn control(&mut self, op: ControlOperation, fd: u32, event: Events) -> Result<(), Errno>
+        requires { fd < 2 ^ 31 }
+        ensures { controls self.old op fd event result self.new };
+
+    /// Waits for a report, and writes its entries into the front of the buffer; answers how many.
+    ///
+    /// `ms` is the limit in milliseconds: none where it is negative, no wait where it is 0.
+    fn wait_into(&mut self, ms: i32, buffer: &mut [EpollEvent]) -> Result<usize, Errno>
+        ensures count_fits { IfOk result (λ n. n ≤ length buffer.old) }
+        ensures answer { waits self.old ms (length buffer.old) (report_of result buffer.new) self.new };
+}
+
+/// Any `vmm_sys` poller, in a box. The caller makes the box.
+#[derive(Drop)]
+pub struct BoxedPoller(pub Box<dyn Poller + Send>);
+
+impl EventPoller for BoxedPoller {
+    ghost controls = { λ v op fd event r w. (w.0.vtable ≡ v.0.vtable) × boxed.controls (Poller-box v.0) ((Poller-box v.0).meaning v.0.value) op fd event r ((Poller-box w.0).meaning w.0.value) };
+
+    ghost waits = { λ v ms capacity r w. (w.0.vtable ≡ v.0.vtable) × boxed.waits (Poller-box v.0) ((Poller-box v.0).meaning v.0.value) ms capacity r ((Poller-box w.0).meaning w.0.value) };
+
+    fn control(&mut self, op: ControlOperation, fd: u32, event: Events) -> Result<(), Errno> {
+        self.0.ctl(op, fd as i32, event.epoll_event())
+    }
+
+    fn wait_into(&mut self, ms: i32, buffer: &mut [EpollEvent]) -> Result<usize, Errno> {
+        match self.0.wait(ms, buffer) {
+            Ok(count) => Ok(count),
+            Err(errno) => Err(errno),
+        }
+    }
+}
+
+/// A `vmm_sys` poller of one known type, without a box.
+#[derive(Drop)]
+pub struct PlainPoller<T>(pub T);
+
+impl<T: Poller> EventPoller for PlainPoller<T> {
+    ghost controls = { λ v op fd event r w. T.may_ctl (T.meaning v.0) op (pos fd) (packed event) r (T.meaning w.0) };
+
+    ghost waits = { λ v ms capacity r w. WaitsBy T.may_wait (T.meaning v.0) ms capacity r (T.meaning w.0) };
+
+    fn control(&mut self, op: ControlOperation, fd: u32, event: Events) -> Result<(), Errno> {
+        self.0.ctl(op, fd as i32, event.epoll_event())
+    }
+
+    fn wait_into(&mut self, ms: i32, buffer: &mut [EpollEvent]) -> Result<usize, Errno> {
+        match self.0.wait(ms, buffer) {
+            Ok(count) => Ok(count),
+            Err(errno) => Err(errno),
+        }
+    }
+}

@@ -1,0 +1,256 @@
+//! Subscribers, and the registry that holds them by id.
+
+ghost use Rattle.std.specs.Prelude.{◌≡◌, ℕ, ◌≤◌, ◌<◌, ◌^◌, List, [], ◌∷◌, map, IfOk, MatchOption};
+ghost use Rattle.std.specs.Ordering.{nat_cmp};
+ghost use Rattle.dispatch_tables.specs.Event.{Event};
+ghost use Rattle.event_loop.specs.PollerCall.{PollerCall};
+ghost use Rattle.event_loop.specs.Exchange.{Exchanges};
+ghost use Rattle.event_loop.specs.Registry.{Step, HasId, LacksId};
+ghost use Rattle.event_loop.specs.RegistrationState.{all_pending};
+ghost use Rattle.event_loop.specs.Requests.{AreMadeThrough};
+ghost use Rattle.event_loop.specs.LoopState.{HasStepped, IsJoin, IsLeave};
+ghost use Rattle.event_loop.specs.Subscribers.{TakesPosition, IsDispatched, IsBatch, IsNew, loop_state};
+
+use crate::epoll::{EpollWrapper, Registrations};
+use crate::events::{EventOps, Events};
+use crate::poller::{BoxedPoller, EventPoller};
+use crate::{Error, Result};
+use dispatch_tables::places::SubscriberPlaces;
+use std::alloc::Global;
+use std::marker::Model;
+use vmm_sys::epoll::ControlOperation;
+use vmm_sys::errno::Errno;
+
+/// The number under which a registry holds a subscriber: 1 for the first, then one more each time, never again.
+#[derive(Clone, Copy, PartialEq, Eq, Hash, Debug)]
+pub struct SubscriberId {
+    number: u64,
+}
+
+impl Model for SubscriberId {
+    ghost use Rattle.std.specs.Prelude.{ℕ};
+
+    ghost Value = { ℕ };
+
+    ghost view = { λ s. s.number };
+
+    ghost inverse = { λ n. record { number = n } };
+}
+
+impl SubscriberId {
+    /// The number.
+    pub fn number(&self) -> u64
+        ensures { result ≡ self.now }
+    {
+        self.number
+    }
+}
+
+/// A subscriber that changes only what it holds in cells, locks or atomics.
+///
+/// A type states what its calls may ask for: `begins_shared` and `serves_shared` relate its value, the event, and the
+/// list of requests with their answers.
+pub trait EventSubscriber {
+    ghost use Rattle.dispatch_tables.specs.Event.{Event};
+    ghost use Rattle.event_loop.specs.Exchange.{Exchanges};
+
+    /// What `init` may ask for.
+    ghost begins_shared: { Self → Exchanges → Type 0 };
+
+    /// What `process` may ask for on an event.
+    ghost serves_shared: { Self → Event → Exchanges → Type 0 };
+
+    /// Called with each event that is dispatched to the subscriber.
+    fn process<P: EventPoller>(&self, events: Events, ops: &mut EventOps<P>)
+        ensures { (exchanges : Exchanges) × (calls : List PollerCall) × serves_shared self.now events exchanges
+            × AreMadeThrough P.controls P.waits ops.old ops.new exchanges calls };
+
+    /// Called once, when the subscriber is added.
+    fn init<P: EventPoller>(&self, ops: &mut EventOps<P>)
+        ensures { (exchanges : Exchanges) × (calls : List PollerCall) × begins_shared self.now exchanges
+            × AreMadeThrough P.controls P.waits ops.old ops.new exchanges calls };
+}
+
+/// A subscriber.
+///
+/// A type states what its calls may ask for and do: `begins` and `serves` relate its value before, the event, the list
+/// of requests with their answers, and its value after. It changes the registrations through `ops` alone.
+pub trait MutEventSubscriber {
+    ghost use Rattle.dispatch_tables.specs.Event.{Event};
+    ghost use Rattle.event_loop.specs.Exchange.{Exchanges};
+
+    /// What `init` may ask for, from the value before to the value after.
+    ghost begins: { Self → Exchanges → Self → Type 0 };
+
+    /// What `process` may ask for on an event, from the value before to the value after.
+    ghost serves: { Self → Event → Exchanges → Self → Type 0 };
+
+    /// Called with each event that is dispatched to the subscriber.
+    fn process<P: EventPoller>(&mut self, events: Events, ops: &mut EventOps<P>)
+        ensures { (exchanges : Exchanges) × (calls : List PollerCall) × serves self.old events exchanges self.new
+            × AreMadeThrough P.controls P.waits ops.old ops.new exchanges calls };
+
+    /// Called once, when the subscriber is added.
+    fn init<P: EventPoller>(&mut self, ops: &mut EventOps<P>)
+        ensures { (exchanges : Exchanges) × (calls : List PollerCall) × begins self.old exchanges self.new
+            × AreMadeThrough P.controls P.waits ops.old ops.new exchanges calls };
+}
+
+/// How many events a wait reported, and whether one of them was on the endpoint's descriptor.
+#[derive(Clone, Copy)]
+pub struct Batch {
+    /// How many events were reported.
+    pub count: usize,
+    /// Whether one of them was on the endpoint's descriptor.
+    pub endpoint_ready: bool,
+}
+
+/// The subscribers by id, and their registrations.
+#[derive(Drop)]
+pub struct Registry<S, P = BoxedPoller> {
+    pub(crate) subscribers: SubscriberPlaces<S>,
+    pub(crate) next: u64,
+    pub(crate) ops: EventOps<P>,
+}
+
+impl<S: MutEventSubscriber, P: EventPoller> Registry<S, P> {
+    /// No subscriber, with room for a batch of `capacity` events. The poller is asked to add the descriptor of `endpoint`,
+    /// which no subscriber can own: its events are only told of.
+    ///
+    /// Refused, in this order, and the poller doesn't come back: `OutOfMemory`; `Epoll` with the number that the poller
+    /// answers.
+    pub fn new(alloc: Global, poller: P, endpoint: Events, capacity: usize) -> Result<Self>
+    where
+        P: Drop,
+        ensures { IsNew P.controls poller endpoint capacity result }
+    {
+        let registrations = Registrations::new(alloc, endpoint.number(), capacity)?;
+        let mut epoll = EpollWrapper {
+            registrations,
+            poller,
+        };
+        match epoll.ctl(ControlOperation::Add, endpoint) {
+            Ok(()) => Ok(Registry {
+                subscribers: SubscriberPlaces::new(alloc),
+                next: 1,
+                ops: EventOps {
+                    epoll,
+                    id: 0,
+                    place: 0,
+                },
+            }),
+            Err(errno) => Err(Error::Epoll(errno)),
+        }
+    }
+
+    /// Takes one position of the batch: hands its event to the owner of its descriptor, where there is one and the
+    /// event isn't cancelled. Answers whether the event was on the endpoint's descriptor; `None` where no position is
+    /// left.
+    fn dispatch_next(&mut self) -> Option<bool>
+        ensures { MatchOption result
+            ((self.new ≡ self.old) × (self.old.ops.epoll.registrations.ready ≡ []))
+            (λ is_endpoint. TakesPosition S.serves P.controls P.waits self.old is_endpoint self.new) }
+    {
+        let Some(ready_entry) = self.ops.epoll.registrations.next_ready() else {
+            return None;
+        };
+        if ready_entry.cancelled {
+            return Some(ready_entry.is_endpoint);
+        }
+        let Some(owner) = self.ops.epoll.registrations.owner(&ready_entry.entry) else {
+            return Some(ready_entry.is_endpoint);
+        };
+        let Some(subscriber) = self.subscribers.get_mut_at(owner.place, owner.id) else {
+            return Some(ready_entry.is_endpoint);
+        };
+        self.ops.id = owner.id;
+        self.ops.place = owner.place;
+        subscriber.process(Events::of_entry(&ready_entry.entry), &mut self.ops);
+        Some(ready_entry.is_endpoint)
+    }
+
+    /// Dispatches the batch. Answers whether an event of it was on the endpoint's descriptor.
+    fn dispatch(&mut self) -> bool
+        requires { self.old.ops.epoll.registrations.ready ≡ all_pending (map (λ p. p.0) self.old.ops.epoll.registrations.ready) }
+        ensures { IsDispatched S.serves P.controls P.waits self.old self.new (map (λ p. p.0) self.old.ops.epoll.registrations.ready) result }
+    {
+        let mut endpoint_ready = false;
+        while let Some(is_endpoint) = self.dispatch_next() {
+            endpoint_ready = endpoint_ready | is_endpoint;
+        }
+        endpoint_ready
+    }
+
+    /// Waits once, for at most `ms` milliseconds (negative: without a limit), and dispatches what is reported, by priority
+    /// and then in the order of the report.
+    ///
+    /// An interrupted wait (`EINTR`) has no event; one that is refused with another number is `Epoll` with it. Then nobody
+    /// is called and nothing changes but the poller. Takes no memory.
+    pub fn run_with_timeout(&mut self, ms: i32) -> Result<Batch>
+        ensures { IsBatch S.serves P.controls P.waits (loop_state self.old) ms result (loop_state self.new) }
+    {
+        match self
+            .ops
+            .epoll
+            .registrations
+            .wait(&mut self.ops.epoll.poller, ms)
+        {
+            Ok(count) => {
+                let endpoint_ready = self.dispatch();
+                Ok(Batch {
+                    count,
+                    endpoint_ready,
+                })
+            }
+            Err(e) => {
+                if e == Errno::EINTR {
+                    return Ok(Batch {
+                        count: 0,
+                        endpoint_ready: false,
+                    });
+                }
+                Err(Error::Epoll(e))
+            }
+        }
+    }
+
+    /// Takes a subscriber in under the next id.
+    pub(crate) fn join(&mut self, subscriber: S) -> Result<SubscriberId>
+    where
+        S: Drop,
+        ensures { (step : Step S) × IsJoin subscriber result step
+            × HasStepped S.begins P.controls P.waits (loop_state self.old) step (loop_state self.new) }
+    {
+        if self.next == u64::MAX {
+            return Err(Error::IdsUsedUp);
+        }
+        let id = self.next;
+        let place = match self.subscribers.insert(id, subscriber) {
+            Ok(place) => place,
+            Err(_) => return Err(Error::OutOfMemory),
+        };
+        // Never none: the id was inserted just now.
+        let Some(held) = self.subscribers.get_mut_at(place, id) else {
+            return Err(Error::OutOfMemory);
+        };
+        self.ops.id = id;
+        self.ops.place = place;
+        held.init(&mut self.ops);
+        self.next += 1;
+        Ok(SubscriberId { number: id })
+    }
+
+    /// Lets the subscriber of the id go, with all its descriptors. Takes no memory.
+    pub(crate) fn leave(&mut self, id: u64) -> Result<S>
+        ensures { (step : Step S) × IsLeave id result step
+            × HasStepped S.begins P.controls P.waits (loop_state self.old) step (loop_state self.new) }
+    {
+        match self.subscribers.remove(id) {
+            Some(subscriber) => {
+                self.ops.epoll.release(id);
+                Ok(subscriber)
+            }
+            None => Err(Error::InvalidId),
+        }
+    }
+}

@@ -1,0 +1,63 @@
+//! What the counting subscribers keep beside their counts.
+
+ghost use Rattle.std.specs.Prelude.{◌≡◌};
+ghost use Rattle.event_loop.specs.CounterEvents.{nothing_observed, with_error, with_spurious, with_hang_up, with_fault};
+
+use crate::{Error, Result};
+
+/// What was observed beside the events that count.
+#[derive(Clone, Copy)]
+pub(super) struct Observations {
+    /// How many events had the set `ERROR`, up to `u64::MAX`.
+    pub(super) errors: u64,
+    /// How many events were expected by none of the rows, up to `u64::MAX`.
+    pub(super) spurious: u64,
+    /// Whether an event had the set `HANG_UP`.
+    pub(super) hung_up: bool,
+    /// The first refusal that a request met.
+    pub(super) fault: Option<Error>,
+}
+
+impl Observations {
+    pub(super) fn new() -> Self
+        ensures { result ≡ nothing_observed }
+    {
+        Observations {
+            errors: 0,
+            spurious: 0,
+            hung_up: false,
+            fault: None,
+        }
+    }
+
+    pub(super) fn count_error(&mut self)
+        ensures { self.new ≡ with_error self.old }
+    {
+        self.errors = self.errors.saturating_add(1);
+    }
+
+    pub(super) fn count_spurious(&mut self)
+        ensures { self.new ≡ with_spurious self.old }
+    {
+        self.spurious = self.spurious.saturating_add(1);
+    }
+
+    /// Keeps the hang-up, and the answer to the removal.
+    pub(super) fn hang_up(&mut self, answer: Result<()>)
+        ensures { self.new ≡ with_hang_up answer self.old }
+    {
+        self.hung_up = true;
+        self.keep_fault(answer);
+    }
+
+    /// Keeps a refusal, where there was none before.
+    pub(super) fn keep_fault(&mut self, answer: Result<()>)
+        ensures { self.new ≡ with_fault answer self.old }
+    {
+        if let Err(error) = answer {
+            if self.fault.is_none() {
+                self.fault = Some(error);
+            }
+        }
+    }
+}
