@@ -14,8 +14,8 @@ use Rattle.event_manager.specs.Exchange.{Exchanges, Answer}
 use Rattle.event_manager.specs.LoopState.{LoopState}
 use Rattle.event_manager.specs.PollerCall.{Controls, Waits}
 use Rattle.event_manager.specs.Registry.{Step}
-use Rattle.evloop.specs.declared.fault.Fault.{Fault}
-use Rattle.evloop.specs.declared.fault.Fault.TheVariants.{OutOfMemory}
+use Rattle.evloop_script.specs.declared.fault.Fault.{Fault}
+use Rattle.evloop_script.specs.declared.fault.Fault.TheVariants.{OutOfMemory}
 
 -- a reply of the kind that such a call has
 abbrev pub IsReplyTo : {S : Type 0} → Call S → Reply S → Type 0

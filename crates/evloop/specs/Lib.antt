@@ -1,9 +1,3 @@
-pub mod Asked
 pub mod Calls
-pub mod Coming
-pub mod FaultOf
-pub mod Item
 pub mod Joins
-pub mod Name
-pub mod Number
 pub mod ScriptedPoller

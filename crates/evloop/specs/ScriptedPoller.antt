@@ -2,9 +2,9 @@
 use Rattle.std.specs.Prelude.{List, [], ◌∷◌, Ok, Err}
 use Rattle.vmm_sys.specs.ScriptPoller.{Script, Answer, with_answer, with_refusal}
 use Rattle.vmm_sys.specs.declared.errno.TheConstants.Errno.{EINTR}
-use Rattle.evloop.specs.declared.script.Wait.{Wait}
-use Rattle.evloop.specs.declared.script.Wait.TheVariants.{Report, Interrupted}
-use Rattle.evloop.specs.declared.script.Refusal.{Refusal}
+use Rattle.evloop_script.specs.declared.script.Wait.{Wait}
+use Rattle.evloop_script.specs.declared.script.Wait.TheVariants.{Report, Interrupted}
+use Rattle.evloop_script.specs.declared.script.Refusal.{Refusal}
 
 -- a poller with nothing to say
 abbrev pub empty : Script

@@ -5,12 +5,12 @@ ghost use Rattle.event_manager.specs.Driven.{IsDriven};
 ghost use Rattle.event_manager.specs.Manager.{state_of};
 ghost use Rattle.evloop.specs.Calls.{IsReplyTo, Joins, Leaves, Asks, Runs};
 
-use crate::fault::Fault;
 use crate::output::{Out, OutputLine, Printer};
 use event_manager::drive::drive;
 use event_manager::{
     Call, Error, EventManager, EventPoller, Job, MutEventSubscriber, Reply, Request, SubscriberId,
 };
+use evloop_script::fault::Fault;
 use std::alloc::Global;
 use std::sync::Wait;
 use std::sync::ledger::Ledger;

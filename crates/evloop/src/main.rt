@@ -3,15 +3,9 @@
 #![tactic(auto)]
 
 pub mod calls;
-pub mod fault;
-pub mod input;
-pub mod names;
-pub mod number;
 pub mod output;
-pub mod reactions;
 pub mod requests;
 pub mod run;
-pub mod script;
 pub mod subscriber;
 
 use output::Out;

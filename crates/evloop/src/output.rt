@@ -1,8 +1,8 @@
 //! What the program writes.
 
-use crate::fault::Fault;
-use crate::names::SetNames;
 use event_manager::{Error, Events, Request, SubscriberId};
+use evloop_script::fault::Fault;
+use evloop_script::names::SetNames;
 use std::alloc::{AllocError, Global};
 use std::fmt;
 use std::fmt::Display;

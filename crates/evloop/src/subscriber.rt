@@ -2,12 +2,12 @@
 
 ghost use Rattle.std.specs.Prelude.{◌≡◌};
 ghost use Rattle.event_manager.specs.Exchange.{requests_of};
-ghost use Rattle.evloop.specs.Coming.{Reacts};
+ghost use Rattle.evloop_script.specs.Coming.{Reacts};
 
 use crate::output::{Out, OutputLine, Printer};
-use crate::reactions::Reactions;
 use crate::requests::make_requests;
 use event_manager::{EventOps, EventPoller, Events, MutEventSubscriber, Request};
+use evloop_script::reactions::Reactions;
 
 /// A subscriber of a script. It asks for what its lines say, and prints what happens to it. A line that
 /// can't be written is dropped.

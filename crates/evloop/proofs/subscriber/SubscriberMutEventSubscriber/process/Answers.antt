@@ -1,7 +1,7 @@
 use Rattle.std.proofs.Common.{[], ◌≡◌, List, refl, subst, sym}
 use Rattle.event_manager.proofs.ExchangeLemmas.{none_made}
 use Rattle.event_manager.specs.Request.{Request}
-use Rattle.evloop.specs.Coming.{AreFirst}
+use Rattle.evloop_script.specs.Coming.{AreFirst}
 use Rattle.evloop.proofs.subscriber.SubscriberMutEventSubscriber.process.Goals as goal
 
 -- where no list is left, nothing is the first one

@@ -1,7 +1,7 @@
 //! The grammar as a whole: which scripts are taken, what they say, and which line is named where one is not.
 
 use super::*;
-use event_manager::Events;
+use event_loop::Events;
 use std::fmt::Write;
 use std::process::Abort;
 use std::test::Fail;

@@ -1,12 +1,12 @@
 //! Numbers of a script: decimal digits, with any count of leading zeros.
 
 ghost use Rattle.std.specs.Prelude.{◌≡◌, ◌≤◌, ◌<◌, ◌^◌, pos, MatchOption};
-ghost use Rattle.event_manager.specs.Priority.{number_of};
+ghost use Rattle.event_loop.specs.Priority.{number_of};
 ghost use Rattle.std.specs.Option.{SomeIff};
 ghost use Rattle.std.specs.Str.Parse.{IsNumeral, digits_value, starts_with_minus, signed_digits_value};
-ghost use Rattle.evloop.specs.Number.{without_leading_minus, IsReported};
+ghost use Rattle.evloop_script.specs.Number.{without_leading_minus, IsReported};
 
-use event_manager::Priority;
+use event_loop::Priority;
 use vmm_sys::epoll::RawFd;
 use vmm_sys::errno::Errno;
 

@@ -1,10 +1,10 @@
 //! The grammar of one line.
 
 ghost use Rattle.std.specs.Prelude.{◌≡◌, ◌≤◌, ◌<◌, ◌↔◌, ◌/◌, ◌^◌, IsTrue, IfSome, IfOk, All, length, codes, Some};
-ghost use Rattle.evloop.specs.Asked.{IsAddition};
-ghost use Rattle.evloop.specs.Item.{before_colon, after_colon, IsOfItem};
-ghost use Rattle.evloop.specs.Name.{IsName, IsNameByte};
-ghost use Rattle.evloop.specs.declared.script.line.LineError.TheVariants as line_error;
+ghost use Rattle.evloop_script.specs.Asked.{IsAddition};
+ghost use Rattle.evloop_script.specs.Item.{before_colon, after_colon, IsOfItem};
+ghost use Rattle.evloop_script.specs.Name.{IsName, IsNameByte};
+ghost use Rattle.evloop_script.specs.declared.script.line.LineError.TheVariants as line_error;
 ghost use Rattle.std.specs.List.{AllZip};
 ghost use Rattle.std.specs.Str.Parse.{digits_value};
 ghost use Rattle.vmm_sys.specs.EpollEvent.{low_half_signed};
@@ -12,7 +12,7 @@ ghost use Rattle.vmm_sys.specs.EpollEvent.{low_half_signed};
 use crate::names::event_set;
 use crate::number::{descriptor, errno, payload, priority, signed_descriptor};
 use crate::script::Refusal;
-use event_manager::{Events, Request};
+use event_loop::{Events, Request};
 use std::alloc::{AllocError, AllocFailed, Global};
 use vmm_sys::epoll::{ControlOperation, EpollEvent, RawFd};
 

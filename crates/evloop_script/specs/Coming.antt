@@ -6,8 +6,8 @@ use Rattle.std.specs.declared.hash.FoldHasher.{FoldHasher}
 use Rattle.std.specs.declared.hash.BuildHasherDefault.{BuildHasherDefault}
 use Rattle.std.specs.declared.collections.VecDeque.{VecDeque}
 use Rattle.std.specs.HashMap.{get, HashMap}
-use Rattle.event_manager.specs.Exchange.{Exchanges, requests_of}
-use Rattle.event_manager.specs.Request.{Request}
+use Rattle.event_loop.specs.Exchange.{Exchanges, requests_of}
+use Rattle.event_loop.specs.declared.events.Request.{Request}
 
 -- a queue for each descriptor
 abbrev pub Queues : Type 0

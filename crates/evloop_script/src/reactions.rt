@@ -1,9 +1,9 @@
 //! What a subscriber asks for on its events.
 
 ghost use Rattle.std.specs.Prelude.{◌≡◌, ℤ, [], ◌∷◌, ◌++◌, OnErr, OnOk, pos};
-ghost use Rattle.evloop.specs.Coming.{coming, KeepsOthers, TakesNext};
+ghost use Rattle.evloop_script.specs.Coming.{coming, KeepsOthers, TakesNext};
 
-use event_manager::{Events, Request};
+use event_loop::{Events, Request};
 use std::alloc::{AllocError, Global};
 use std::collections::{HashMap, VecDeque};
 use vmm_sys::epoll::RawFd;

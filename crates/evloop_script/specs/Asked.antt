@@ -1,6 +1,6 @@
 -- What is asked for.
-use Rattle.event_manager.specs.Request.{Request}
-use Rattle.event_manager.specs.Request.TheVariants.{Add, AddWithPriority, Modify, Remove}
+use Rattle.event_loop.specs.declared.events.Request.{Request}
+use Rattle.event_loop.specs.declared.events.Request.TheVariants.{Add, AddWithPriority, Modify, Remove}
 
 -- a request to add
 abbrev pub IsAddition : Request → Type 0

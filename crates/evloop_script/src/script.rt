@@ -6,7 +6,7 @@ mod tests;
 
 use crate::fault::Fault;
 use crate::reactions::Reactions;
-use event_manager::Request;
+use event_loop::Request;
 use line::{Line, LineError};
 use std::alloc::Global;
 use std::collections::HashMap;

@@ -1,8 +1,8 @@
 //! Why the program ends with a failure.
 
 ghost use Rattle.std.specs.Prelude.{◌≡◌};
-ghost use Rattle.evloop.specs.FaultOf.{fault_of};
-ghost use Rattle.evloop.specs.declared.fault.Fault.TheVariants as fault;
+ghost use Rattle.evloop_script.specs.FaultOf.{fault_of};
+ghost use Rattle.evloop_script.specs.declared.fault.Fault.TheVariants as fault;
 
 use std::alloc::{AllocError, AllocFailed};
 use thiserror::Error;
@@ -29,15 +29,15 @@ pub enum Fault {
 
     /// The manager could not be made, for another reason than memory.
     #[error(transparent)]
-    Manager(event_manager::Error),
+    Manager(event_loop::Error),
 }
 
-impl From<event_manager::Error> for Fault {
+impl From<event_loop::Error> for Fault {
     ghost from_gives = { λ error result. result ≡ fault_of error };
 
-    fn from(error: event_manager::Error) -> Fault {
+    fn from(error: event_loop::Error) -> Fault {
         match error {
-            event_manager::Error::OutOfMemory => Fault::OutOfMemory,
+            event_loop::Error::OutOfMemory => Fault::OutOfMemory,
             _ => Fault::Manager(error),
         }
     }
@@ -62,7 +62,7 @@ impl From<AllocError> for Fault {
 #[cfg(test)]
 mod tests {
     use super::*;
-    use event_manager::Error;
+    use event_loop::Error;
     use std::test::Fail;
     use vmm_sys::errno::Errno;
 

@@ -1,8 +1,8 @@
 use Rattle.std.proofs.Common.{◌+◌, take, subst, sym}
 use Rattle.std.specs.List.{AllZip}
-use Rattle.evloop.specs.Item.{IsOfItem}
-use Rattle.evloop.proofs.Pairs.{all_zip_next}
-use Rattle.evloop.proofs.script.line.events.Goals as goal
+use Rattle.evloop_script.specs.Item.{IsOfItem}
+use Rattle.evloop_script.proofs.Pairs.{all_zip_next}
+use Rattle.evloop_script.proofs.script.line.events.Goals as goal
 
 pub loop-item-preserved : goal.loop-item-preserved
 loop-item-preserved c =

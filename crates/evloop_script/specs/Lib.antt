@@ -1,0 +1,6 @@
+pub mod Asked
+pub mod Coming
+pub mod FaultOf
+pub mod Item
+pub mod Name
+pub mod Number
