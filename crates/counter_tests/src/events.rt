@@ -3,28 +3,40 @@
 use crate::expecting::expect_same;
 use crate::making::{counter_of, on_table};
 use event_manager::Events;
+use std::process::Abort;
 use std::test::Fail;
 use vmm_sys::epoll::{AsRawFd, EventSet};
+use vmm_sys::eventfd::EventFd;
+
+/// Expects that these are the events of the counter's descriptor of this set and data 0, as made of the plain number.
+fn expect_events<R: Abort>(
+    rt: &R,
+    event_fd: &EventFd,
+    events: Events,
+    from_number: Events,
+    set: EventSet,
+) {
+    assert!(rt; events == from_number);
+    expect_same(rt, &events.event_set(), &set);
+    expect_same(rt, &events.data(), &0);
+    expect_same(rt, &events.fd(), &event_fd.as_raw_fd());
+}
 
 #[test]
 fn test_empty_events(rt: HostRuntime) -> Result<(), Fail> {
     let event_fd = counter_of(&rt, &on_table(rt, rt.alloc())?)?;
+    let from_number = Events::empty_raw(event_fd.as_raw_fd());
     let events = Events::empty(&event_fd);
-    assert!(rt; events == Events::empty_raw(event_fd.as_raw_fd()));
-    expect_same(&rt, &events.event_set(), &EventSet::empty());
-    expect_same(&rt, &events.data(), &0);
-    expect_same(&rt, &events.fd(), &event_fd.as_raw_fd());
+    expect_events(&rt, &event_fd, events, from_number, EventSet::empty());
     Ok(())
 }
 
 #[test]
 fn test_events_no_data(rt: HostRuntime) -> Result<(), Fail> {
     let event_fd = counter_of(&rt, &on_table(rt, rt.alloc())?)?;
+    let from_number = Events::new_raw(event_fd.as_raw_fd(), EventSet::IN);
     let events = Events::new(&event_fd, EventSet::IN);
-    assert!(rt; events == Events::new_raw(event_fd.as_raw_fd(), EventSet::IN));
-    expect_same(&rt, &events.event_set(), &EventSet::IN);
-    expect_same(&rt, &events.data(), &0);
-    expect_same(&rt, &events.fd(), &event_fd.as_raw_fd());
+    expect_events(&rt, &event_fd, events, from_number, EventSet::IN);
     Ok(())
 }
 

@@ -1,14 +1,15 @@
 //! What the bodies of tests do again and again, each time with a word on what must come of it.
 
 use crate::reacting::Reacting;
+use event_manager::utilities::subscribers::CounterSubscriberWithData;
 use event_manager::{
-    EventManager, EventPoller, Events, MutEventSubscriber, NoJob, Result, SubscriberId,
-    SubscriberOps,
+    EventManager, EventPoller, Events, MutEventSubscriber, NoJob, SubscriberId, SubscriberOps,
 };
 use std::fmt::Debug;
 use std::process::Abort;
 use std::sync::Wait;
 use std::sync::ledger::Ledger;
+use std::test::Fail;
 use std::time::Clock;
 
 /// Expects that the two are equal.
@@ -55,8 +56,17 @@ pub fn expect_saw<L: Ledger, T: Ledger, P: EventPoller, R: Abort>(
     manager: &mut EventManager<Reacting, NoJob, L, T, P>,
     id: SubscriberId,
     expected: &[Events],
-) -> Result<()> {
+) -> Result<(), Fail> {
     let subscriber = manager.subscriber_mut(id)?;
     assert!(rt; subscriber.saw(expected));
     Ok(())
+}
+
+/// Expects these values of the three counters.
+pub fn expect_values<R: Abort>(rt: &R, subscriber: &CounterSubscriberWithData, expected: [u64; 3]) {
+    let is_expected = match subscriber.get_all_counter_values() {
+        Ok(values) => values.as_slice() == expected.as_slice(),
+        Err(_) => false,
+    };
+    assert!(rt; is_expected);
 }

@@ -2,8 +2,6 @@
 #![tactic(auto)]
 
 #[cfg(test)]
-mod counters;
-#[cfg(test)]
 mod events;
 #[cfg(test)]
 mod expecting;
@@ -12,20 +10,14 @@ mod lines;
 #[cfg(test)]
 mod making;
 #[cfg(test)]
-mod memory;
-#[cfg(test)]
 mod reacting;
 #[cfg(test)]
 mod registrations;
-#[cfg(test)]
-mod scripted;
 #[cfg(test)]
 mod shared_counters;
 #[cfg(test)]
 mod table;
 #[cfg(test)]
 mod threads;
-#[cfg(test)]
-mod three_counters;
 #[cfg(test)]
 mod triggers;

@@ -3,13 +3,14 @@
 ghost use Rattle.std.specs.Prelude.{◌≡◌};
 
 use event_manager::{
-    EventManager, EventPoller, MutEventSubscriber, NoJob, PlainPoller, Result, SubscriberId,
-    SubscriberOps, WithLedgers, with_ledgers,
+    EventManager, EventPoller, MutEventSubscriber, NoJob, PlainPoller, Result, WithLedgers,
+    with_ledgers,
 };
 use std::alloc::Global;
 use std::process::Abort;
 use std::sync::Wait;
 use std::sync::ledger::{Blank, Ledger};
+use std::test::Fail;
 use std::thread::Threads;
 use std::time::Clock;
 use vmm_sys::epoll::Epoll;
@@ -79,48 +80,32 @@ pub fn make<S: MutEventSubscriber + Drop, L: Ledger, T: Ledger, P: EventPoller +
     EventManager::new(alloc, poller, endpoint, tickets, taken)
 }
 
-/// Takes the subscribers in: their ids, in order.
-pub fn add_all<S: MutEventSubscriber + Drop, L: Ledger, T: Ledger, P: EventPoller>(
-    alloc: Global,
-    manager: &mut EventManager<S, NoJob, L, T, P>,
-    subscribers: Vec<S>,
-) -> Result<Vec<SubscriberId>> {
-    let mut ids = Vec::new(alloc);
-    for subscriber in subscribers {
-        ids.push(manager.add_subscriber(subscriber)?)?;
-    }
-    Ok(ids)
-}
-
 /// What a test does with a manager, whatever its ledgers and its poller.
-pub trait WithManager: Drop {
+pub trait WithManager {
     /// The type of the manager's subscribers.
     type Subscriber: MutEventSubscriber + Drop;
 
-    /// What the test then looks at.
-    type Output;
-
     /// Does it.
     fn run<L: Ledger, T: Ledger, P: EventPoller>(
-        self,
+        &self,
         manager: &mut EventManager<Self::Subscriber, NoJob, L, T, P>,
-    ) -> Result<Self::Output>;
+    ) -> std::result::Result<(), Fail>;
 }
 
 /// A body, and the parts of its manager.
-struct Made<B, P> {
+struct Made<'a, B, P> {
     parts: Parts<P>,
-    body: B,
+    body: &'a B,
 }
 
-impl<B: WithManager, P: EventPoller + Drop> WithLedgers for Made<B, P> {
-    type Output = Result<B::Output>;
+impl<B: WithManager, P: EventPoller + Drop> WithLedgers for Made<'_, B, P> {
+    type Output = std::result::Result<(), Fail>;
 
     fn run<L: Ledger + Send + Sync, T: Ledger + Send + Sync>(
         self,
         tickets: Blank,
         taken: Blank,
-    ) -> Result<B::Output> {
+    ) -> std::result::Result<(), Fail> {
         let Made { parts, body } = self;
         let mut manager = make::<B::Subscriber, L, T, P>(parts, tickets, taken)?;
         body.run(&mut manager)
@@ -130,8 +115,8 @@ impl<B: WithManager, P: EventPoller + Drop> WithLedgers for Made<B, P> {
 /// Runs the body over a manager of these parts, which is then dropped.
 pub fn with_manager<B: WithManager, P: EventPoller + Drop>(
     parts: Parts<P>,
-    body: B,
-) -> Result<B::Output> {
+    body: &B,
+) -> std::result::Result<(), Fail> {
     with_ledgers(Made { parts, body })
 }
 

@@ -2,8 +2,12 @@
 
 ghost use Rattle.std.specs.Prelude.{◌≡◌, [], ◌∷◌, MatchOption};
 
-use event_manager::{EventOps, EventPoller, Events, MutEventSubscriber, Request};
+use event_manager::{
+    EventManager, EventOps, EventPoller, Events, MutEventSubscriber, NoJob, Request, Result,
+    SubscriberId, SubscriberOps,
+};
 use std::alloc::Global;
+use std::sync::ledger::Ledger;
 
 /// Adds one descriptor in `init`, notes its events, and makes its request, if any, at the first of them.
 #[derive(Drop)]
@@ -48,4 +52,14 @@ impl MutEventSubscriber for Reacting {
     fn init<P: EventPoller>(&mut self, ops: &mut EventOps<P>) {
         let _ = ops.add(self.own);
     }
+}
+
+/// Takes in a subscriber of this descriptor, with this reaction: its id.
+pub fn add<L: Ledger, T: Ledger, P: EventPoller>(
+    alloc: Global,
+    manager: &mut EventManager<Reacting, NoJob, L, T, P>,
+    own: Events,
+    reaction: Option<Request>,
+) -> Result<SubscriberId> {
+    manager.add_subscriber(Reacting::new(alloc, own, reaction))
 }

@@ -2,11 +2,8 @@
 
 ghost use Rattle.std.specs.Prelude.{◌≡◌};
 
-use crate::expecting::{expect_run_within, expect_same};
-use crate::making::{
-    Host, OnTable, add_all, counter_of, make, no_memory, on_table, three_counters_of,
-};
-use crate::three_counters::expect_values;
+use crate::expecting::{expect_run_within, expect_same, expect_values};
+use crate::making::{Host, OnTable, counter_of, make, no_memory, on_table, three_counters_of};
 use event_manager::utilities::subscribers::{
     CounterInnerMutSubscriber, CounterSubscriber, CounterSubscriberWithData,
 };
@@ -35,6 +32,19 @@ fn run_hundred<S: MutEventSubscriber, L: Ledger, T: Ledger, R: Host>(
         expect_run_within(&rt, &mut manager, 1000, count);
     }
     manager
+}
+
+/// Takes the subscribers in: their ids, in order.
+fn add_all<S: MutEventSubscriber + Drop, L: Ledger, T: Ledger, R: Host>(
+    alloc: Global,
+    manager: &mut Loop<S, L, T, R>,
+    subscribers: Vec<S>,
+) -> event_manager::Result<Vec<SubscriberId>> {
+    let mut ids = Vec::new(alloc);
+    for subscriber in subscribers {
+        ids.push(manager.add_subscriber(subscriber)?)?;
+    }
+    Ok(ids)
 }
 
 /// Lets them leave: the subscribers.

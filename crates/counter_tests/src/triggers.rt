@@ -1,7 +1,9 @@
 //! What a trigger writes.
 
 use crate::expecting::expect_same;
+use crate::making::Host;
 use event_manager::utilities::subscribers::{CounterInnerMutSubscriber, CounterSubscriber};
+use std::alloc::Global;
 use std::test::Fail;
 use vmm_sys::epoll::Epoll;
 use vmm_sys::eventfd::EventFd;
@@ -13,14 +15,26 @@ const ROWS: [(u64, u64); 3] = [
     (18446744073709551614, 18446744073709551614),
 ];
 
+/// Expects that a trigger makes this value of that one.
+fn expect_after<R: Host>(rt: R, alloc: Global, before: u64, after: u64) -> Result<(), Fail> {
+    let event_fd = EventFd::new(&Epoll::new(rt, alloc)?, before, &rt)?;
+    CounterSubscriber::new(event_fd.try_clone()?).trigger_event(&rt);
+    expect_same(&rt, &event_fd.read(&rt), &Ok(after));
+    Ok(())
+}
+
+/// Expects that a trigger of a shared subscriber makes this value of that one.
+fn expect_shared_after<R: Host>(rt: R, alloc: Global, before: u64, after: u64) -> Result<(), Fail> {
+    let event_fd = EventFd::new(&Epoll::new(rt, alloc)?, before, &rt)?;
+    CounterInnerMutSubscriber::new(event_fd.try_clone()?).trigger_event(&rt);
+    expect_same(&rt, &event_fd.read(&rt), &Ok(after));
+    Ok(())
+}
+
 #[test]
 fn a_trigger_writes_1_where_there_is_room(rt: HostRuntime) -> Result<(), Fail> {
     for (before, after) in ROWS {
-        let epoll = Epoll::new(rt, rt.alloc())?;
-        let event_fd = EventFd::new(&epoll, before, &rt)?;
-        let mut subscriber = CounterSubscriber::new(event_fd.try_clone()?);
-        subscriber.trigger_event(&rt);
-        expect_same(&rt, &event_fd.read(&rt), &Ok(after));
+        expect_after(rt, rt.alloc(), before, after)?;
     }
     Ok(())
 }
@@ -28,11 +42,7 @@ fn a_trigger_writes_1_where_there_is_room(rt: HostRuntime) -> Result<(), Fail> {
 #[test]
 fn a_shared_trigger_writes_1_where_there_is_room(rt: HostRuntime) -> Result<(), Fail> {
     for (before, after) in ROWS {
-        let epoll = Epoll::new(rt, rt.alloc())?;
-        let event_fd = EventFd::new(&epoll, before, &rt)?;
-        let subscriber = CounterInnerMutSubscriber::new(event_fd.try_clone()?);
-        subscriber.trigger_event(&rt);
-        expect_same(&rt, &event_fd.read(&rt), &Ok(after));
+        expect_shared_after(rt, rt.alloc(), before, after)?;
     }
     Ok(())
 }
