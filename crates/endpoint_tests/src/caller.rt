@@ -1,9 +1,7 @@
 //! A caller on a thread of its own, looked at from outside with a bound.
 
-use crate::making::Idle;
 use crate::threads::{Host, LIMIT};
-use crate::work::Work;
-use event_manager::{RemoteEndpoint, Result};
+use event_manager::{Job, MutEventSubscriber, RemoteEndpoint, Result};
 use std::alloc::Global;
 use std::sync::Arc;
 use std::sync::atomic::{AtomicBool, Ordering};
@@ -15,36 +13,39 @@ use std::time::Duration;
 
 /// A thread that calls once.
 #[derive(Drop)]
-pub struct Caller {
+pub struct Caller<V> {
     over: Arc<AtomicBool, Global>,
-    thread: JoinHandle<Result<u64>>,
+    thread: JoinHandle<Result<V>>,
 }
 
-impl Caller {
-    /// Calls by this endpoint for the reply of this job.
-    pub fn start<L, T, R>(
-        rt: R,
-        alloc: Global,
-        endpoint: RemoteEndpoint<Idle, Work, L, T>,
-        job: Work,
-    ) -> std::result::Result<Caller, Fail>
-    where
-        L: Ledger + Send + Sync + 'static,
-        T: Ledger + Send + Sync + 'static,
-        R: Host + 'static,
-    {
-        let over = Arc::new(alloc, AtomicBool::new(false))?;
-        let theirs = Arc::try_clone(&over)?;
-        let thread = thread::spawn(&rt, move || {
-            let reply = endpoint.call_blocking(job, &rt);
-            theirs.store(true, Ordering::SeqCst);
-            reply
-        })?;
-        Ok(Caller { over, thread })
-    }
+/// Calls by this endpoint for the reply of this job.
+pub fn start<S, J, L, T, R>(
+    rt: R,
+    alloc: Global,
+    endpoint: RemoteEndpoint<S, J, L, T>,
+    job: J,
+) -> std::result::Result<Caller<J::Reply>, Fail>
+where
+    S: MutEventSubscriber + Send + 'static,
+    J: Job<S> + Send + 'static,
+    J::Reply: Send + Drop + 'static,
+    L: Ledger + Send + Sync + 'static,
+    T: Ledger + Send + Sync + 'static,
+    R: Host + 'static,
+{
+    let over = Arc::new(alloc, AtomicBool::new(false))?;
+    let theirs = Arc::try_clone(&over)?;
+    let thread = thread::spawn(&rt, move || {
+        let reply = endpoint.call_blocking(job, &rt);
+        theirs.store(true, Ordering::SeqCst);
+        reply
+    })?;
+    Ok(Caller { over, thread })
+}
 
+impl<V: Send + Drop + 'static> Caller<V> {
     /// The reply. Ends the test where it doesn't come.
-    pub fn reply<R: Host>(self, rt: &R) -> Result<u64> {
+    pub fn reply<R: Host>(self, rt: &R) -> Result<V> {
         for _turn in 0..LIMIT {
             if self.over.load(Ordering::SeqCst) {
                 return self.thread.join(rt);

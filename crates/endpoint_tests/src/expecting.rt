@@ -26,7 +26,7 @@ pub fn fire_note<S: MutEventSubscriber, L: Ledger, T: Ledger, R: Wait + Clock>(
     endpoint: &RemoteEndpoint<S, Work, L, T>,
     notes: &Notes,
     number: u64,
-) -> std::result::Result<u64, Fail> {
+) -> Result<u64> {
     let ticket = endpoint.fire(Work::Note(notes.clone()?, number), rt)?;
     Ok(ticket.number())
 }

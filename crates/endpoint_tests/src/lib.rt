@@ -2,31 +2,27 @@
 #![tactic(auto)]
 
 #[cfg(test)]
-mod bells;
-#[cfg(test)]
 mod caller;
 #[cfg(test)]
-mod closed_callers;
+mod callers;
 #[cfg(test)]
 mod closes;
+#[cfg(test)]
+mod courses;
 #[cfg(test)]
 mod expecting;
 #[cfg(test)]
 mod gated;
 #[cfg(test)]
-mod kicks;
-#[cfg(test)]
 mod looks;
 #[cfg(test)]
 mod making;
 #[cfg(test)]
+mod meetings;
+#[cfg(test)]
 mod members;
 #[cfg(test)]
-mod note;
-#[cfg(test)]
 mod noting;
-#[cfg(test)]
-mod own_replies;
 pub mod percent;
 #[cfg(test)]
 mod queue;
@@ -44,8 +40,6 @@ mod threads;
 mod unlocked;
 #[cfg(test)]
 mod value_in_a_subscriber;
-#[cfg(test)]
-mod wake_ups;
 #[cfg(test)]
 mod watched;
 #[cfg(test)]

@@ -77,7 +77,7 @@ pub fn make<S: MutEventSubscriber + Drop, J: Job<S>, L: Ledger, T: Ledger, P: Ev
 }
 
 /// What a test does with a manager and an endpoint of it, whatever its ledgers and its poller.
-pub trait WithEndpoint: Drop {
+pub trait WithEndpoint {
     /// The type of the manager's subscribers.
     type Subscriber: MutEventSubscriber + Drop;
 
@@ -86,19 +86,19 @@ pub trait WithEndpoint: Drop {
 
     /// Does it.
     fn run<L: Ledger, T: Ledger, P: EventPoller>(
-        self,
+        &self,
         manager: &mut EventManager<Self::Subscriber, Self::Job, L, T, P>,
         endpoint: &RemoteEndpoint<Self::Subscriber, Self::Job, L, T>,
     ) -> std::result::Result<(), Fail>;
 }
 
 /// A body, and the parts of its manager.
-struct Made<B, P> {
+struct Made<'a, B, P> {
     parts: Parts<P>,
-    body: B,
+    body: &'a B,
 }
 
-impl<B: WithEndpoint, P: EventPoller + Drop> WithLedgers for Made<B, P> {
+impl<B: WithEndpoint, P: EventPoller + Drop> WithLedgers for Made<'_, B, P> {
     type Output = std::result::Result<(), Fail>;
 
     fn run<L: Ledger + Send + Sync, T: Ledger + Send + Sync>(
@@ -116,7 +116,7 @@ impl<B: WithEndpoint, P: EventPoller + Drop> WithLedgers for Made<B, P> {
 /// Runs the body over a manager of these parts, which is then dropped.
 pub fn with_endpoint<B: WithEndpoint, P: EventPoller + Drop>(
     parts: Parts<P>,
-    body: B,
+    body: &B,
 ) -> std::result::Result<(), Fail> {
     with_ledgers(Made { parts, body })
 }

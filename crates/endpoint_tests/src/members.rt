@@ -1,20 +1,19 @@
 //! Jobs that change which subscribers there are.
 
 use crate::expecting::{expect_noted, expect_run, expect_run_within, new_notes};
-use crate::making::{OnTable, Parts, WithEndpoint, with_endpoint};
-use crate::noting::Noting;
+use crate::making::{OnTable, WithEndpoint, on_table, with_endpoint};
+use crate::noting::{Noting, add_noting, make_noting};
+use crate::threads::{Host, Looping};
 use crate::work::Notes;
 use event_manager::{
-    EventManager, EventPoller, EventSet, Events, Job, PlainPoller, Registry, RemoteEndpoint,
-    Result, SubscriberId, SubscriberOps,
+    EventManager, EventPoller, EventSet, Events, Job, Registry, RemoteEndpoint, Result,
+    SubscriberId, SubscriberOps,
 };
-use std::alloc::Global;
-use std::process::Abort;
 use std::sync::Wait;
 use std::sync::ledger::Ledger;
 use std::test::Fail;
 use std::time::Clock;
-use vmm_sys::epoll::Epoll;
+use vmm_sys::errno::Errno;
 use vmm_sys::eventfd::EventFd;
 
 /// Adds a subscriber.
@@ -100,182 +99,131 @@ impl<R: Wait + Drop> Job<Noting<R>> for Renumber {
     }
 }
 
-/// A manager, and a subscriber that has an event at each run.
-#[derive(Drop)]
-struct Member<R> {
-    parts: OnTable<R>,
-    subscriber: Noting<R>,
-    notes: Notes,
-}
-
 /// What the subscriber notes.
 const DELIVERED: u64 = 1;
 
-fn make_member<R: Wait + Clock + Copy + Send + Drop>(
-    rt: R,
-    alloc: Global,
-) -> std::result::Result<Member<R>, Fail> {
-    let notes = new_notes(alloc)?;
-    let epoll = Epoll::new(rt, alloc)?;
-    let event_fd = EventFd::new(&epoll, 0, &rt)?;
-    let writable = EventFd::new(&epoll, 0, &rt)?;
-    let subscriber = Noting {
-        own: Events::new(&writable, EventSet::OUT),
-        number: DELIVERED,
-        notes: notes.clone()?,
-        rt,
-    };
-    let parts = Parts {
-        alloc,
-        poller: PlainPoller(epoll),
-        event_fd,
-    };
-    Ok(Member {
-        parts,
-        subscriber,
-        notes,
-    })
+/// Events of a descriptor of the table of these parts that has one at each run.
+fn writable<R: Host>(rt: &R, parts: &OnTable<R>) -> std::result::Result<Events, Errno> {
+    let event_fd = EventFd::new(&parts.poller.0, 0, rt)?;
+    Ok(Events::new(&event_fd, EventSet::OUT))
 }
 
 /// A job adds the subscriber.
 #[derive(Drop)]
 struct Joining<'a, R> {
     rt: &'a R,
-    subscriber: Noting<R>,
+    own: Events,
     notes: &'a Notes,
 }
 
-impl<R: Wait + Clock + Abort + Drop> WithEndpoint for Joining<'_, R> {
+impl<R: Looping> WithEndpoint for Joining<'_, R> {
     type Subscriber = Noting<R>;
 
     type Job = Join<R>;
 
     fn run<L: Ledger, T: Ledger, P: EventPoller>(
-        self,
+        &self,
         manager: &mut EventManager<Noting<R>, Join<R>, L, T, P>,
         endpoint: &RemoteEndpoint<Noting<R>, Join<R>, L, T>,
     ) -> std::result::Result<(), Fail> {
-        let Joining {
-            rt,
-            subscriber,
-            notes,
-        } = self;
-        expect_run_within(rt, manager, 0, Ok(0));
-        endpoint.fire(Join(subscriber), rt)?;
-        expect_run(rt, manager, Ok(1));
-        expect_noted(rt, notes, &[]);
-        expect_run_within(rt, manager, 0, Ok(1));
-        expect_noted(rt, notes, &[DELIVERED]);
+        expect_run_within(self.rt, manager, 0, Ok(0));
+        let subscriber = make_noting(self.rt, self.own, DELIVERED, self.notes)?;
+        endpoint.fire(Join(subscriber), self.rt)?;
+        expect_run(self.rt, manager, Ok(1));
+        expect_noted(self.rt, self.notes, &[]);
+        expect_run_within(self.rt, manager, 0, Ok(1));
+        expect_noted(self.rt, self.notes, &[DELIVERED]);
         Ok(())
     }
 }
 
 #[test]
 fn a_job_joins_a_subscriber(rt: HostRuntime) -> std::result::Result<(), Fail> {
-    let Member {
-        parts,
-        subscriber,
-        notes,
-    } = make_member(rt, rt.alloc())?;
+    let notes = new_notes(rt.alloc())?;
+    let parts = on_table(rt, rt.alloc(), 0)?;
     let body = Joining {
         rt: &rt,
-        subscriber,
+        own: writable(&rt, &parts)?,
         notes: &notes,
     };
-    with_endpoint(parts, body)
+    with_endpoint(parts, &body)
 }
 
 /// A job lets the subscriber leave.
 #[derive(Drop)]
 struct Leaving<'a, R> {
     rt: &'a R,
-    subscriber: Noting<R>,
+    own: Events,
     notes: &'a Notes,
 }
 
-impl<R: Wait + Clock + Abort + Drop> WithEndpoint for Leaving<'_, R> {
+impl<R: Looping> WithEndpoint for Leaving<'_, R> {
     type Subscriber = Noting<R>;
 
     type Job = Leave;
 
     fn run<L: Ledger, T: Ledger, P: EventPoller>(
-        self,
+        &self,
         manager: &mut EventManager<Noting<R>, Leave, L, T, P>,
         endpoint: &RemoteEndpoint<Noting<R>, Leave, L, T>,
     ) -> std::result::Result<(), Fail> {
-        let Leaving {
-            rt,
-            subscriber,
-            notes,
-        } = self;
-        let id = manager.add_subscriber(subscriber)?;
-        endpoint.fire(Leave(id), rt)?;
-        expect_run(rt, manager, Ok(2));
-        expect_noted(rt, notes, &[DELIVERED]);
-        expect_run_within(rt, manager, 0, Ok(0));
-        expect_noted(rt, notes, &[DELIVERED]);
+        let id = add_noting(self.rt, manager, self.own, DELIVERED, self.notes)?;
+        endpoint.fire(Leave(id), self.rt)?;
+        expect_run(self.rt, manager, Ok(2));
+        expect_noted(self.rt, self.notes, &[DELIVERED]);
+        expect_run_within(self.rt, manager, 0, Ok(0));
+        expect_noted(self.rt, self.notes, &[DELIVERED]);
         Ok(())
     }
 }
 
 #[test]
 fn a_job_lets_a_subscriber_leave(rt: HostRuntime) -> std::result::Result<(), Fail> {
-    let Member {
-        parts,
-        subscriber,
-        notes,
-    } = make_member(rt, rt.alloc())?;
+    let notes = new_notes(rt.alloc())?;
+    let parts = on_table(rt, rt.alloc(), 0)?;
     let body = Leaving {
         rt: &rt,
-        subscriber,
+        own: writable(&rt, &parts)?,
         notes: &notes,
     };
-    with_endpoint(parts, body)
+    with_endpoint(parts, &body)
 }
 
 /// A job gives the subscriber another number.
 #[derive(Drop)]
 struct Renumbering<'a, R> {
     rt: &'a R,
-    subscriber: Noting<R>,
+    own: Events,
     notes: &'a Notes,
 }
 
-impl<R: Wait + Clock + Abort + Drop> WithEndpoint for Renumbering<'_, R> {
+impl<R: Looping> WithEndpoint for Renumbering<'_, R> {
     type Subscriber = Noting<R>;
 
     type Job = Renumber;
 
     fn run<L: Ledger, T: Ledger, P: EventPoller>(
-        self,
+        &self,
         manager: &mut EventManager<Noting<R>, Renumber, L, T, P>,
         endpoint: &RemoteEndpoint<Noting<R>, Renumber, L, T>,
     ) -> std::result::Result<(), Fail> {
-        let Renumbering {
-            rt,
-            subscriber,
-            notes,
-        } = self;
-        let id = manager.add_subscriber(subscriber)?;
-        endpoint.fire(Renumber { id, number: 2 }, rt)?;
-        expect_run(rt, manager, Ok(2));
-        expect_run_within(rt, manager, 0, Ok(1));
-        expect_noted(rt, notes, &[DELIVERED, 2]);
+        let id = add_noting(self.rt, manager, self.own, DELIVERED, self.notes)?;
+        endpoint.fire(Renumber { id, number: 2 }, self.rt)?;
+        expect_run(self.rt, manager, Ok(2));
+        expect_run_within(self.rt, manager, 0, Ok(1));
+        expect_noted(self.rt, self.notes, &[DELIVERED, 2]);
         Ok(())
     }
 }
 
 #[test]
 fn a_job_changes_a_subscriber(rt: HostRuntime) -> std::result::Result<(), Fail> {
-    let Member {
-        parts,
-        subscriber,
-        notes,
-    } = make_member(rt, rt.alloc())?;
+    let notes = new_notes(rt.alloc())?;
+    let parts = on_table(rt, rt.alloc(), 0)?;
     let body = Renumbering {
         rt: &rt,
-        subscriber,
+        own: writable(&rt, &parts)?,
         notes: &notes,
     };
-    with_endpoint(parts, body)
+    with_endpoint(parts, &body)
 }

@@ -1,8 +1,14 @@
 //! A subscriber that notes its events among what jobs note.
 
+use crate::threads::Looping;
 use crate::work::{Notes, note};
-use event_manager::{EventOps, EventPoller, Events, MutEventSubscriber};
+use event_manager::{
+    EventManager, EventOps, EventPoller, Events, Job, MutEventSubscriber, SubscriberId,
+    SubscriberOps,
+};
 use std::sync::Wait;
+use std::sync::ledger::Ledger;
+use std::test::Fail;
 
 /// Adds one descriptor in `init`, and notes its number at each event.
 #[derive(Drop)]
@@ -29,4 +35,30 @@ impl<R: Wait> MutEventSubscriber for Noting<R> {
     fn init<P: EventPoller>(&mut self, ops: &mut EventOps<P>) {
         let _ = ops.add(self.own);
     }
+}
+
+/// A subscriber of these events that notes this.
+pub fn make_noting<R: Looping>(
+    rt: &R,
+    own: Events,
+    number: u64,
+    notes: &Notes,
+) -> Result<Noting<R>, Fail> {
+    Ok(Noting {
+        own,
+        number,
+        notes: notes.clone()?,
+        rt: *rt,
+    })
+}
+
+/// Takes in a subscriber of these events that notes this: its id.
+pub fn add_noting<J: Job<Noting<R>>, L: Ledger, T: Ledger, P: EventPoller, R: Looping>(
+    rt: &R,
+    manager: &mut EventManager<Noting<R>, J, L, T, P>,
+    own: Events,
+    number: u64,
+    notes: &Notes,
+) -> Result<SubscriberId, Fail> {
+    Ok(manager.add_subscriber(make_noting(rt, own, number, notes)?)?)
 }

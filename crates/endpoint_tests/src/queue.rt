@@ -1,22 +1,23 @@
 //! Many jobs, several endpoints, and an endpoint that is dropped.
 
+use crate::courses::{Course, expect_course};
 use crate::expecting::{
     expect_counted, expect_noted, expect_pending, expect_run, expect_run_within, expect_same,
     fire_note, new_notes,
 };
-use crate::making::{Idle, OnTable, WithEndpoint, make, on_table, with_endpoint};
+use crate::making::{Idle, OnTable, make, on_table};
+use crate::threads::Looping;
 use crate::work::{Notes, Work};
 use event_manager::{EventManager, EventPoller, RemoteEndpoint, WithLedgers, with_ledgers};
-use std::process::Abort;
-use std::sync::Wait;
 use std::sync::ledger::{Blank, Ledger};
 use std::test::Fail;
-use std::time::Clock;
 
 type Sender<L, T> = RemoteEndpoint<Idle, Work, L, T>;
 
+type Loop<L, T, P> = EventManager<Idle, Work, L, T, P>;
+
 /// Sends jobs that note 1, 2, 3 and so on, so many: each must have the ticket of its number.
-fn fire_counting<L: Ledger, T: Ledger, R: Wait + Clock + Abort>(
+fn fire_counting<L: Ledger, T: Ledger, R: Looping>(
     rt: &R,
     endpoint: &Sender<L, T>,
     notes: &Notes,
@@ -29,9 +30,9 @@ fn fire_counting<L: Ledger, T: Ledger, R: Wait + Clock + Abort>(
 }
 
 /// Sends five thousand jobs, and runs twice.
-fn run_thousands<L: Ledger, T: Ledger, P: EventPoller, R: Wait + Clock + Abort>(
+pub fn thousands<L: Ledger, T: Ledger, P: EventPoller, R: Looping>(
     rt: &R,
-    manager: &mut EventManager<Idle, Work, L, T, P>,
+    manager: &mut Loop<L, T, P>,
     endpoint: &Sender<L, T>,
     notes: &Notes,
 ) -> Result<(), Fail> {
@@ -42,46 +43,15 @@ fn run_thousands<L: Ledger, T: Ledger, P: EventPoller, R: Wait + Clock + Abort>(
     Ok(())
 }
 
-/// Sends five thousand jobs, runs, and closes.
-#[derive(Drop)]
-struct Thousands<'a, R> {
-    rt: &'a R,
-    parts: OnTable<R>,
-    notes: &'a Notes,
-}
-
-impl<R: Wait + Clock + Abort + Copy + Send + Drop> WithLedgers for Thousands<'_, R> {
-    type Output = Result<(), Fail>;
-
-    fn run<L: Ledger + Send + Sync, T: Ledger + Send + Sync>(
-        self,
-        tickets: Blank,
-        taken: Blank,
-    ) -> Result<(), Fail> {
-        let Thousands { rt, parts, notes } = self;
-        let mut manager = make::<Idle, Work, L, T, _>(parts, tickets, taken)?;
-        let endpoint = manager.remote_endpoint()?;
-        run_thousands(rt, &mut manager, &endpoint, notes)?;
-        expect_same(rt, &manager.close(rt).taken(), &5000);
-        Ok(())
-    }
-}
-
 #[test]
 fn five_thousand_jobs_wait_and_are_run(rt: HostRuntime) -> Result<(), Fail> {
-    let notes = new_notes(rt.alloc())?;
-    let parts = on_table(rt, rt.alloc(), 0)?;
-    with_ledgers(Thousands {
-        rt: &rt,
-        parts,
-        notes: &notes,
-    })
+    expect_course(rt, rt.alloc(), 0, &Course::Thousands, (5000, 5000))
 }
 
 /// Sends two jobs by an endpoint that is then dropped.
-fn fire_and_drop<L: Ledger, T: Ledger, P: EventPoller, R: Wait + Clock + Abort>(
+fn fire_and_drop<L: Ledger, T: Ledger, P: EventPoller, R: Looping>(
     rt: &R,
-    manager: &EventManager<Idle, Work, L, T, P>,
+    manager: &Loop<L, T, P>,
     notes: &Notes,
 ) -> Result<(), Fail> {
     let endpoint = manager.remote_endpoint()?;
@@ -89,43 +59,24 @@ fn fire_and_drop<L: Ledger, T: Ledger, P: EventPoller, R: Wait + Clock + Abort>(
 }
 
 /// Drops an endpoint while its jobs wait.
-#[derive(Drop)]
-struct Dropped<'a, R> {
-    rt: &'a R,
-    parts: OnTable<R>,
-    notes: &'a Notes,
-}
-
-impl<R: Wait + Clock + Abort + Copy + Send + Drop> WithLedgers for Dropped<'_, R> {
-    type Output = Result<(), Fail>;
-
-    fn run<L: Ledger + Send + Sync, T: Ledger + Send + Sync>(
-        self,
-        tickets: Blank,
-        taken: Blank,
-    ) -> Result<(), Fail> {
-        let Dropped { rt, parts, notes } = self;
-        let mut manager = make::<Idle, Work, L, T, _>(parts, tickets, taken)?;
-        fire_and_drop(rt, &manager, notes)?;
-        expect_run(rt, &mut manager, Ok(1));
-        expect_noted(rt, notes, &[1, 2]);
-        Ok(())
-    }
+pub fn dropped_endpoint<L: Ledger, T: Ledger, P: EventPoller, R: Looping>(
+    rt: &R,
+    manager: &mut Loop<L, T, P>,
+    notes: &Notes,
+) -> Result<(), Fail> {
+    fire_and_drop(rt, manager, notes)?;
+    expect_run(rt, manager, Ok(1));
+    expect_noted(rt, notes, &[1, 2]);
+    Ok(())
 }
 
 #[test]
 fn jobs_outlive_their_endpoint(rt: HostRuntime) -> Result<(), Fail> {
-    let notes = new_notes(rt.alloc())?;
-    let parts = on_table(rt, rt.alloc(), 0)?;
-    with_ledgers(Dropped {
-        rt: &rt,
-        parts,
-        notes: &notes,
-    })
+    expect_course(rt, rt.alloc(), 0, &Course::DroppedEndpoint, (2, 2))
 }
 
 /// Expects of two endpoints how many jobs wait.
-fn expect_both_pending<L: Ledger, T: Ledger, E: Ledger, F: Ledger, R: Abort>(
+fn expect_both_pending<L: Ledger, T: Ledger, E: Ledger, F: Ledger, R: Looping>(
     rt: &R,
     endpoints: (&Sender<L, T>, &Sender<E, F>),
     counts: (usize, usize),
@@ -135,7 +86,7 @@ fn expect_both_pending<L: Ledger, T: Ledger, E: Ledger, F: Ledger, R: Abort>(
 }
 
 /// Sends by the two in turn, three jobs.
-fn fire_in_turn<L: Ledger, T: Ledger, R: Wait + Clock + Abort>(
+fn fire_in_turn<L: Ledger, T: Ledger, R: Looping>(
     rt: &R,
     first: &Sender<L, T>,
     second: &Sender<L, T>,
@@ -148,106 +99,113 @@ fn fire_in_turn<L: Ledger, T: Ledger, R: Wait + Clock + Abort>(
 }
 
 /// Sends by two endpoints of one manager.
-#[derive(Drop)]
-struct Cloned<'a, R> {
-    rt: &'a R,
-    notes: &'a Notes,
-}
-
-impl<R: Wait + Clock + Abort> WithEndpoint for Cloned<'_, R> {
-    type Subscriber = Idle;
-
-    type Job = Work;
-
-    fn run<L: Ledger, T: Ledger, P: EventPoller>(
-        self,
-        manager: &mut EventManager<Idle, Work, L, T, P>,
-        endpoint: &RemoteEndpoint<Idle, Work, L, T>,
-    ) -> Result<(), Fail> {
-        let Cloned { rt, notes } = self;
-        let second = endpoint.try_clone()?;
-        fire_in_turn(rt, endpoint, &second, notes)?;
-        expect_both_pending(rt, (endpoint, &second), (3, 3));
-        expect_run(rt, manager, Ok(1));
-        expect_counted(rt, notes, 3);
-        expect_both_pending(rt, (endpoint, &second), (0, 0));
-        Ok(())
-    }
+pub fn two_endpoints<L: Ledger, T: Ledger, P: EventPoller, R: Looping>(
+    rt: &R,
+    manager: &mut Loop<L, T, P>,
+    endpoint: &Sender<L, T>,
+    notes: &Notes,
+) -> Result<(), Fail> {
+    let second = endpoint.try_clone()?;
+    fire_in_turn(rt, endpoint, &second, notes)?;
+    expect_both_pending(rt, (endpoint, &second), (3, 3));
+    expect_run(rt, manager, Ok(1));
+    expect_counted(rt, notes, 3);
+    expect_both_pending(rt, (endpoint, &second), (0, 0));
+    Ok(())
 }
 
 #[test]
 fn an_endpoint_is_of_its_manager(rt: HostRuntime) -> Result<(), Fail> {
-    let notes = new_notes(rt.alloc())?;
-    let parts = on_table(rt, rt.alloc(), 0)?;
-    let body = Cloned {
-        rt: &rt,
-        notes: &notes,
-    };
-    with_endpoint(parts, body)
+    expect_course(rt, rt.alloc(), 0, &Course::TwoEndpoints, (3, 3))
 }
 
-/// Sends to a manager over these parts, beside an endpoint of another.
-#[derive(Drop)]
+/// Sends to a manager beside an endpoint of another, for which two jobs wait.
+fn run_beside<L: Ledger, T: Ledger, P: EventPoller, E: Ledger, F: Ledger, R: Looping>(
+    rt: &R,
+    manager: &mut Loop<L, T, P>,
+    other: &Sender<E, F>,
+    notes: &Notes,
+) -> Result<(), Fail> {
+    let endpoint = manager.remote_endpoint()?;
+    fire_counting(rt, &endpoint, notes, 1)?;
+    expect_both_pending(rt, (&endpoint, other), (1, 2));
+    expect_run(rt, manager, Ok(1));
+    expect_both_pending(rt, (&endpoint, other), (0, 2));
+    expect_counted(rt, notes, 1);
+    Ok(())
+}
+
+/// A manager beside an endpoint of another.
 struct Beside<'a, R, E: Ledger, F: Ledger> {
     rt: &'a R,
+    parts: OnTable<R>,
     other: &'a Sender<E, F>,
     notes: &'a Notes,
 }
 
-impl<R: Wait + Clock + Abort, E: Ledger, F: Ledger> WithEndpoint for Beside<'_, R, E, F> {
-    type Subscriber = Idle;
+impl<R: Looping + Send, E: Ledger, F: Ledger> WithLedgers for Beside<'_, R, E, F> {
+    type Output = Result<(), Fail>;
 
-    type Job = Work;
-
-    fn run<L: Ledger, T: Ledger, P: EventPoller>(
+    fn run<L: Ledger + Send + Sync, T: Ledger + Send + Sync>(
         self,
-        manager: &mut EventManager<Idle, Work, L, T, P>,
-        endpoint: &RemoteEndpoint<Idle, Work, L, T>,
+        tickets: Blank,
+        taken: Blank,
     ) -> Result<(), Fail> {
-        let Beside { rt, other, notes } = self;
-        fire_counting(rt, endpoint, notes, 1)?;
-        expect_both_pending(rt, (endpoint, other), (1, 2));
-        expect_run(rt, manager, Ok(1));
-        expect_both_pending(rt, (endpoint, other), (0, 2));
-        expect_counted(rt, notes, 1);
-        Ok(())
+        let Beside {
+            rt,
+            parts,
+            other,
+            notes,
+        } = self;
+        let mut manager = make::<Idle, Work, L, T, _>(parts, tickets, taken)?;
+        run_beside(rt, &mut manager, other, notes)
     }
 }
 
+/// Runs for the two jobs that wait.
+fn expect_two_run<L: Ledger, T: Ledger, P: EventPoller, R: Looping>(
+    rt: &R,
+    manager: &mut Loop<L, T, P>,
+    notes: &Notes,
+) {
+    expect_run(rt, manager, Ok(1));
+    expect_counted(rt, notes, 2);
+}
+
 /// Two managers.
-#[derive(Drop)]
 struct TwoManagers<'a, R> {
     rt: &'a R,
+    parts: OnTable<R>,
     notes: &'a Notes,
     others: OnTable<R>,
     other_notes: &'a Notes,
 }
 
-impl<R: Wait + Clock + Abort + Copy + Send + Drop> WithEndpoint for TwoManagers<'_, R> {
-    type Subscriber = Idle;
+impl<R: Looping + Send> WithLedgers for TwoManagers<'_, R> {
+    type Output = Result<(), Fail>;
 
-    type Job = Work;
-
-    fn run<L: Ledger, T: Ledger, P: EventPoller>(
+    fn run<L: Ledger + Send + Sync, T: Ledger + Send + Sync>(
         self,
-        manager: &mut EventManager<Idle, Work, L, T, P>,
-        endpoint: &RemoteEndpoint<Idle, Work, L, T>,
+        tickets: Blank,
+        taken: Blank,
     ) -> Result<(), Fail> {
         let TwoManagers {
             rt,
+            parts,
             notes,
             others,
             other_notes,
         } = self;
-        fire_counting(rt, endpoint, notes, 2)?;
-        let beside = Beside {
+        let mut manager = make::<Idle, Work, L, T, _>(parts, tickets, taken)?;
+        let endpoint = manager.remote_endpoint()?;
+        fire_counting(rt, &endpoint, notes, 2)?;
+        with_ledgers(Beside {
             rt,
-            other: endpoint,
+            parts: others,
+            other: &endpoint,
             notes: other_notes,
-        };
-        with_endpoint(others, beside)?;
-        expect_run(rt, manager, Ok(1));
-        expect_counted(rt, notes, 2);
+        })?;
+        expect_two_run(rt, &mut manager, notes);
         Ok(())
     }
 }
@@ -256,11 +214,11 @@ impl<R: Wait + Clock + Abort + Copy + Send + Drop> WithEndpoint for TwoManagers<
 fn endpoints_of_two_managers_are_apart(rt: HostRuntime) -> Result<(), Fail> {
     let alloc = rt.alloc();
     let (notes, other_notes) = (new_notes(alloc)?, new_notes(alloc)?);
-    let body = TwoManagers {
+    with_ledgers(TwoManagers {
         rt: &rt,
+        parts: on_table(rt, alloc, 0)?,
         notes: &notes,
         others: on_table(rt, alloc, 0)?,
         other_notes: &other_notes,
-    };
-    with_endpoint(on_table(rt, alloc, 0)?, body)
+    })
 }

@@ -1,23 +1,18 @@
-//! When a report runs the jobs that wait.
+//! When a report runs the jobs that wait, and what ends a wait without a job.
 
+use crate::courses::{Course, expect_over};
 use crate::expecting::{
-    expect_noted, expect_pending, expect_run, expect_same, fire_note, new_notes,
+    expect_noted, expect_pending, expect_run, expect_run_within, expect_same, fire_note, new_notes,
 };
 use crate::making::{Idle, Parts, WithEndpoint, on_table, with_endpoint};
-use crate::noting::Noting;
+use crate::noting::{Noting, add_noting};
+use crate::threads::{Host, Looping};
 use crate::work::{Notes, Work};
-use event_manager::{
-    Error, EventManager, EventPoller, EventSet, Events, PlainPoller, RemoteEndpoint, Result,
-    SubscriberOps,
-};
+use event_manager::{EventManager, EventPoller, EventSet, Events, PlainPoller, RemoteEndpoint};
 use std::alloc::Global;
-use std::process::Abort;
-use std::sync::Wait;
 use std::sync::ledger::Ledger;
 use std::test::Fail;
-use std::time::Clock;
 use vmm_sys::epoll::EpollEvent;
-use vmm_sys::errno::Errno;
 use vmm_sys::eventfd::EventFd;
 use vmm_sys::script_poller::ScriptPoller;
 
@@ -27,79 +22,37 @@ const DELIVERED: u64 = 3;
 /// What the job notes.
 const RAN: u64 = 100;
 
-/// Fires a job, and runs once over a script: what was answered, noted, and left waiting.
+/// Fires a job, and runs once over a script, with so many events: what was noted.
 #[derive(Drop)]
 struct OneRun<'a, R> {
     rt: &'a R,
-    subscriber: Noting<R>,
     notes: &'a Notes,
-    answer: Result<usize>,
+    count: usize,
     noted: &'a [u64],
-    left: usize,
 }
 
-impl<R: Wait + Clock + Abort + Drop> WithEndpoint for OneRun<'_, R> {
+impl<R: Looping> WithEndpoint for OneRun<'_, R> {
     type Subscriber = Noting<R>;
 
     type Job = Work;
 
     fn run<L: Ledger, T: Ledger, P: EventPoller>(
-        self,
+        &self,
         manager: &mut EventManager<Noting<R>, Work, L, T, P>,
         endpoint: &RemoteEndpoint<Noting<R>, Work, L, T>,
-    ) -> std::result::Result<(), Fail> {
-        let OneRun {
-            rt,
-            subscriber,
-            notes,
-            answer,
-            noted,
-            left,
-        } = self;
-        manager.add_subscriber(subscriber)?;
-        fire_note(rt, endpoint, notes, RAN)?;
-        expect_run(rt, manager, answer);
-        expect_noted(rt, notes, noted);
-        expect_pending(rt, endpoint, left);
+    ) -> Result<(), Fail> {
+        let own = Events::new_raw(3, EventSet::IN);
+        add_noting(self.rt, manager, own, DELIVERED, self.notes)?;
+        fire_note(self.rt, endpoint, self.notes, RAN)?;
+        expect_run(self.rt, manager, Ok(self.count));
+        expect_noted(self.rt, self.notes, self.noted);
+        expect_pending(self.rt, endpoint, 0);
         Ok(())
     }
 }
 
-/// Expects this of a run over this script: the answer, what was noted, and how many jobs are left. The endpoint has
-/// descriptor 0, and the subscriber 3.
-fn expect_one_run<R: Wait + Clock + Abort + Copy + Send + Drop>(
-    rt: &R,
-    alloc: Global,
-    script: ScriptPoller,
-    expected: (Result<usize>, &[u64], usize),
-) -> std::result::Result<(), Fail> {
-    let (answer, noted, left) = expected;
-    let notes = new_notes(alloc)?;
-    let subscriber = Noting {
-        own: Events::new_raw(3, EventSet::IN),
-        number: DELIVERED,
-        notes: notes.clone()?,
-        rt: *rt,
-    };
-    let Parts { event_fd, .. } = on_table(*rt, alloc, 0)?;
-    let parts = Parts {
-        alloc,
-        poller: PlainPoller(script),
-        event_fd,
-    };
-    let body = OneRun {
-        rt,
-        subscriber,
-        notes: &notes,
-        answer,
-        noted,
-        left,
-    };
-    with_endpoint(parts, body)
-}
-
 /// A script of one report: of these words and sets.
-fn script_of(alloc: Global, report: &[(u64, EventSet)]) -> std::result::Result<ScriptPoller, Fail> {
+fn script_of(alloc: Global, report: &[(u64, EventSet)]) -> Result<ScriptPoller, Fail> {
     let mut script = ScriptPoller::new(alloc);
     let mut events = Vec::new(alloc);
     for &(word, set) in report {
@@ -109,11 +62,44 @@ fn script_of(alloc: Global, report: &[(u64, EventSet)]) -> std::result::Result<S
     Ok(script)
 }
 
+/// The parts over a script, whose endpoint has descriptor 0 and this value.
+fn on_script<R: Host>(
+    rt: R,
+    alloc: Global,
+    script: ScriptPoller,
+    value: u64,
+) -> Result<Parts<PlainPoller<ScriptPoller>>, Fail> {
+    let Parts { event_fd, .. } = on_table(rt, alloc, value)?;
+    Ok(Parts {
+        alloc,
+        poller: PlainPoller(script),
+        event_fd,
+    })
+}
+
+/// Expects that this was noted in a run over this report. The endpoint has descriptor 0, and the subscriber 3.
+fn expect_one_run<R: Host>(
+    rt: &R,
+    alloc: Global,
+    report: &[(u64, EventSet)],
+    noted: &[u64],
+) -> Result<(), Fail> {
+    let notes = new_notes(alloc)?;
+    let parts = on_script(*rt, alloc, script_of(alloc, report)?, 0)?;
+    let body = OneRun {
+        rt,
+        notes: &notes,
+        count: report.len(),
+        noted,
+    };
+    with_endpoint(parts, &body)
+}
+
 /// An event of the subscriber's.
 const OTHERS: (u64, EventSet) = (3, EventSet::IN);
 
 #[test]
-fn reports_of_an_endpoint_event_of_any_set(rt: HostRuntime) -> std::result::Result<(), Fail> {
+fn reports_of_an_endpoint_event_of_any_set(rt: HostRuntime) -> Result<(), Fail> {
     let none = EventSet::empty();
     let reports: [(&[(u64, EventSet)], &[u64]); 4] = [
         (
@@ -125,120 +111,94 @@ fn reports_of_an_endpoint_event_of_any_set(rt: HostRuntime) -> std::result::Resu
         (&[(0, EventSet::OUT), OTHERS, (0, none)], &[DELIVERED, RAN]),
     ];
     for (report, noted) in reports {
-        let script = script_of(rt.alloc(), report)?;
-        expect_one_run(&rt, rt.alloc(), script, (Ok(report.len()), noted, 0))?;
-    }
-    Ok(())
-}
-
-#[test]
-fn a_report_without_the_endpoint_runs_no_job(rt: HostRuntime) -> std::result::Result<(), Fail> {
-    let reports: [(&[(u64, EventSet)], &[u64]); 2] = [(&[OTHERS], &[DELIVERED]), (&[], &[])];
-    for (report, noted) in reports {
-        let script = script_of(rt.alloc(), report)?;
-        expect_one_run(&rt, rt.alloc(), script, (Ok(report.len()), noted, 1))?;
-    }
-    Ok(())
-}
-
-#[test]
-fn a_run_that_fails_runs_no_job(rt: HostRuntime) -> std::result::Result<(), Fail> {
-    let answers = [
-        (Errno::EINTR, Ok(0)),
-        (Errno::EBADF, Err(Error::Epoll(Errno::EBADF))),
-    ];
-    for (errno, answer) in answers {
-        let mut script = ScriptPoller::new(rt.alloc());
-        script.push_fault(errno)?;
-        expect_one_run(&rt, rt.alloc(), script, (answer, &[], 1))?;
+        expect_one_run(&rt, rt.alloc(), report, noted)?;
     }
     Ok(())
 }
 
 /// Fires a job, lets somebody else read the endpoint's counter, and runs once over a script.
-#[derive(Drop)]
-struct RunBehindRead<'a, R> {
-    rt: &'a R,
-    counter: EventFd,
-    notes: &'a Notes,
-}
-
-impl<R: Wait + Clock + Abort> WithEndpoint for RunBehindRead<'_, R> {
-    type Subscriber = Idle;
-
-    type Job = Work;
-
-    fn run<L: Ledger, T: Ledger, P: EventPoller>(
-        self,
-        manager: &mut EventManager<Idle, Work, L, T, P>,
-        endpoint: &RemoteEndpoint<Idle, Work, L, T>,
-    ) -> std::result::Result<(), Fail> {
-        let RunBehindRead { rt, counter, notes } = self;
-        fire_note(rt, endpoint, notes, RAN)?;
-        expect_same(rt, &counter.read(rt), &Ok(1));
-        expect_run(rt, manager, Ok(1));
-        expect_noted(rt, notes, &[RAN]);
-        Ok(())
-    }
+pub fn behind_read<L: Ledger, T: Ledger, P: EventPoller, R: Looping>(
+    rt: &R,
+    manager: &mut EventManager<Idle, Work, L, T, P>,
+    endpoint: &RemoteEndpoint<Idle, Work, L, T>,
+    notes: &Notes,
+    counter: &EventFd,
+) -> Result<(), Fail> {
+    fire_note(rt, endpoint, notes, RAN)?;
+    expect_same(rt, &counter.read(rt), &Ok(1));
+    expect_run(rt, manager, Ok(1));
+    expect_noted(rt, notes, &[RAN]);
+    Ok(())
 }
 
 #[test]
-fn jobs_are_run_where_the_counter_has_nothing(rt: HostRuntime) -> std::result::Result<(), Fail> {
-    let notes = new_notes(rt.alloc())?;
-    let Parts { event_fd, .. } = on_table(rt, rt.alloc(), 0)?;
-    let counter = event_fd.try_clone()?;
-    let parts = Parts {
-        alloc: rt.alloc(),
-        poller: PlainPoller(script_of(rt.alloc(), &[(0, EventSet::IN)])?),
-        event_fd,
-    };
-    let body = RunBehindRead {
-        rt: &rt,
-        counter,
-        notes: &notes,
-    };
-    with_endpoint(parts, body)
+fn jobs_are_run_where_the_counter_has_nothing(rt: HostRuntime) -> Result<(), Fail> {
+    let script = script_of(rt.alloc(), &[(0, EventSet::IN)])?;
+    let parts = on_script(rt, rt.alloc(), script, 0)?;
+    let counter = parts.event_fd.try_clone()?;
+    expect_over(&rt, parts, &Course::BehindRead(&counter), (1, 1))
 }
 
 /// Runs over a script, kicks, and runs again: the first run has an event of the endpoint, and the second none.
-#[derive(Drop)]
-struct RunBehindKick<'a, R> {
-    rt: &'a R,
-    counter: EventFd,
+pub fn behind_kick<L: Ledger, T: Ledger, P: EventPoller, R: Looping>(
+    rt: &R,
+    manager: &mut EventManager<Idle, Work, L, T, P>,
+    endpoint: &RemoteEndpoint<Idle, Work, L, T>,
+    counter: &EventFd,
+) -> Result<(), Fail> {
+    expect_run(rt, manager, Ok(1));
+    endpoint.kick(rt)?;
+    expect_run(rt, manager, Ok(1));
+    expect_same(rt, &counter.read(rt), &Ok(1));
+    Ok(())
 }
 
-impl<R: Wait + Clock + Abort> WithEndpoint for RunBehindKick<'_, R> {
-    type Subscriber = Idle;
+#[test]
+fn endpoint_event_is_answered_by_its_own_run_alone(rt: HostRuntime) -> Result<(), Fail> {
+    let mut script = script_of(rt.alloc(), &[(0, EventSet::IN)])?;
+    script.push_report(vec![in rt.alloc(); EpollEvent::new(EventSet::IN, 7)]?)?;
+    let parts = on_script(rt, rt.alloc(), script, 3)?;
+    let counter = parts.event_fd.try_clone()?;
+    expect_over(&rt, parts, &Course::BehindKick(&counter), (0, 0))
+}
+
+/// Kicks a manager with a subscriber of this descriptor, which has no event.
+#[derive(Drop)]
+struct Kicked<'a, R> {
+    rt: &'a R,
+    silent: Events,
+    notes: &'a Notes,
+}
+
+impl<R: Looping> WithEndpoint for Kicked<'_, R> {
+    type Subscriber = Noting<R>;
 
     type Job = Work;
 
     fn run<L: Ledger, T: Ledger, P: EventPoller>(
-        self,
-        manager: &mut EventManager<Idle, Work, L, T, P>,
-        endpoint: &RemoteEndpoint<Idle, Work, L, T>,
-    ) -> std::result::Result<(), Fail> {
-        let RunBehindKick { rt, counter } = self;
-        expect_run(rt, manager, Ok(1));
-        endpoint.kick(rt)?;
-        expect_run(rt, manager, Ok(1));
-        expect_same(rt, &counter.read(rt), &Ok(1));
+        &self,
+        manager: &mut EventManager<Noting<R>, Work, L, T, P>,
+        endpoint: &RemoteEndpoint<Noting<R>, Work, L, T>,
+    ) -> Result<(), Fail> {
+        add_noting(self.rt, manager, self.silent, DELIVERED, self.notes)?;
+        endpoint.kick(self.rt)?;
+        expect_run_within(self.rt, manager, 5000, Ok(1));
+        expect_run_within(self.rt, manager, 0, Ok(0));
+        endpoint.kick(self.rt)?;
+        expect_run(self.rt, manager, Ok(1));
+        expect_noted(self.rt, self.notes, &[]);
         Ok(())
     }
 }
 
 #[test]
-fn endpoint_event_is_answered_by_its_own_run_alone(
-    rt: HostRuntime,
-) -> std::result::Result<(), Fail> {
-    let Parts { event_fd, .. } = on_table(rt, rt.alloc(), 3)?;
-    let counter = event_fd.try_clone()?;
-    let mut script = script_of(rt.alloc(), &[(0, EventSet::IN)])?;
-    script.push_report(vec![in rt.alloc(); EpollEvent::new(EventSet::IN, 7)]?)?;
-    let parts = Parts {
-        alloc: rt.alloc(),
-        poller: PlainPoller(script),
-        event_fd,
+fn a_kick_ends_a_wait(rt: HostRuntime) -> Result<(), Fail> {
+    let notes = new_notes(rt.alloc())?;
+    let parts = on_table(rt, rt.alloc(), 0)?;
+    let body = Kicked {
+        rt: &rt,
+        silent: Events::new(&EventFd::new(&parts.poller.0, 0, &rt)?, EventSet::IN),
+        notes: &notes,
     };
-    let body = RunBehindKick { rt: &rt, counter };
-    with_endpoint(parts, body)
+    with_endpoint(parts, &body)
 }

@@ -16,6 +16,11 @@ pub trait Host: Threads + Wait + Clock + Abort + Copy + Send + Sync + Drop {}
 
 impl<R: Threads + Wait + Clock + Abort + Copy + Send + Sync + Drop> Host for R {}
 
+/// What a body needs of the runtime that starts no thread. A method of a trait calls functions with this bound alone.
+pub trait Looping: Wait + Clock + Abort + Copy + Drop {}
+
+impl<R: Wait + Clock + Abort + Copy + Drop> Looping for R {}
+
 /// How many timed waits of a millisecond a job or a test makes at most.
 pub const LIMIT: u32 = 10_000;
 

@@ -1,26 +1,24 @@
-//! A caller that sets and reads a value of a subscriber, and ends the loop by it.
+//! A caller that sets and reads a value of a subscriber, and stops it.
 
 ghost use Rattle.std.specs.Prelude.{◌≡◌};
 
-use crate::expecting::expect_same;
+use crate::caller::start;
+use crate::expecting::{expect_run_within, expect_same};
 use crate::making::{OnTable, make, on_table};
-use crate::threads::{Host, LIMIT};
+use crate::threads::{Host, wait_until_pending};
 use event_manager::{
     EventManager, EventOps, EventPoller, Events, Job, MutEventSubscriber, PlainPoller, Registry,
-    RemoteEndpoint, Result, SubscriberId, SubscriberOps,
+    Result, SubscriberId, SubscriberOps,
 };
 use std::alloc::Global;
 use std::marker::Brand;
-use std::sync::atomic::{AtomicBool, Ordering};
+use std::sync::Wait;
 use std::sync::ledger::{Blank, Ledger};
-use std::sync::{Arc, Wait};
 use std::test::Fail;
-use std::thread;
-use std::thread::JoinHandle;
-use std::time::{Clock, Duration};
+use std::time::Clock;
 use vmm_sys::epoll::Epoll;
 
-/// Has a value, and a flag that ends its loop.
+/// Has a value, and may be stopped.
 #[derive(Drop)]
 struct Stoppable {
     value: u64,
@@ -94,104 +92,60 @@ impl Job<Stoppable> for Order {
 
 type Loop<L, T, R> = EventManager<Stoppable, Order, L, T, PlainPoller<Epoll<R>>>;
 
-type Sender<L, T> = RemoteEndpoint<Stoppable, Order, L, T>;
-
-/// The value before the change.
-fn call_once<L: Ledger, T: Ledger, R: Wait + Clock>(
-    rt: &R,
-    endpoint: &Sender<L, T>,
+/// Expects that a caller is answered this value by a run with its change.
+fn expect_answer<L, T, R>(
+    rt: R,
+    alloc: Global,
+    manager: &mut Loop<L, T, R>,
     order: Order,
-) -> Result<u64> {
-    endpoint.call_blocking(order, rt)?
+    value: u64,
+) -> std::result::Result<(), Fail>
+where
+    L: Ledger + Send + Sync + 'static,
+    T: Ledger + Send + Sync + 'static,
+    R: Host + 'static,
+{
+    let endpoint = manager.remote_endpoint()?;
+    let caller = start(rt, alloc, endpoint.try_clone()?, order)?;
+    expect_same(&rt, &wait_until_pending(&rt, &endpoint, 1), &true);
+    expect_run_within(&rt, manager, 0, Ok(1));
+    expect_same(&rt, &caller.reply(&rt), &Ok(Ok(value)));
+    Ok(())
 }
 
-/// Sets the value, reads it, and stops the loop, each by a job: the first two replies.
-fn call_thrice<L: Ledger, T: Ledger, R: Wait + Clock>(
-    rt: &R,
-    endpoint: &Sender<L, T>,
-    id: SubscriberId,
-) -> Result<(u64, u64)> {
-    let change = Change::Set(7);
-    let old = call_once(rt, endpoint, Order { id, change })?;
-    let change = Change::Read;
-    let new = call_once(rt, endpoint, Order { id, change })?;
-    let change = Change::Stop;
-    call_once(rt, endpoint, Order { id, change })?;
-    Ok((old, new))
-}
-
-/// A thread that calls three times.
-#[derive(Drop)]
-struct Caller {
-    over: Arc<AtomicBool, Global>,
-    thread: JoinHandle<Result<(u64, u64)>>,
-}
-
-impl Caller {
-    fn start<L, T, R>(
-        rt: R,
-        alloc: Global,
-        endpoint: Sender<L, T>,
-        id: SubscriberId,
-    ) -> std::result::Result<Caller, Fail>
-    where
-        L: Ledger + Send + Sync + 'static,
-        T: Ledger + Send + Sync + 'static,
-        R: Host + 'static,
-    {
-        let over = Arc::new(alloc, AtomicBool::new(false))?;
-        let theirs = Arc::try_clone(&over)?;
-        let thread = thread::spawn(&rt, move || {
-            let replies = call_thrice(&rt, &endpoint, id);
-            theirs.store(true, Ordering::SeqCst);
-            replies
-        })?;
-        Ok(Caller { over, thread })
-    }
-
-    /// The first two replies. Ends the test where the caller still waits.
-    fn replies<R: Host>(self, rt: &R) -> Result<(u64, u64)> {
-        for _turn in 0..LIMIT {
-            if self.over.load(Ordering::SeqCst) {
-                return self.thread.join(rt);
-            }
-            thread::sleep(rt, Duration::from_millis(1));
-        }
-        panic!(rt; "the caller still waits");
-    }
-}
-
-/// Whether the subscriber has stopped its loop, or left.
-fn is_stopped<L: Ledger, T: Ledger, R: Wait + Clock + Clone + Send + Drop>(
+/// Whether the subscriber is stopped.
+fn is_stopped<L: Ledger, T: Ledger, R: Host>(
     manager: &mut Loop<L, T, R>,
     id: SubscriberId,
-) -> bool {
-    match manager.subscriber_mut(id) {
-        Ok(subscriber) => subscriber.is_stopped,
-        Err(_) => true,
-    }
+) -> Result<bool> {
+    Ok(manager.subscriber_mut(id)?.is_stopped)
 }
 
-/// Runs until the subscriber stops the loop, within the limit of turns, and closes: how many tickets were issued and
-/// jobs taken.
-fn run_until_stopped<L: Ledger, T: Ledger, R: Wait + Clock + Clone + Send + Drop>(
-    rt: &R,
-    manager: Loop<L, T, R>,
-    id: SubscriberId,
-) -> (u64, u64) {
-    let mut manager = manager;
-    for _turn in 0..LIMIT {
-        let _ = manager.run_with_timeout(1, rt);
-        if is_stopped(&mut manager, id) {
-            break;
-        }
+/// Sets the value, reads it, and stops the subscriber, each by a job of a caller.
+fn call_thrice<L, T, R>(
+    rt: R,
+    alloc: Global,
+    manager: &mut Loop<L, T, R>,
+) -> std::result::Result<(), Fail>
+where
+    L: Ledger + Send + Sync + 'static,
+    T: Ledger + Send + Sync + 'static,
+    R: Host + 'static,
+{
+    let id = manager.add_subscriber(Stoppable {
+        value: 0,
+        is_stopped: false,
+    })?;
+    for (change, value) in [(Change::Set(7), 0), (Change::Read, 7), (Change::Stop, 7)] {
+        expect_same(&rt, &is_stopped(manager, id), &Ok(false));
+        expect_answer(rt, alloc, manager, Order { id, change }, value)?;
     }
-    let closed = manager.close(rt);
-    (closed.issued(), closed.taken())
+    expect_same(&rt, &is_stopped(manager, id), &Ok(true));
+    Ok(())
 }
 
-/// A caller beside the loop of a manager of these parts.
-fn call_beside_loop<L, T, R>(
+/// Callers of a manager of these parts.
+fn call_and_close<L, T, R>(
     rt: R,
     parts: OnTable<R>,
     tickets: Blank,
@@ -208,14 +162,9 @@ where
 {
     let alloc = parts.alloc;
     let mut manager = make::<Stoppable, Order, L, T, _>(parts, tickets, taken)?;
-    let id = manager.add_subscriber(Stoppable {
-        value: 0,
-        is_stopped: false,
-    })?;
-    let endpoint = manager.remote_endpoint()?.try_clone()?;
-    let caller = Caller::start(rt, alloc, endpoint, id)?;
-    expect_same(&rt, &run_until_stopped(&rt, manager, id), &(3, 3));
-    expect_same(&rt, &caller.replies(&rt), &Ok((0, 7)));
+    call_thrice(rt, alloc, &mut manager)?;
+    let closed = manager.close(&rt);
+    expect_same(&rt, &(closed.issued(), closed.taken()), &(3, 3));
     Ok(())
 }
 
@@ -225,5 +174,5 @@ fn a_caller_sets_and_reads_a_value_of_a_subscriber(
 ) -> std::result::Result<(), Fail> {
     let parts = on_table(rt, rt.alloc(), 0)?;
     let tickets = Blank::new(9223372036854775808);
-    call_beside_loop::<Brand, Brand, HostRuntime>(rt, parts, tickets, Blank::new(1))
+    call_and_close::<Brand, Brand, HostRuntime>(rt, parts, tickets, Blank::new(1))
 }

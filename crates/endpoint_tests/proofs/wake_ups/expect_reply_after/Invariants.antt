@@ -1,7 +1,0 @@
-use Rattle.endpoint_tests.proofs.wake_ups.expect_reply_after.Given as goal
-
-abbrev pub ghosts-expect_reply_by-L-Ledger : goal.ghosts-expect_reply_by-L-Ledger
-ghosts-expect_reply_by-L-Ledger g a = record { name = a.tickets.name; parts = a.tickets.parts }
-
-abbrev pub ghosts-expect_reply_by-T-Ledger : goal.ghosts-expect_reply_by-T-Ledger
-ghosts-expect_reply_by-T-Ledger g a = record { name = a.taken.name; parts = a.taken.parts }

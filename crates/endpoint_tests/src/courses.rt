@@ -1,0 +1,172 @@
+//! Courses of calls of a manager of idle subscribers and of its endpoint, each ended by a close.
+
+use crate::expecting::{expect_same, new_notes};
+use crate::making::{Idle, Parts, make, on_table};
+use crate::threads::{Host, Looping};
+use crate::work::{Notes, Work};
+use crate::{closes, queue, refusals, reports, sends};
+use event_manager::{
+    EventManager, EventPoller, RemoteEndpoint, Result, Ticket, WithLedgers, with_ledgers,
+};
+use std::alloc::Global;
+use std::sync::Arc;
+use std::sync::ledger::{Blank, Ledger};
+use std::test::Fail;
+use vmm_sys::eventfd::EventFd;
+
+/// What is done before the close.
+#[derive(Drop)]
+pub enum Course<'a> {
+    /// Nothing.
+    Nothing,
+    /// Two jobs are sent, and run.
+    TwoJobs,
+    /// Sends to a full counter, and after a run.
+    Full,
+    /// Sends to a counter that a send fills, and after a run.
+    NearlyFull,
+    /// Five thousand jobs are sent, and run.
+    Thousands,
+    /// Jobs are sent by an endpoint that is dropped, and run.
+    DroppedEndpoint,
+    /// Jobs are sent by two endpoints in turn, and run.
+    TwoEndpoints,
+    /// A job is sent and run whose write to this counter was read.
+    BehindRead(&'a EventFd),
+    /// A run with an event of the endpoint, and one without behind a kick that this counter keeps.
+    BehindKick(&'a EventFd),
+    /// Jobs are sent.
+    Waiting,
+}
+
+/// Follows the course.
+fn follow<L: Ledger, T: Ledger, P: EventPoller, R: Looping>(
+    rt: &R,
+    manager: &mut EventManager<Idle, Work, L, T, P>,
+    endpoint: &RemoteEndpoint<Idle, Work, L, T>,
+    notes: &Notes,
+    course: &Course<'_>,
+) -> std::result::Result<(), Fail> {
+    match course {
+        Course::Nothing => Ok(()),
+        Course::TwoJobs => sends::two_jobs(rt, manager, endpoint, notes),
+        Course::Full => refusals::full(rt, manager, endpoint),
+        Course::NearlyFull => refusals::nearly_full(rt, manager, endpoint),
+        Course::Thousands => queue::thousands(rt, manager, endpoint, notes),
+        Course::DroppedEndpoint => queue::dropped_endpoint(rt, manager, notes),
+        Course::TwoEndpoints => queue::two_endpoints(rt, manager, endpoint, notes),
+        Course::BehindRead(counter) => reports::behind_read(rt, manager, endpoint, notes, counter),
+        Course::BehindKick(counter) => reports::behind_kick(rt, manager, endpoint, counter),
+        Course::Waiting => closes::waiting(rt, endpoint, notes),
+    }
+}
+
+/// Sends one job more where jobs wait.
+fn send_more<L: Ledger, T: Ledger, R: Looping>(
+    rt: &R,
+    endpoint: &RemoteEndpoint<Idle, Work, L, T>,
+    course: &Course<'_>,
+) -> Result<Option<Ticket<L>>> {
+    match course {
+        Course::Waiting => Ok(Some(endpoint.fire(Work::Own(0), rt)?)),
+        _ => Ok(None),
+    }
+}
+
+/// Closes the manager, of which so many tickets were issued and so many jobs taken.
+pub fn expect_close<L: Ledger, T: Ledger, P: EventPoller + Drop, R: Looping>(
+    rt: &R,
+    manager: EventManager<Idle, Work, L, T, P>,
+    counts: (u64, u64),
+) {
+    let closed = manager.close(rt);
+    expect_same(rt, &(closed.issued(), closed.taken()), &counts);
+}
+
+/// Two endpoints of the manager.
+fn endpoints_of<L: Ledger, T: Ledger, P: EventPoller>(
+    manager: &EventManager<Idle, Work, L, T, P>,
+) -> Result<[RemoteEndpoint<Idle, Work, L, T>; 2]> {
+    Ok([manager.remote_endpoint()?, manager.remote_endpoint()?])
+}
+
+/// Follows the course by the first endpoint: the last ticket, if it may be shown.
+fn follow_and_send<L: Ledger, T: Ledger, P: EventPoller, R: Looping>(
+    rt: &R,
+    manager: &mut EventManager<Idle, Work, L, T, P>,
+    endpoints: &[RemoteEndpoint<Idle, Work, L, T>; 2],
+    notes: &Notes,
+    course: &Course<'_>,
+) -> std::result::Result<Option<Ticket<L>>, Fail> {
+    let [endpoint, _] = endpoints;
+    follow(rt, manager, endpoint, notes, course)?;
+    Ok(send_more(rt, endpoint, course)?)
+}
+
+/// A course, and the parts of its manager.
+struct Run<'a, R, P> {
+    rt: &'a R,
+    parts: Parts<P>,
+    notes: &'a Notes,
+    course: &'a Course<'a>,
+    counts: (u64, u64),
+}
+
+impl<R: Looping, P: EventPoller + Drop> WithLedgers for Run<'_, R, P> {
+    type Output = std::result::Result<(), Fail>;
+
+    fn run<L: Ledger + Send + Sync, T: Ledger + Send + Sync>(
+        self,
+        tickets: Blank,
+        taken: Blank,
+    ) -> std::result::Result<(), Fail> {
+        let Run {
+            rt,
+            parts,
+            notes,
+            course,
+            counts,
+        } = self;
+        let mut manager = make::<Idle, Work, L, T, P>(parts, tickets, taken)?;
+        let endpoints = endpoints_of(&manager)?;
+        let shown = follow_and_send(rt, &mut manager, &endpoints, notes, course)?;
+        expect_close(rt, manager, counts);
+        closes::expect_closed(rt, &endpoints, notes, &shown);
+        Ok(())
+    }
+}
+
+/// Runs the course over these parts, and closes: so many tickets must then be issued and jobs taken, no job be left, and
+/// each send be refused.
+pub fn expect_over<R: Looping, P: EventPoller + Drop>(
+    rt: &R,
+    parts: Parts<P>,
+    course: &Course<'_>,
+    counts: (u64, u64),
+) -> std::result::Result<(), Fail> {
+    let notes = new_notes(parts.alloc)?;
+    let run = Run {
+        rt,
+        parts,
+        notes: &notes,
+        course,
+        counts,
+    };
+    with_ledgers(run)
+}
+
+/// The same over a new table, where the endpoint's counter has this value.
+pub fn expect_course<R: Host>(
+    rt: R,
+    alloc: Global,
+    value: u64,
+    course: &Course<'_>,
+    counts: (u64, u64),
+) -> std::result::Result<(), Fail> {
+    expect_over(&rt, on_table(rt, alloc, value)?, course, counts)
+}
+
+/// Expects that nobody holds the notes but the test.
+pub fn expect_let_go<R: Looping>(rt: &R, notes: &Notes) {
+    expect_same(rt, &Arc::strong_count(notes), &1);
+}

@@ -1,0 +1,148 @@
+//! The loop's thread and a sender's, at a manager and an endpoint of it.
+
+ghost use Rattle.std.specs.Prelude.{◌≡◌};
+
+use crate::expecting::{expect_pending, new_notes};
+use crate::making::{Idle, OnTable, make, on_table};
+use crate::threads::Host;
+use crate::work::{Gate, Notes, Work};
+use crate::{closes, gated, looks};
+use event_manager::{EventManager, PlainPoller, RemoteEndpoint};
+use std::alloc::Global;
+use std::marker::Brand;
+use std::sync::Arc;
+use std::sync::atomic::AtomicBool;
+use std::sync::ledger::{Blank, Ledger};
+use std::test::Fail;
+use std::thread;
+use vmm_sys::epoll::Epoll;
+
+pub type Loop<L, T, R> = EventManager<Idle, Work, L, T, PlainPoller<Epoll<R>>>;
+
+pub type Sender<L, T> = RemoteEndpoint<Idle, Work, L, T>;
+
+/// What the two threads do.
+#[derive(Drop)]
+pub enum Kind {
+    /// One sends while a job of the other's waits at the gate.
+    AtGate,
+    /// One sends and is refused, and the other looks how many jobs wait.
+    LooksBesideSends,
+    /// One sends before and after the other closes.
+    CloseBesideSends,
+}
+
+/// What the two threads share.
+#[derive(Drop)]
+pub struct Shared {
+    pub gate: Arc<Gate>,
+    pub notes: Notes,
+    pub is_over: AtomicBool,
+}
+
+/// What comes before the two.
+fn prepare<L: Ledger, T: Ledger, R: Host>(
+    rt: &R,
+    endpoint: &Sender<L, T>,
+    shared: &Shared,
+    kind: &Kind,
+) -> Result<(), Fail> {
+    match kind {
+        Kind::AtGate => gated::fire_at_gate(rt, endpoint, shared),
+        Kind::LooksBesideSends => looks::fill(rt, endpoint),
+        Kind::CloseBesideSends => Ok(()),
+    }
+}
+
+/// What the loop's thread does.
+fn on_loop<L: Ledger, T: Ledger, R: Host>(
+    rt: &R,
+    manager: Loop<L, T, R>,
+    endpoint: &Sender<L, T>,
+    shared: &Shared,
+    kind: &Kind,
+) {
+    let mut manager = manager;
+    match kind {
+        Kind::AtGate => gated::run_twice(rt, &mut manager, shared),
+        Kind::LooksBesideSends => looks::look(rt, endpoint, shared),
+        Kind::CloseBesideSends => closes::close_on_two(rt, manager, endpoint),
+    }
+}
+
+/// What the sender's thread does.
+fn beside<L: Ledger, T: Ledger, R: Host>(
+    rt: &R,
+    endpoint: &Sender<L, T>,
+    shared: &Shared,
+    kind: &Kind,
+) {
+    match kind {
+        Kind::AtGate => gated::send_meanwhile(rt, endpoint, shared),
+        Kind::LooksBesideSends => looks::send_in_vain(rt, endpoint, shared),
+        Kind::CloseBesideSends => closes::send_round_a_close(rt, endpoint, shared),
+    }
+}
+
+/// What is so behind the two.
+fn expect_behind<L: Ledger, T: Ledger, R: Host>(rt: &R, endpoint: &Sender<L, T>, kind: &Kind) {
+    let pending = match kind {
+        Kind::LooksBesideSends => 1,
+        Kind::AtGate | Kind::CloseBesideSends => 0,
+    };
+    expect_pending(rt, endpoint, pending);
+}
+
+/// Both threads at once.
+fn join_both<L: Ledger + Send + Sync, T: Ledger + Send + Sync, R: Host>(
+    rt: &R,
+    manager: Loop<L, T, R>,
+    endpoint: &Sender<L, T>,
+    shared: &Shared,
+    kind: &Kind,
+) {
+    thread::join(
+        rt,
+        || on_loop(rt, manager, endpoint, shared, kind),
+        || beside(rt, endpoint, shared, kind),
+    );
+}
+
+/// Lets the two meet at a manager of these parts.
+fn meet_on<L: Ledger + Send + Sync, T: Ledger + Send + Sync, R: Host>(
+    rt: &R,
+    parts: OnTable<R>,
+    shared: &Shared,
+    kind: &Kind,
+    tickets: Blank,
+    taken: Blank,
+) -> Result<(), Fail>
+    requires tickets_name { tickets.name ≡ L.name }
+    requires tickets_parts { (tickets.parts ≡ L.parts) × (tickets.parts ≡ 9223372036854775808) }
+    requires taken_name { taken.name ≡ T.name }
+    requires taken_parts { (taken.parts ≡ T.parts) × (taken.parts ≡ 1) }
+{
+    let manager = make::<Idle, Work, L, T, _>(parts, tickets, taken)?;
+    let endpoint = manager.remote_endpoint()?;
+    prepare(rt, &endpoint, shared, kind)?;
+    join_both(rt, manager, &endpoint, shared, kind);
+    expect_behind(rt, &endpoint, kind);
+    Ok(())
+}
+
+/// What two threads share at first.
+fn new_shared(alloc: Global) -> Result<Shared, Fail> {
+    Ok(Shared {
+        gate: Arc::new(alloc, Gate::new())?,
+        notes: new_notes(alloc)?,
+        is_over: AtomicBool::new(false),
+    })
+}
+
+/// Lets the two meet at a new manager, whose endpoint's counter has this value.
+pub fn meet<R: Host>(rt: &R, alloc: Global, value: u64, kind: &Kind) -> Result<(), Fail> {
+    let shared = new_shared(alloc)?;
+    let parts = on_table(*rt, alloc, value)?;
+    let tickets = Blank::new(9223372036854775808);
+    meet_on::<Brand, Brand, R>(rt, parts, &shared, kind, tickets, Blank::new(1))
+}
