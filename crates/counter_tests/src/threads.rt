@@ -47,18 +47,63 @@ fn add_all<S: MutEventSubscriber + Drop, L: Ledger, T: Ledger, R: Host>(
     Ok(ids)
 }
 
+/// Lets one leave, to the others that left.
+fn remove_to<S: MutEventSubscriber + Drop, L: Ledger, T: Ledger, R: Host>(
+    manager: &mut Loop<S, L, T, R>,
+    id: SubscriberId,
+    left: &mut Vec<S>,
+) -> event_manager::Result<()> {
+    let subscriber = manager.remove_subscriber(id)?;
+    left.push(subscriber).map_err(no_memory)
+}
+
 /// Lets them leave: the subscribers.
 fn remove_all<S: MutEventSubscriber + Drop, L: Ledger, T: Ledger, R: Host>(
     alloc: Global,
     manager: &mut Loop<S, L, T, R>,
-    ids: Vec<SubscriberId>,
+    ids: &[SubscriberId],
 ) -> event_manager::Result<Vec<S>> {
     let mut left = Vec::new(alloc);
     for id in ids {
-        left.push(manager.remove_subscriber(id)?)
-            .map_err(no_memory)?;
+        remove_to(manager, *id, &mut left)?;
     }
     Ok(left)
+}
+
+/// The manager, after a second thread made a hundred runs with it.
+fn moved<S, L, T, R>(
+    rt: R,
+    manager: Loop<S, L, T, R>,
+    count: usize,
+) -> event_manager::Result<Loop<S, L, T, R>>
+where
+    S: MutEventSubscriber + Send + Drop + 'static,
+    L: Ledger + Send + Sync + 'static,
+    T: Ledger + Send + Sync + 'static,
+    R: Host,
+{
+    match thread::spawn(&rt, move || run_hundred(rt, manager, count)) {
+        Ok(runner) => Ok(runner.join(&rt)),
+        Err(e) => Err(no_memory(e)),
+    }
+}
+
+/// The subscribers, after a second thread made a hundred runs with the manager.
+fn move_and_leave<S, L, T, R>(
+    rt: R,
+    alloc: Global,
+    manager: Loop<S, L, T, R>,
+    ids: &[SubscriberId],
+    count: usize,
+) -> event_manager::Result<Vec<S>>
+where
+    S: MutEventSubscriber + Send + Drop + 'static,
+    L: Ledger + Send + Sync + 'static,
+    T: Ledger + Send + Sync + 'static,
+    R: Host,
+{
+    let mut manager = moved(rt, manager, count)?;
+    remove_all(alloc, &mut manager, ids)
 }
 
 /// As [`run_on_second_thread`], for any two ledgers.
@@ -83,9 +128,7 @@ where
     let alloc = parts.alloc;
     let mut manager = make::<S, L, T, _>(parts, tickets, taken)?;
     let ids = add_all(alloc, &mut manager, subscribers)?;
-    let runner = thread::spawn(&rt, move || run_hundred(rt, manager, count)).map_err(no_memory)?;
-    let mut manager = runner.join(&rt);
-    Ok(remove_all(alloc, &mut manager, ids)?)
+    Ok(move_and_leave(rt, alloc, manager, ids.as_slice(), count)?)
 }
 
 /// The subscribers, in order, after a manager of them was moved to a second thread and has made a hundred runs there,
