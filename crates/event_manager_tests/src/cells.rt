@@ -3,6 +3,7 @@
 use crate::counting::{
     Counting, SharedCounting, counting_on, served_twice, shared_counting, two_reports,
 };
+use crate::expecting::expect_same;
 use crate::runs::{Parts, WithManager, no_memory, run_alone, silent_parts, with_manager};
 use event_manager::{EventManager, EventPoller, Locked, NoJob, PlainPoller, SubscriberOps};
 use std::cell::RefCell;
@@ -25,14 +26,14 @@ fn count_in(cell: &RefCell<Counting>) -> Option<u64> {
 fn free_cell_is_called_and_left_free(rt: HostRuntime) -> Result<(), Fail> {
     let cell = Rc::new(rt.alloc(), RefCell::new(counting_on(3)))?;
     served_twice(rt, rt.alloc(), cell.clone()?)?;
-    assert_eq!(rt; count_in(&cell), Some(2));
+    expect_same(&rt, &count_in(&cell), &Some(2));
     Ok(())
 }
 
 #[test]
 fn owned_cell_is_called(rt: HostRuntime) -> Result<(), Fail> {
     let cell = served_twice(rt, rt.alloc(), RefCell::new(counting_on(3)))?;
-    assert_eq!(rt; count_in(&cell), Some(2));
+    expect_same(&rt, &count_in(&cell), &Some(2));
     Ok(())
 }
 
@@ -57,10 +58,10 @@ impl<R: Wait + Clock + Abort> WithManager for BusyThenFree<'_, R> {
         {
             let held = cell.try_borrow_mut();
             assert!(rt; held.is_ok());
-            assert_eq!(rt; manager.run(rt), Ok(1));
-            assert_eq!(rt; held.map(|counting| counting.count).ok(), Some(0));
+            expect_same(rt, &manager.run(rt), &Ok(1));
+            expect_same(rt, &held.map(|counting| counting.count).ok(), &Some(0));
         }
-        assert_eq!(rt; manager.run(rt), Ok(1));
+        expect_same(rt, &manager.run(rt), &Ok(1));
         Ok(())
     }
 }
@@ -74,7 +75,7 @@ fn busy_cell_skips_the_call(rt: HostRuntime) -> Result<(), Fail> {
     };
     let poller = PlainPoller(two_reports(rt.alloc())?);
     with_manager(silent_parts(rt, rt.alloc(), poller)?, body)?;
-    assert_eq!(rt; count_in(&cell), Some(1));
+    expect_same(&rt, &count_in(&cell), &Some(1));
     Ok(())
 }
 
@@ -112,7 +113,7 @@ impl<R: Wait + Clock + Abort + Drop> WithManager for Turns<'_, R> {
         turn.store(2, Ordering::SeqCst);
         for odd in [3, 5] {
             expect_turn(rt, turn, odd);
-            assert_eq!(rt; manager.run(rt), Ok(1));
+            expect_same(rt, &manager.run(rt), &Ok(1));
             turn.store(odd + 1, Ordering::SeqCst);
         }
         Ok(())
@@ -142,12 +143,16 @@ fn lock_is_waited_for_and_left_free(rt: HostRuntime) -> Result<(), Fail> {
         };
         turn.fetch_max(odd, Ordering::SeqCst);
         thread::sleep(&rt, Duration::from_millis(20));
-        assert_eq!(rt; turn.load(Ordering::SeqCst), odd);
+        expect_same(&rt, &turn.load(Ordering::SeqCst), &odd);
         drop(held);
         expect_turn(&rt, &turn, odd + 1);
     }
-    assert_eq!(rt; runner.join(&rt), Ok(()));
-    assert_eq!(rt; locked.mutex.try_lock().map(|held| held.count), Some(2));
+    expect_same(&rt, &runner.join(&rt), &Ok(()));
+    expect_same(
+        &rt,
+        &locked.mutex.try_lock().map(|held| held.count),
+        &Some(2),
+    );
     Ok(())
 }
 
@@ -173,7 +178,7 @@ fn subscriber_under_a_lock_counts_in_an_atomic(rt: HostRuntime) -> Result<(), Fa
     let parts = silent_parts(rt, rt.alloc(), PlainPoller(two_reports(rt.alloc())?))?;
     let runner = thread::spawn(&rt, move || serve_locked(rt, parts, locked, &theirs))?;
     expect_turn(&rt, &over, 1);
-    assert_eq!(rt; runner.join(&rt), Ok(()));
-    assert_eq!(rt; count.load(Ordering::SeqCst), 2);
+    expect_same(&rt, &runner.join(&rt), &Ok(()));
+    expect_same(&rt, &count.load(Ordering::SeqCst), &2);
     Ok(())
 }

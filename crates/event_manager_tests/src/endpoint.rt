@@ -1,5 +1,6 @@
 //! When the endpoint's counter is read.
 
+use crate::expecting::expect_same;
 use crate::log::Watcher;
 use crate::parts::{counter_at, script_of, script_of_words};
 use crate::runs::{Parts, Run, run_alone, run_over};
@@ -161,7 +162,7 @@ fn endpoint_is_read_after_the_deliveries(rt: HostRuntime) -> std::result::Result
         was_read: None,
     };
     let mut looking = run_alone(&rt, parts, looking, &[(None, Ok(3))])?;
-    assert_eq!(rt; looking.was_read, Some(false));
+    expect_same(&rt, &looking.was_read, &Some(false));
     assert!(rt; looking.probe.is_read());
     Ok(())
 }

@@ -1,60 +1,22 @@
 //! Events and their words.
 
+use crate::expecting::expect_same;
+use event_manager::events::are_equal;
 use event_manager::{Error, Events};
 use std::test::Fail;
-use vmm_sys::epoll::{AsRawFd, EventSet, RawFd};
+use vmm_sys::epoll::EventSet;
 use vmm_sys::errno::Errno;
-
-/// Has descriptor 12.
-struct Twelve;
-
-impl AsRawFd for Twelve {
-    ghost use Rattle.std.specs.Prelude.{pos};
-
-    ghost descriptor = { λ _. pos 12 };
-
-    fn as_raw_fd(&self) -> RawFd {
-        12
-    }
-}
 
 #[test]
 fn word_has_the_data_above_the_descriptor(rt: HostRuntime) {
-    let events = Events::with_data_raw(5, 42, EventSet::IN);
-    assert_eq!(rt; events.epoll_event().data(), 180388626437);
-    assert_eq!(rt; events.epoll_event().data(), 0x0000002a00000005);
-    assert_eq!(rt; events.epoll_event().events(), 1);
-    assert_eq!(rt; events.fd(), 5);
-    assert_eq!(rt; events.data(), 42);
-    let other = Events::with_data_raw(5, 43, EventSet::IN);
-    assert_eq!(rt; other.epoll_event().data(), 184683593733);
-    assert!(rt; events != other);
-    assert!(rt; event_manager::events::are_equal(&events, &events));
-}
-
-#[test]
-fn parts_come_back(rt: HostRuntime) {
-    for fd in [0, 1, 2147483647] {
-        for data in [0, 1, 4294967295] {
-            let events = Events::with_data_raw(fd, data, EventSet::all());
-            assert_eq!(rt; events.fd(), fd);
-            assert_eq!(rt; events.data(), data);
-            assert_eq!(rt; events.event_set(), EventSet::all());
-        }
+    for (data, word) in [(0, 5), (42, 180388626437), (43, 184683593733)] {
+        let events = Events::with_data_raw(5, data, EventSet::IN);
+        let entry = events.epoll_event();
+        expect_same(&rt, &(entry.data(), entry.events()), &(word, 1));
+        expect_same(&rt, &(events.fd(), events.data()), &(5, data));
+        let same = Events::with_data_raw(5, 42, EventSet::IN);
+        expect_same(&rt, &are_equal(&events, &same), &(data == 42));
     }
-}
-
-#[test]
-fn of_a_source(rt: HostRuntime) {
-    assert!(rt; Events::empty(&Twelve) == Events::empty_raw(12));
-    assert_eq!(rt; Events::empty(&Twelve).event_set(), EventSet::empty());
-    assert_eq!(rt; Events::empty(&Twelve).data(), 0);
-    assert_eq!(rt; Events::empty(&Twelve).fd(), 12);
-    assert!(rt; Events::new(&Twelve, EventSet::IN) == Events::new_raw(12, EventSet::IN));
-    assert_eq!(rt; Events::new(&Twelve, EventSet::IN).data(), 0);
-    let with_data = Events::with_data(&Twelve, 43, EventSet::IN);
-    assert!(rt; with_data == Events::with_data_raw(12, 43, EventSet::IN));
-    assert!(rt; with_data != Events::with_data_raw(12, 42, EventSet::IN));
 }
 
 #[test]
@@ -91,7 +53,7 @@ fn error_texts(rt: HostRuntime) -> Result<(), Fail> {
     ];
     for (error, expected) in table {
         let text = format!(in rt.alloc(); "{error}")?;
-        assert_eq!(rt; text.as_str(), expected);
+        expect_same(&rt, &text.as_str(), &expected);
     }
     Ok(())
 }

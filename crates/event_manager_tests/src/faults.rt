@@ -7,6 +7,7 @@ use event_manager::{
     Request, SubscriberOps,
 };
 use std::alloc::Global;
+use std::process::Abort;
 use std::sync::Wait;
 use std::sync::ledger::Ledger;
 use std::test::Fail;
@@ -146,19 +147,22 @@ fn seen_without() -> Seen {
     }
 }
 
-#[test]
-fn no_call_is_refused(rt: HostRuntime) -> Result<(), Fail> {
-    assert_eq!(rt;
-        seen_with(&rt, rt.alloc(), 0, Errno(22))?,
-        Ok(seen_without())
-    );
+/// Expects this where call number `at` is refused.
+fn expect_seen<R: Wait + Clock + Abort + Clone + Send + Drop>(
+    rt: &R,
+    alloc: Global,
+    at: u64,
+    errno: Errno,
+    expected: event_manager::Result<Seen>,
+) -> Result<(), Fail> {
+    let seen = seen_with(rt, alloc, at, errno)?;
+    assert_eq!(rt; seen, expected);
     Ok(())
 }
 
 #[test]
 fn making_of_the_manager_is_refused(rt: HostRuntime) -> Result<(), Fail> {
-    assert_eq!(rt; seen_with(&rt, rt.alloc(), 1, Errno(22))?, Err(FAULT));
-    Ok(())
+    expect_seen(&rt, rt.alloc(), 1, Errno(22), Err(FAULT))
 }
 
 #[test]
@@ -168,12 +172,11 @@ fn requests_of_a_join_are_refused(rt: HostRuntime) -> Result<(), Fail> {
     without_3.threes = 0;
     without_3.fours = 1;
     without_3.asked = [None; 2];
-    assert_eq!(rt; seen_with(&rt, rt.alloc(), 2, Errno(22))?, Ok(without_3));
+    expect_seen(&rt, rt.alloc(), 2, Errno(22), Ok(without_3))?;
     let mut without_4 = seen_without();
     without_4.added = [Some(Ok(())), Some(Err(FAULT))];
     without_4.asked = [Some(Err(Error::Epoll(Errno::ENOENT))), Some(Ok(()))];
-    assert_eq!(rt; seen_with(&rt, rt.alloc(), 3, Errno(22))?, Ok(without_4));
-    Ok(())
+    expect_seen(&rt, rt.alloc(), 3, Errno(22), Ok(without_4))
 }
 
 #[test]
@@ -182,7 +185,7 @@ fn a_refused_wait_loses_nothing(rt: HostRuntime) -> Result<(), Fail> {
         let mut seen = seen_without();
         seen.run = answer;
         seen.next_run = Some(Ok(2));
-        assert_eq!(rt; seen_with(&rt, rt.alloc(), 4, errno)?, Ok(seen));
+        expect_seen(&rt, rt.alloc(), 4, errno, Ok(seen))?;
     }
     Ok(())
 }
@@ -192,18 +195,17 @@ fn requests_at_an_event_are_refused(rt: HostRuntime) -> Result<(), Fail> {
     let mut with_4 = seen_without();
     with_4.asked = [Some(Err(FAULT)), Some(Ok(()))];
     with_4.fours = 1;
-    assert_eq!(rt; seen_with(&rt, rt.alloc(), 5, Errno(22))?, Ok(with_4));
+    expect_seen(&rt, rt.alloc(), 5, Errno(22), Ok(with_4))?;
     let mut without_6 = seen_without();
     without_6.asked = [Some(Ok(())), Some(Err(FAULT))];
-    assert_eq!(rt; seen_with(&rt, rt.alloc(), 6, Errno(22))?, Ok(without_6));
-    Ok(())
+    expect_seen(&rt, rt.alloc(), 6, Errno(22), Ok(without_6))
 }
 
 #[test]
 fn a_leave_frees_what_the_poller_refuses_to_delete(rt: HostRuntime) -> Result<(), Fail> {
-    assert_eq!(rt;
-        seen_with(&rt, rt.alloc(), 7, Errno(22))?,
-        Ok(seen_without())
-    );
+    // Call number 7 is a Delete of the leave; number 0 is no call.
+    for at in [0, 7] {
+        expect_seen(&rt, rt.alloc(), at, Errno(22), Ok(seen_without()))?;
+    }
     Ok(())
 }

@@ -1,5 +1,6 @@
 //! Subscribers of each form, over a script.
 
+use crate::expecting::expect_same;
 use crate::forms::{Boxable, Counting, Group, Leaving, Numbered, Renewing};
 use crate::parts::script_of_words;
 use crate::runs::{run_alone, silent_parts};
@@ -44,7 +45,11 @@ fn without_a_request_each_event_comes(rt: HostRuntime) -> Result<(), Fail> {
         own: own(),
         seen: 0,
     };
-    assert_eq!(rt; served(rt, rt.alloc(), EventSet::IN, 0, counting)?.seen, 2);
+    expect_same(
+        &rt,
+        &served(rt, rt.alloc(), EventSet::IN, 0, counting)?.seen,
+        &2,
+    );
     Ok(())
 }
 
@@ -54,15 +59,20 @@ fn a_request_may_depend_on_the_set(rt: HostRuntime) -> Result<(), Fail> {
         own: own(),
         seen: 0,
     };
-    assert_eq!(rt;
-        served(rt, rt.alloc(), EventSet::HANG_UP, 0, leaving)?.seen,
-        1
+    expect_same(
+        &rt,
+        &served(rt, rt.alloc(), EventSet::HANG_UP, 0, leaving)?.seen,
+        &1,
     );
     let staying = Leaving {
         own: own(),
         seen: 0,
     };
-    assert_eq!(rt; served(rt, rt.alloc(), EventSet::OUT, 0, staying)?.seen, 2);
+    expect_same(
+        &rt,
+        &served(rt, rt.alloc(), EventSet::OUT, 0, staying)?.seen,
+        &2,
+    );
     Ok(())
 }
 
@@ -72,12 +82,20 @@ fn a_request_may_depend_on_the_data(rt: HostRuntime) -> Result<(), Fail> {
         own: own(),
         seen: 0,
     };
-    assert_eq!(rt; served(rt, rt.alloc(), EventSet::IN, 0, leaving)?.seen, 1);
+    expect_same(
+        &rt,
+        &served(rt, rt.alloc(), EventSet::IN, 0, leaving)?.seen,
+        &1,
+    );
     let staying = Numbered {
         own: own(),
         seen: 0,
     };
-    assert_eq!(rt; served(rt, rt.alloc(), EventSet::IN, 1, staying)?.seen, 2);
+    expect_same(
+        &rt,
+        &served(rt, rt.alloc(), EventSet::IN, 1, staying)?.seen,
+        &2,
+    );
     Ok(())
 }
 
@@ -87,7 +105,11 @@ fn two_requests_are_made_in_order(rt: HostRuntime) -> Result<(), Fail> {
         own: own(),
         seen: 0,
     };
-    assert_eq!(rt; served(rt, rt.alloc(), EventSet::IN, 0, renewing)?.seen, 2);
+    expect_same(
+        &rt,
+        &served(rt, rt.alloc(), EventSet::IN, 0, renewing)?.seen,
+        &2,
+    );
     Ok(())
 }
 
@@ -101,7 +123,11 @@ fn a_list_of_requests_is_made(rt: HostRuntime) -> Result<(), Fail> {
         own: [own(), second, third],
         seen: 0,
     };
-    assert_eq!(rt; served(rt, rt.alloc(), EventSet::IN, 0, group)?.seen, 1);
+    expect_same(
+        &rt,
+        &served(rt, rt.alloc(), EventSet::IN, 0, group)?.seen,
+        &1,
+    );
     Ok(())
 }
 
@@ -114,6 +140,6 @@ fn a_boxed_subscriber_says_one_request_at_a_time(rt: HostRuntime) -> Result<(), 
     };
     let boxed: Box<dyn StepSubscriber + Send> = Box::new(rt.alloc(), boxable)?;
     served(rt, rt.alloc(), EventSet::HANG_UP, 0, BoxedSubscriber(boxed))?;
-    assert_eq!(rt; seen.load(Ordering::SeqCst), 1);
+    expect_same(&rt, &seen.load(Ordering::SeqCst), &1);
     Ok(())
 }

@@ -1,5 +1,6 @@
 //! Pollers that report what they like, and subscribers that ask for much in the middle of a batch.
 
+use crate::expecting::expect_same;
 use crate::parts::script_of;
 use crate::runs::{run_alone, silent_parts};
 use event_manager::{
@@ -67,7 +68,7 @@ fn each_wait_reports_another_number(rt: HostRuntime) -> Result<(), Fail> {
         count: 0,
     };
     let runs = [0, 1, 2, 3, 3].map(|count| (None, Ok(count)));
-    assert_eq!(rt; run_alone(&rt, parts, owner, &runs)?.count, 9);
+    expect_same(&rt, &run_alone(&rt, parts, owner, &runs)?.count, &9);
     Ok(())
 }
 
@@ -80,7 +81,7 @@ fn a_descriptor_left_at_its_first_of_256_events_has_no_other(rt: HostRuntime) ->
         count: 0,
     };
     let runs = [(None, Ok(256)), (None, Ok(0))];
-    assert_eq!(rt; run_alone(&rt, parts, owner, &runs)?.count, 1);
+    expect_same(&rt, &run_alone(&rt, parts, owner, &runs)?.count, &1);
     Ok(())
 }
 
@@ -159,10 +160,11 @@ fn a_thousand_requests_at_each_event_half_of_them_refused(rt: HostRuntime) -> Re
     let left = run_alone(&rt, parts, make_asking(alloc)?, &runs)?;
     let owned = Some(Error::FdAlreadyRegistered);
     let not_owned = Some(Error::Epoll(Errno::ENOENT));
-    assert_eq!(rt;
-        left.first_refusals,
-        [owned, not_owned, owned, not_owned, owned]
+    expect_same(
+        &rt,
+        &left.first_refusals,
+        &[owned, not_owned, owned, not_owned, owned],
     );
-    assert_eq!(rt; left.count, 5);
+    expect_same(&rt, &left.count, &5);
     Ok(())
 }

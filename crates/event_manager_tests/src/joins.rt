@@ -1,6 +1,7 @@
 //! Subscribers that come and go: their ids, and what becomes of an event of one that left.
 
 use crate::counting::{Counting, counting_on};
+use crate::expecting::expect_same;
 use crate::parts::script_of;
 use crate::runs::{WithManager, no_memory, silent_parts, with_manager};
 use event_manager::{
@@ -30,9 +31,22 @@ fn expect_count<S: SubscriberOps<Subscriber = Counting>, R: Abort>(
     id: SubscriberId,
 ) {
     match manager.subscriber_mut(id) {
-        Ok(counting) => assert_eq!(rt; counting.count, id.number()),
+        Ok(counting) => expect_same(rt, &counting.count, &id.number()),
         Err(_) => panic!(rt; "the subscriber is not there"),
     }
+}
+
+/// It leaves with its own number as its count, and can't leave again.
+fn expect_leave<S: SubscriberOps<Subscriber = Counting>, R: Abort>(
+    rt: &R,
+    manager: &mut S,
+    id: SubscriberId,
+) -> Result<()> {
+    let left = manager.remove_subscriber(id)?;
+    expect_same(rt, &left.count, &id.number());
+    let again = manager.remove_subscriber(id).err();
+    expect_same(rt, &again, &Some(Error::InvalidId));
+    Ok(())
 }
 
 impl<R: Abort> WithManager for Comings<'_, R> {
@@ -50,16 +64,10 @@ impl<R: Abort> WithManager for Comings<'_, R> {
             let mut newcomer = counting_on((number % 1000) as u16);
             newcomer.count = number;
             let id = manager.add_subscriber(newcomer)?;
-            assert_eq!(rt; id.number(), number);
+            expect_same(rt, &id.number(), &number);
             staying.push(id).map_err(no_memory)?;
             if staying.len() > STAYING {
-                let leaving = staying.remove(number as usize * 7 % STAYING);
-                let left = manager.remove_subscriber(leaving)?;
-                assert_eq!(rt; left.count, leaving.number());
-                assert_eq!(rt;
-                    manager.remove_subscriber(leaving).err(),
-                    Some(Error::InvalidId)
-                );
+                expect_leave(rt, manager, staying.remove(number as usize * 7 % STAYING))?;
             }
             for id in &staying {
                 expect_count(rt, manager, *id);
@@ -78,7 +86,7 @@ fn five_thousand_joins_and_leaves(rt: HostRuntime) -> std::result::Result<(), Fa
         alloc: rt.alloc(),
     };
     let staying = with_manager(parts, body)?;
-    assert_eq!(rt; staying.len(), STAYING);
+    expect_same(&rt, &staying.len(), &STAYING);
     let mut last = 0;
     for id in &staying {
         assert!(rt; last < id.number());
@@ -110,7 +118,7 @@ impl<R: Wait + Clock + Abort> WithManager for Replacing<'_, R> {
         let last = manager.add_subscriber(counting_on(5))?;
         manager.remove_subscriber(middle)?;
         let newcomer = manager.add_subscriber(newcomer)?;
-        assert_eq!(rt; manager.run(rt), Ok(3));
+        expect_same(rt, &manager.run(rt), &Ok(3));
         let first = manager.remove_subscriber(first)?;
         let last = manager.remove_subscriber(last)?;
         let newcomer = manager.remove_subscriber(newcomer)?;
@@ -136,13 +144,13 @@ where
 #[test]
 fn event_of_one_that_left_goes_to_nobody(rt: HostRuntime) -> std::result::Result<(), Fail> {
     let counts = counts_with(rt, rt.alloc(), counting_on(6))?;
-    assert_eq!(rt; counts, (1, 0, 1));
+    expect_same(&rt, &counts, &(1, 0, 1));
     Ok(())
 }
 
 #[test]
 fn event_of_one_that_left_goes_to_the_next_owner(rt: HostRuntime) -> std::result::Result<(), Fail> {
     let counts = counts_with(rt, rt.alloc(), counting_on(4))?;
-    assert_eq!(rt; counts, (1, 0, 1));
+    expect_same(&rt, &counts, &(1, 0, 1));
     Ok(())
 }

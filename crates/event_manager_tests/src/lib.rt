@@ -12,6 +12,8 @@ mod endpoint;
 #[cfg(test)]
 mod events;
 #[cfg(test)]
+mod expecting;
+#[cfg(test)]
 mod faults;
 #[cfg(test)]
 mod form_tests;

@@ -1,16 +1,12 @@
 //! A manager over the in-process table.
 
-use crate::log::{Log, got, make_watcher};
+use crate::log::{Log, got};
 use crate::runs::{Parts, run_alone, run_over};
-use event_manager::{
-    BoxedPoller, Error, EventOps, EventPoller, Events, MutEventSubscriber, PlainPoller,
-};
+use event_manager::{BoxedPoller, EventOps, EventPoller, Events, MutEventSubscriber, PlainPoller};
 use std::test::Fail;
-use vmm_sys::epoll::{AsRawFd, Epoll, EventSet};
-use vmm_sys::errno::Errno;
+use vmm_sys::epoll::{Epoll, EventSet};
 use vmm_sys::eventfd::EventFd;
 use vmm_sys::poller::Poller;
-use vmm_sys::table::Table;
 
 /// Wants `OUT` on one counter, and at its first event adds another.
 #[derive(Drop)]
@@ -76,27 +72,5 @@ fn endpoint_is_read_once_after_its_event(rt: HostRuntime) -> Result<(), Fail> {
     let parts = parts_of(rt, PlainPoller(epoll), endpoint);
     let runs = [(None, Ok(1)), (Some(0), Ok(0))];
     run_over::<Growing, _, _>(&rt, parts, Vec::new(rt.alloc()), &runs)?;
-    Ok(())
-}
-
-#[test]
-fn capacity_0_over_a_table(rt: HostRuntime) -> Result<(), Fail> {
-    let log = Log::new(rt.alloc())?;
-    let epoll = Epoll::new(rt, rt.alloc())?;
-    let endpoint = EventFd::new(&epoll, 0, &rt)?;
-    let mut table = Table::new(rt.alloc());
-    assert_eq!(rt; table.add_counter(0), Ok(endpoint.as_raw_fd()));
-    assert_eq!(rt; table.add_counter(1), Ok(1));
-    let own = Events::new_raw(1, EventSet::IN);
-    let watcher = make_watcher(rt.alloc(), &log, 1, own)?;
-    let mut parts = parts_of(rt, PlainPoller(table), endpoint);
-    parts.capacity = Some(0);
-    run_alone(
-        &rt,
-        parts,
-        watcher,
-        &[(None, Err(Error::Epoll(Errno::EINVAL)))],
-    )?;
-    assert!(rt; log.were(&[]));
     Ok(())
 }

@@ -1,5 +1,6 @@
 //! Many removals at one event, and descriptors at the ends of what a table by descriptor holds.
 
+use crate::expecting::expect_same;
 use crate::parts::counter_at;
 use crate::runs::{Parts, run_alone};
 use event_manager::{EventOps, EventPoller, Events, MutEventSubscriber, PlainPoller, Request};
@@ -103,7 +104,7 @@ fn descriptors_at_the_ends_are_removed_and_added_again(rt: HostRuntime) -> Resul
     // The first event of the second report cancels the three behind it.
     let runs = [(None, Ok(4)), (None, Ok(4)), (None, Ok(4))];
     let left = run_alone(&rt, parts, subscriber, &runs)?;
-    assert_eq!(rt; left.count, 9);
+    expect_same(&rt, &left.count, &9);
     assert!(rt; left.all_agreed);
     Ok(())
 }
@@ -119,7 +120,7 @@ fn two_hundred_removals_at_one_event(rt: HostRuntime) -> Result<(), Fail> {
     let subscriber = make_requesting(rt.alloc(), &fds, 1, false)?;
     let runs = [(None, Ok(200)), (None, Ok(200))];
     let left = run_alone(&rt, parts, subscriber, &runs)?;
-    assert_eq!(rt; left.count, 1);
+    expect_same(&rt, &left.count, &1);
     assert!(rt; left.all_agreed);
     Ok(())
 }

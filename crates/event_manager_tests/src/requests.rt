@@ -4,15 +4,15 @@ ghost use Rattle.std.specs.Prelude.{◌≡◌};
 ghost use Rattle.event_manager.specs.Registry.{Step};
 ghost use Rattle.event_manager.specs.LoopState.{HasStepped, IsRequest};
 
+use crate::expecting::expect_same;
 use crate::parts::{Control, Recorder};
-use crate::runs::{Parts, Runs, WithManager, silent_parts, with_manager};
+use crate::runs::{Parts, Runs, silent_parts, with_manager};
 use event_manager::{
-    Error, EventManager, EventOps, EventPoller, Events, MutEventSubscriber, NoJob, PlainPoller,
-    Request, Result, SubscriberId, SubscriberOps,
+    Error, EventOps, EventPoller, Events, MutEventSubscriber, PlainPoller, Request, Result,
+    SubscriberId, SubscriberOps,
 };
 use std::process::Abort;
 use std::sync::Wait;
-use std::sync::ledger::Ledger;
 use std::test::Fail;
 use std::time::Clock;
 use vmm_sys::epoll::{ControlOperation, EventSet};
@@ -65,19 +65,8 @@ pub fn expect_answers<O: SubscriberOps, R: Abort>(
     expected: &[(Request, Result<()>)],
 ) {
     for (request, answer) in expected {
-        assert_eq!(rt; ask(owner, id, *request), Ok(*answer));
+        expect_same(rt, &ask(owner, id, *request), &Ok(*answer));
     }
-}
-
-/// Every call with the id is refused.
-fn expect_unknown<O: SubscriberOps, R: Abort>(rt: &R, owner: &mut O, id: SubscriberId)
-where
-    O::Subscriber: Drop,
-{
-    let unknown = Some(Error::InvalidId);
-    assert_eq!(rt; owner.remove_subscriber(id).err(), unknown);
-    assert_eq!(rt; owner.subscriber_mut(id).err(), unknown);
-    assert_eq!(rt; ask(owner, id, Request::Add(wanted(3))).err(), unknown);
 }
 
 fn pair_of(first: u8, second: u8) -> Pair {
@@ -123,57 +112,6 @@ fn one_delete_each_in_ascending_order(rt: HostRuntime) -> std::result::Result<()
     Ok(())
 }
 
-/// The owner of 3 and 4 leaves beside a neighbour, which then asks for what has become free.
-#[derive(Drop)]
-struct Leaving<'a, R> {
-    rt: &'a R,
-}
-
-impl<R: Abort> WithManager for Leaving<'_, R> {
-    type Subscriber = Pair;
-
-    type Output = ();
-
-    fn run<L: Ledger, T: Ledger, P: EventPoller>(
-        self,
-        manager: &mut EventManager<Pair, NoJob, L, T, P>,
-    ) -> Result<()> {
-        let rt = self.rt;
-        let id = manager.add_subscriber(pair_of(3, 4))?;
-        let neighbour = manager.add_subscriber(pair_of(5, 6))?;
-        let taken = Err(Error::FdAlreadyRegistered);
-        let before = [
-            (Request::Add(wanted(3)), taken),
-            (Request::Add(wanted(4)), taken),
-        ];
-        expect_answers(rt, manager, neighbour, &before);
-
-        let left = manager.remove_subscriber(id)?;
-        assert_eq!(rt; (left.first, left.second), (3, 4));
-        // The leave used the refusal up.
-        let after = [
-            (Request::Add(wanted(5)), taken),
-            (Request::Add(wanted(6)), taken),
-            (Request::Add(wanted(3)), Ok(())),
-            (Request::Add(wanted(4)), Ok(())),
-            (Request::Remove(wanted(4)), Ok(())),
-        ];
-        expect_answers(rt, manager, neighbour, &after);
-        assert_eq!(rt; manager.add_subscriber(left)?.number(), 3);
-        expect_unknown(rt, manager, id);
-        Ok(())
-    }
-}
-
-#[test]
-fn leaving_frees_whatever_the_poller_answers(rt: HostRuntime) -> std::result::Result<(), Fail> {
-    let mut script = ScriptPoller::new(rt.alloc());
-    script.push_refusal(ControlOperation::Delete, 4, Errno(22))?;
-    let parts = silent_parts(rt, rt.alloc(), PlainPoller(script))?;
-    with_manager(parts, Leaving { rt: &rt })?;
-    Ok(())
-}
-
 /// The requests of a subscriber that owns 3 and 4 beside one that owns 5 and 6, and their answers from a poller that
 /// refuses the first Add of 7, the first Modify of 3 and the first Delete of 4.
 fn requests_and_answers() -> [(Request, Result<()>); 14] {
@@ -204,56 +142,4 @@ fn a_request_is_answered_by_the_table(rt: HostRuntime) -> std::result::Result<()
     script.push_refusal(ControlOperation::Delete, 4, Errno(22))?;
     let parts = silent_parts(rt, rt.alloc(), PlainPoller(script))?;
     request_and_leave(&rt, parts, &requests_and_answers())
-}
-
-/// The owner of 3 and 4 makes a list of requests, of which two are refused, and one that is agreed to.
-#[derive(Drop)]
-struct AskingInLists<'a, R> {
-    rt: &'a R,
-}
-
-impl<R: Abort> WithManager for AskingInLists<'_, R> {
-    type Subscriber = Pair;
-
-    type Output = ();
-
-    fn run<L: Ledger, T: Ledger, P: EventPoller>(
-        self,
-        manager: &mut EventManager<Pair, NoJob, L, T, P>,
-    ) -> Result<()> {
-        let rt = self.rt;
-        let (three, four, seven) = (wanted(3), wanted(4), wanted(7));
-        let id = manager.add_subscriber(pair_of(3, 4))?;
-        let refused = [
-            Request::Remove(three),
-            Request::Remove(four),
-            Request::Add(seven),
-        ];
-        let answer = manager.event_ops(id)?.request_all(&refused);
-        assert_eq!(rt; answer, Err(Error::Epoll(Errno(22))));
-        // The list used both refusals up, and added 7.
-        let after = [
-            (Request::Add(seven), Err(Error::FdAlreadyRegistered)),
-            (Request::Remove(three), Ok(())),
-            (Request::Remove(four), Ok(())),
-        ];
-        expect_answers(rt, manager, id, &after);
-        let agreed = [Request::Remove(seven), Request::Add(three)];
-        let answer = manager.event_ops(id)?.request_all(&agreed);
-        assert_eq!(rt; answer, Ok(()));
-        let taken = Err(Error::FdAlreadyRegistered);
-        expect_answers(rt, manager, id, &[(Request::Add(three), taken)]);
-        assert_eq!(rt; manager.event_ops(id)?.request_all(&[]), Ok(()));
-        Ok(())
-    }
-}
-
-#[test]
-fn a_list_of_requests_answers_its_first_refusal(rt: HostRuntime) -> std::result::Result<(), Fail> {
-    let mut script = ScriptPoller::new(rt.alloc());
-    script.push_refusal(ControlOperation::Delete, 3, Errno(22))?;
-    script.push_refusal(ControlOperation::Delete, 4, Errno(5))?;
-    let parts = silent_parts(rt, rt.alloc(), PlainPoller(script))?;
-    with_manager(parts, AskingInLists { rt: &rt })?;
-    Ok(())
 }

@@ -1,5 +1,6 @@
 //! Managers for one test each, and the runs that most tests make.
 
+use crate::expecting::expect_same;
 use crate::parts::silent_endpoint;
 use crate::requests::expect_answers;
 use event_manager::{
@@ -125,7 +126,7 @@ impl<R: Wait + Clock + Abort, S: MutEventSubscriber + Drop> WithManager for Runs
         for subscriber in subscribers {
             let id = manager.add_subscriber(subscriber)?;
             ids.push(id).map_err(no_memory)?;
-            assert_eq!(rt; id.number(), ids.len() as u64);
+            expect_same(rt, &id.number(), &(ids.len() as u64));
         }
         if let Some(id) = ids.first() {
             expect_answers(rt, manager, *id, requests);
@@ -135,7 +136,7 @@ impl<R: Wait + Clock + Abort, S: MutEventSubscriber + Drop> WithManager for Runs
                 Some(ms) => manager.run_with_timeout(*ms, rt),
                 None => manager.run(rt),
             };
-            assert_eq!(rt; ran, *answer);
+            expect_same(rt, &ran, answer);
         }
         let mut left = Vec::new(alloc);
         for id in ids {

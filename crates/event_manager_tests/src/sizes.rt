@@ -1,6 +1,7 @@
 //! Many descriptors, subscribers, requests and events: no call is refused for want of memory.
 
 use crate::counting::counting_on;
+use crate::expecting::expect_same;
 use crate::parts::{Control, Recorder, script_of};
 use crate::runs::{Runs, run_alone, run_over, silent_parts, with_manager};
 use event_manager::{BoxedSubscriber, Events, PlainPoller, Request, StepInput, StepSubscriber};
@@ -81,7 +82,7 @@ fn three_hundred_descriptors_of_one_subscriber(rt: HostRuntime) -> Result<(), Fa
     let parts = silent_parts(rt, rt.alloc(), recorder.try_clone()?)?;
     let grabbing = make_grabbing(rt.alloc(), true, &agreed)?;
     run_alone(&rt, parts, grabbing, &[(None, Ok(0))])?;
-    assert_eq!(rt; agreed.load(Ordering::SeqCst), 300);
+    expect_same(&rt, &agreed.load(Ordering::SeqCst), &300);
     assert!(rt; recorder.was_asked(&deletes(rt.alloc())?));
     Ok(())
 }
@@ -100,7 +101,7 @@ fn three_hundred_requests_at_one_event(rt: HostRuntime) -> Result<(), Fail> {
         runs: &[(None, Ok(1))],
     };
     with_manager(parts, body)?;
-    assert_eq!(rt; agreed.load(Ordering::SeqCst), 300);
+    expect_same(&rt, &agreed.load(Ordering::SeqCst), &300);
     Ok(())
 }
 
@@ -118,9 +119,9 @@ fn three_hundred_subscribers(rt: HostRuntime) -> Result<(), Fail> {
     let parts = silent_parts(rt, rt.alloc(), PlainPoller(script))?;
     // The rest of the report is more than the capacity has room for.
     let left = run_over(&rt, parts, subscribers, &[(None, Ok(256)), (None, Ok(44))])?;
-    assert_eq!(rt; left.len(), 300);
+    expect_same(&rt, &left.len(), &300);
     for counting in left {
-        assert_eq!(rt; counting.count, 1);
+        expect_same(&rt, &counting.count, &1);
     }
     Ok(())
 }
@@ -132,6 +133,6 @@ fn five_thousand_events_of_one_batch(rt: HostRuntime) -> Result<(), Fail> {
     let mut parts = silent_parts(rt, rt.alloc(), PlainPoller(script))?;
     parts.capacity = Some(100000);
     let left = run_alone(&rt, parts, counting_on(3), &[(None, Ok(5000))])?;
-    assert_eq!(rt; left.count, 5000);
+    expect_same(&rt, &left.count, &5000);
     Ok(())
 }

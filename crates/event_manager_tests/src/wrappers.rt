@@ -1,6 +1,7 @@
 //! Subscribers behind pointers, and one of two kinds.
 
 use crate::counting::{counting_on, served_twice, shared_counting};
+use crate::expecting::expect_same;
 use crate::log::{Log, got, make_watcher};
 use crate::parts::script_of;
 use crate::runs::{run_over, silent_parts};
@@ -16,14 +17,14 @@ fn shared_subscriber_is_called(rt: HostRuntime) -> Result<(), Fail> {
     let count = Arc::new(rt.alloc(), AtomicU64::new(0))?;
     let shared = Arc::new(rt.alloc(), shared_counting(&count)?)?;
     served_twice(rt, rt.alloc(), shared.clone()?)?;
-    assert_eq!(rt; shared.count.load(Ordering::SeqCst), 2);
+    expect_same(&rt, &shared.count.load(Ordering::SeqCst), &2);
     Ok(())
 }
 
 #[test]
 fn boxed_subscriber_is_called(rt: HostRuntime) -> Result<(), Fail> {
     let counting = Box::new(rt.alloc(), counting_on(3))?;
-    assert_eq!(rt; served_twice(rt, rt.alloc(), counting)?.count, 2);
+    expect_same(&rt, &served_twice(rt, rt.alloc(), counting)?.count, &2);
     Ok(())
 }
 
@@ -32,7 +33,7 @@ fn shared_subscriber_in_a_box_is_called(rt: HostRuntime) -> Result<(), Fail> {
     let count = Arc::new(rt.alloc(), AtomicU64::new(0))?;
     let shared = Box::new(rt.alloc(), shared_counting(&count)?)?;
     served_twice(rt, rt.alloc(), Rc::new(rt.alloc(), shared)?)?;
-    assert_eq!(rt; count.load(Ordering::SeqCst), 2);
+    expect_same(&rt, &count.load(Ordering::SeqCst), &2);
     Ok(())
 }
 
@@ -50,6 +51,6 @@ fn two_kinds_side_by_side(rt: HostRuntime) -> Result<(), Fail> {
         Some(Either::First(counting)) => Some(counting.count),
         _ => None,
     };
-    assert_eq!(rt; count, Some(1));
+    expect_same(&rt, &count, &Some(1));
     Ok(())
 }
