@@ -65,17 +65,50 @@ fn start<R: Threads, F: FnOnce() -> (u64, u64) + Send + Drop + 'static>(
     }
 }
 
-/// Calls the jobs one after another, and waits for the reply of each.
-fn call<L: Ledger, T: Ledger, R: Host>(endpoint: &Sender<L, T>, rt: &R) -> Result<(), Fault> {
+/// Calls a job, and waits for its reply.
+fn call_one<L: Ledger, T: Ledger, R: Host>(
+    endpoint: &Sender<L, T>,
+    number: u64,
+    rt: &R,
+) -> Result<(), Fault> {
     let name = CallName::CallBlocking;
+    let reply = again!(
+        name,
+        endpoint.call_blocking(Echo(number), rt),
+        endpoint.pending() == Some(0)
+    )?;
+    expect(name, reply == number)
+}
+
+/// Calls the jobs one after another.
+fn call<L: Ledger, T: Ledger, R: Host>(endpoint: &Sender<L, T>, rt: &R) -> Result<(), Fault> {
     for k in 0..CALLS {
-        let reply = again!(
-            name,
-            endpoint.call_blocking(Echo(k), rt),
-            endpoint.pending() == Some(0)
-        )?;
-        expect(name, reply == k)?;
+        call_one(endpoint, k, rt)?;
     }
+    Ok(())
+}
+
+/// A flag that isn't set, and another owner of it.
+fn make_flag(alloc: Global) -> Result<(Arc<AtomicBool>, Arc<AtomicBool>), Fault> {
+    let stopped = again!(CallName::Flag, Arc::new(alloc, AtomicBool::new(false)))?;
+    let theirs = again!(CallName::Flag, Arc::try_clone(&stopped))?;
+    Ok((stopped, theirs))
+}
+
+/// Calls jobs of the loop that another thread serves, and then ends that.
+fn call_and_stop<L: Ledger, T: Ledger, R: Host + Threads>(
+    endpoint: &Sender<L, T>,
+    stopped: &AtomicBool,
+    serving: JoinHandle<(u64, u64)>,
+    rt: &R,
+) -> Result<(), Fault> {
+    let called = call(endpoint, rt);
+    stopped.store(true, Ordering::SeqCst);
+    let kicked = endpoint.kick(rt);
+    let (issued, taken) = serving.join(rt);
+    called?;
+    named(CallName::Kick, kicked)?;
+    println!(rt; "call_blocking: {CALLS} replies, {issued} issued and {taken} taken")?;
     Ok(())
 }
 
@@ -119,18 +152,10 @@ where
 {
     let manager = make::<L, T, R>(alloc, on_table, tickets, taken)?;
     let endpoint = again!(CallName::RemoteEndpoint, manager.remote_endpoint())?;
-    let stopped = again!(CallName::Flag, Arc::new(alloc, AtomicBool::new(false)))?;
-    let theirs = again!(CallName::Flag, Arc::try_clone(&stopped))?;
+    let (stopped, theirs) = make_flag(alloc)?;
     let host = *rt;
     let serving = start(rt, move || serve(manager, &theirs, &host))?;
-    let called = call(&endpoint, rt);
-    stopped.store(true, Ordering::SeqCst);
-    let kicked = endpoint.kick(rt);
-    let (issued, taken) = serving.join(rt);
-    called?;
-    named(CallName::Kick, kicked)?;
-    println!(rt; "call_blocking: {CALLS} replies, {issued} issued and {taken} taken")?;
-    Ok(())
+    call_and_stop(&endpoint, &stopped, serving, rt)
 }
 
 /// As [`call_another_thread`], with ledgers of its own.

@@ -3,10 +3,10 @@
 use crate::call_name::CallName;
 use crate::descriptors::open_counter;
 use crate::fault::{Fault, Refusal, expect, named};
-use crate::host::{Host, Loop, mark};
+use crate::host::{Host, Loop, mark, tell};
 use crate::joins::{ask_with_priority, heard, join};
 use crate::making::{Body, Manager, open_table, over_table};
-use event_manager::{EventPoller, EventSet, Events, SubscriberId, SubscriberOps};
+use event_manager::{EventOps, EventPoller, EventSet, Events, SubscriberId, SubscriberOps};
 use std::alloc::Global;
 use std::sync::ledger::Ledger;
 use vmm_sys::eventfd::EventFd;
@@ -21,37 +21,64 @@ struct Bracketing<'a, R> {
 }
 
 impl<R: Loop> Bracketing<'_, R> {
-    /// Lends the subscriber, and its requests; modifies and removes its descriptor.
+    /// Runs: one event is reported, and the subscriber has then been given so many.
+    fn run_one<L: Ledger, T: Ledger, P: EventPoller>(
+        &self,
+        manager: &mut Manager<L, T, P>,
+        id: SubscriberId,
+        given: u64,
+    ) -> Result<(), Fault> {
+        mark(self.rt)?;
+        let ran = manager.run(self.rt);
+        mark(self.rt)?;
+        expect(CallName::Run, ran == Ok(1) && heard(manager, id)? == given)
+    }
+
+    /// Lends the subscriber.
+    fn lend<L: Ledger, T: Ledger, P: EventPoller>(
+        &self,
+        manager: &mut Manager<L, T, P>,
+        id: SubscriberId,
+    ) -> Result<(), Fault> {
+        mark(self.rt)?;
+        let lent = manager.subscriber_mut(id).is_ok();
+        mark(self.rt)?;
+        expect(CallName::SubscriberMut, lent)?;
+        tell(self.rt, "between marks: subscriber_mut")
+    }
+
+    /// Modifies and removes the descriptor.
+    fn change<P: EventPoller>(&self, ops: &mut EventOps<P>, own: Events) -> Result<(), Fault> {
+        let rt = self.rt;
+        mark(rt)?;
+        let modified = ops.modify(own);
+        mark(rt)?;
+        named(CallName::Modify, modified)?;
+        tell(rt, "between marks: modify")?;
+        mark(rt)?;
+        let removed = ops.remove(own);
+        mark(rt)?;
+        named(CallName::Remove, removed)?;
+        tell(rt, "between marks: remove")
+    }
+
+    /// Lends the subscriber's requests, and makes two.
     fn request<L: Ledger, T: Ledger, P: EventPoller>(
         &self,
         manager: &mut Manager<L, T, P>,
         id: SubscriberId,
         own: Events,
     ) -> Result<(), Fault> {
-        let rt = self.rt;
-        mark(rt)?;
-        let lent = manager.subscriber_mut(id).is_ok();
-        mark(rt)?;
-        expect(CallName::SubscriberMut, lent)?;
-        println!(rt; "between marks: subscriber_mut")?;
-        mark(rt)?;
-        let ops = match manager.event_ops(id) {
-            Ok(ops) => ops,
-            Err(error) => return Err(error.of_call(CallName::EventOps)),
-        };
-        mark(rt)?;
-        println!(rt; "between marks: event_ops")?;
-        mark(rt)?;
-        let modified = ops.modify(own);
-        mark(rt)?;
-        named(CallName::Modify, modified)?;
-        println!(rt; "between marks: modify")?;
-        mark(rt)?;
-        let removed = ops.remove(own);
-        mark(rt)?;
-        named(CallName::Remove, removed)?;
-        println!(rt; "between marks: remove")?;
-        Ok(())
+        mark(self.rt)?;
+        let lent = manager.event_ops(id);
+        mark(self.rt)?;
+        match lent {
+            Ok(ops) => {
+                tell(self.rt, "between marks: event_ops")?;
+                self.change(ops, own)
+            }
+            Err(error) => Err(error.of_call(CallName::EventOps)),
+        }
     }
 
     /// Adds the descriptor at a priority, runs, and removes it.
@@ -61,18 +88,44 @@ impl<R: Loop> Bracketing<'_, R> {
         id: SubscriberId,
         own: Events,
     ) -> Result<(), Fault> {
-        let rt = self.rt;
         ask_with_priority(manager, id, own)?;
-        println!(rt; "EventOps::add_with_priority: ok")?;
-        mark(rt)?;
-        let ran = manager.run(rt);
-        mark(rt)?;
-        expect(CallName::Run, ran == Ok(1) && heard(manager, id)? == 2)?;
-        println!(rt; "between marks: run with one event at a priority")?;
+        tell(self.rt, "EventOps::add_with_priority: ok")?;
+        self.run_one(manager, id, 2)?;
+        tell(self.rt, "between marks: run with one event at a priority")?;
         match manager.event_ops(id) {
             Ok(ops) => named(CallName::Remove, ops.remove(own)),
             Err(error) => Err(error.of_call(CallName::EventOps)),
         }
+    }
+
+    /// Lets the subscriber leave.
+    fn leave<L: Ledger, T: Ledger, P: EventPoller>(
+        &self,
+        manager: &mut Manager<L, T, P>,
+        id: SubscriberId,
+    ) -> Result<(), Fault> {
+        mark(self.rt)?;
+        let removed = manager.remove_subscriber(id);
+        mark(self.rt)?;
+        let _watcher = named(CallName::RemoveSubscriber, removed)?;
+        println!(self.rt; "between marks: remove_subscriber of id {}", id.number())?;
+        Ok(())
+    }
+
+    /// Makes the calls.
+    fn call_all<L: Ledger, T: Ledger, P: EventPoller>(
+        &self,
+        manager: &mut Manager<L, T, P>,
+    ) -> Result<(), Fault> {
+        let own = Events::new(self.counter, EventSet::IN);
+        let id = join(manager, own, self.alloc)?;
+        self.run_one(manager, id, 1)?;
+        tell(self.rt, "between marks: run with one event")?;
+        self.lend(manager, id)?;
+        self.request(manager, id, own)?;
+        self.run_with_priority(manager, id, own)?;
+        let last = join(manager, own, self.alloc)?;
+        self.leave(manager, last)
     }
 }
 
@@ -81,23 +134,8 @@ impl<R: Loop> Body for Bracketing<'_, R> {
         &self,
         manager: Manager<L, T, P>,
     ) -> Result<(), Fault> {
-        let (mut manager, rt) = (manager, self.rt);
-        let own = Events::new(self.counter, EventSet::IN);
-        let id = join(&mut manager, own, self.alloc)?;
-        mark(rt)?;
-        let ran = manager.run(rt);
-        mark(rt)?;
-        expect(CallName::Run, ran == Ok(1) && heard(&mut manager, id)? == 1)?;
-        println!(rt; "between marks: run with one event")?;
-        self.request(&mut manager, id, own)?;
-        self.run_with_priority(&mut manager, id, own)?;
-        let last = join(&mut manager, own, self.alloc)?;
-        mark(rt)?;
-        let removed = manager.remove_subscriber(last);
-        mark(rt)?;
-        let _watcher = named(CallName::RemoveSubscriber, removed)?;
-        println!(rt; "between marks: remove_subscriber of id {}", last.number())?;
-        Ok(())
+        let mut manager = manager;
+        self.call_all(&mut manager)
     }
 }
 

@@ -3,7 +3,7 @@
 use crate::again::again;
 use crate::call_name::CallName;
 use crate::fault::{Fault, expect, expect_unchanged, named};
-use crate::host::Host;
+use crate::host::{Host, tell};
 use std::alloc::Global;
 use vmm_sys::epoll::{AsRawFd, ControlOperation, Epoll, EpollEvent, EventSet, RawFd};
 use vmm_sys::errno::Errno;
@@ -75,22 +75,27 @@ fn open_in_turn<R: Host>(epoll: &mut Epoll<R>, rt: &R) -> Result<(), Fault> {
     Ok(())
 }
 
+/// Opens a counter and a line of the table, and copies each.
+fn open_and_copy<R: Host>(epoll: &mut Epoll<R>, rt: &R) -> Result<(), Fault> {
+    let counter = open_counter(epoll, 18, rt)?;
+    let other = again!(CallName::EventFdTryClone, counter.try_clone(), true)?;
+    println!(rt; "EventFd::try_clone: descriptor {}", other.as_raw_fd())?;
+    let line = open_line(epoll, 19, rt)?;
+    let other = again!(CallName::LineTryClone, line.try_clone(), true)?;
+    println!(rt; "Line::try_clone: descriptor {}", other.as_raw_fd())?;
+    Ok(())
+}
+
 /// Opens pollers, counters and lines, and copies each.
 pub fn open_descriptors<R: Host>(rt: &R, alloc: Global) -> Result<(), Fault> {
     let mut epoll = make_epoll(rt, alloc)?;
-    println!(rt; "Epoll::new: ok")?;
+    tell(rt, "Epoll::new: ok")?;
     open_in_turn(&mut epoll, rt)?;
     let mut copy = copy_epoll(&epoll)?;
     expect(
         CallName::EpollTryClone,
         is_unregistered(&mut copy, 17) && is_unopened(&mut copy, 18),
     )?;
-    println!(rt; "Epoll::try_clone: of the same table")?;
-    let counter = open_counter(&mut copy, 18, rt)?;
-    let other = again!(CallName::EventFdTryClone, counter.try_clone(), true)?;
-    println!(rt; "EventFd::try_clone: descriptor {}", other.as_raw_fd())?;
-    let line = open_line(&mut copy, 19, rt)?;
-    let other = again!(CallName::LineTryClone, line.try_clone(), true)?;
-    println!(rt; "Line::try_clone: descriptor {}", other.as_raw_fd())?;
-    Ok(())
+    tell(rt, "Epoll::try_clone: of the same table")?;
+    open_and_copy(&mut copy, rt)
 }

@@ -20,3 +20,9 @@ pub fn mark<R: Clock>(rt: &R) -> Result<(), Fault> {
     let _now = Instant::now(rt)?;
     Ok(())
 }
+
+/// Prints the line.
+pub fn tell<R: Print>(rt: &R, line: &str) -> Result<(), Fault> {
+    println!(rt; "{line}")?;
+    Ok(())
+}

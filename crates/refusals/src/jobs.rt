@@ -4,11 +4,11 @@ use crate::again::again;
 use crate::call_name::CallName;
 use crate::echo::Echo;
 use crate::fault::{Fault, expect, expect_unchanged, named};
-use crate::host::{Host, Loop, mark};
+use crate::host::{Host, Loop, mark, tell};
 use crate::making::{Body, Manager, copy_counter, open_table, over_table};
 use crate::watcher::Watcher;
 use event_manager::jobs::{Bell, JobQueue};
-use event_manager::{EventPoller, RemoteEndpoint, Ticket};
+use event_manager::{Closed, EventPoller, RemoteEndpoint, Ticket};
 use std::alloc::Global;
 use std::sync::Wait;
 use std::sync::ledger::Ledger;
@@ -90,6 +90,19 @@ impl<R: Loop> Sending<'_, R> {
         Ok(ticket)
     }
 
+    /// Sends two jobs more, the second by `fire_after` the first, where so many were sent.
+    fn send_two<L: Ledger, T: Ledger>(
+        &self,
+        endpoint: &Sender<L, T>,
+        sent: u64,
+        tickets: &mut Vec<Ticket<L>>,
+    ) -> Result<(), Fault> {
+        let fired = self.fire(endpoint, sent)?;
+        let after = self.fire_after(endpoint, &fired, sent.saturating_add(1))?;
+        named(CallName::ListTickets, tickets.push(fired))?;
+        named(CallName::ListTickets, tickets.push(after))
+    }
+
     /// Sends a job, and then the others by `fire` and by `fire_after` in turn; answers their tickets. So each of the two
     /// comes where the queue is full, and requests memory.
     fn send<L: Ledger, T: Ledger>(&self, endpoint: &Sender<L, T>) -> Result<Vec<Ticket<L>>, Fault> {
@@ -97,17 +110,14 @@ impl<R: Loop> Sending<'_, R> {
         let mut tickets = again!(name, Vec::with_capacity(self.alloc, 21))?;
         named(name, tickets.push(self.fire(endpoint, 0)?))?;
         for k in 0..COUNT {
-            let fired = self.fire(endpoint, 2 * k + 1)?;
-            let after = self.fire_after(endpoint, &fired, 2 * k + 2)?;
-            named(name, tickets.push(fired))?;
-            named(name, tickets.push(after))?;
+            self.send_two(endpoint, 2 * k + 1, &mut tickets)?;
         }
-        println!(self.rt; "fire: the last of 11 has ticket 20")?;
-        println!(self.rt; "fire_after: the last of 10 has ticket 21")?;
+        tell(self.rt, "fire: the last of 11 has ticket 20")?;
+        tell(self.rt, "fire_after: the last of 10 has ticket 21")?;
         Ok(tickets)
     }
 
-    /// Runs the jobs, kicks the loop, and runs it once more.
+    /// Runs the jobs.
     fn run_jobs<L: Ledger, T: Ledger, P: EventPoller>(
         &self,
         manager: &mut Manager<L, T, P>,
@@ -118,12 +128,21 @@ impl<R: Loop> Sending<'_, R> {
         let waiting = endpoint.pending();
         mark(rt)?;
         expect(CallName::Pending, waiting == Some(21))?;
-        println!(rt; "between marks: pending of 21 jobs")?;
+        tell(rt, "between marks: pending of 21 jobs")?;
         mark(rt)?;
         let ran = manager.run_with_timeout(0, rt);
         mark(rt)?;
         expect(CallName::Run, ran == Ok(1) && endpoint.pending() == Some(0))?;
-        println!(rt; "between marks: run of 21 jobs")?;
+        tell(rt, "between marks: run of 21 jobs")
+    }
+
+    /// Kicks the loop, and runs it once more.
+    fn kick<L: Ledger, T: Ledger, P: EventPoller>(
+        &self,
+        manager: &mut Manager<L, T, P>,
+        endpoint: &Sender<L, T>,
+    ) -> Result<(), Fault> {
+        let rt = self.rt;
         mark(rt)?;
         let kicked = endpoint.kick(rt);
         mark(rt)?;
@@ -131,8 +150,58 @@ impl<R: Loop> Sending<'_, R> {
             CallName::Kick,
             kicked == Ok(()) && manager.run_with_timeout(0, rt) == Ok(1),
         )?;
-        println!(rt; "between marks: kick")?;
-        Ok(())
+        tell(rt, "between marks: kick")
+    }
+
+    /// Another endpoint of the first one's manager.
+    fn copy_endpoint<L: Ledger, T: Ledger>(
+        &self,
+        first: &Sender<L, T>,
+    ) -> Result<Sender<L, T>, Fault> {
+        let endpoint = again!(CallName::RemoteEndpointTryClone, first.try_clone())?;
+        tell(self.rt, "RemoteEndpoint::try_clone: ok")?;
+        Ok(endpoint)
+    }
+
+    /// Sends jobs by a copy of the first endpoint and runs them, and sends another one; answers the tickets.
+    fn send_and_run<L: Ledger, T: Ledger, P: EventPoller>(
+        &self,
+        manager: &mut Manager<L, T, P>,
+        first: &Sender<L, T>,
+    ) -> Result<Vec<Ticket<L>>, Fault> {
+        tell(self.rt, "remote_endpoint: ok")?;
+        let endpoint = self.copy_endpoint(first)?;
+        let mut tickets = self.send(&endpoint)?;
+        self.run_jobs(manager, first)?;
+        self.kick(manager, first)?;
+        let last = self.fire_last(&endpoint)?;
+        again!(CallName::ListTickets, tickets.reserve(1))?;
+        named(CallName::ListTickets, tickets.push(last))?;
+        Ok(tickets)
+    }
+
+    /// Sends a job where none waits.
+    fn fire_last<L: Ledger, T: Ledger>(&self, endpoint: &Sender<L, T>) -> Result<Ticket<L>, Fault> {
+        again!(
+            CallName::Fire,
+            endpoint.fire(Echo(0), self.rt),
+            self.are_waiting(endpoint, 0)
+        )
+    }
+
+    /// Gathers the tickets of the closed manager.
+    fn gather<L: Ledger>(
+        &self,
+        closed: &mut Closed<L>,
+        tickets: &mut Vec<Ticket<L>>,
+    ) -> Result<(), Fault> {
+        let (issued, taken) = (closed.issued(), closed.taken());
+        println!(self.rt; "between marks: close with {issued} issued and {taken} taken")?;
+        mark(self.rt)?;
+        let gathered = closed.gather(tickets);
+        mark(self.rt)?;
+        expect(CallName::Gather, gathered)?;
+        tell(self.rt, "between marks: gather of 22 tickets")
     }
 }
 
@@ -142,31 +211,12 @@ impl<R: Loop> Body for Sending<'_, R> {
         manager: Manager<L, T, P>,
     ) -> Result<(), Fault> {
         let (mut manager, rt) = (manager, self.rt);
-        let first = again!(CallName::RemoteEndpoint, manager.remote_endpoint())?;
-        println!(rt; "remote_endpoint: ok")?;
-        let endpoint = again!(CallName::RemoteEndpointTryClone, first.try_clone())?;
-        println!(rt; "RemoteEndpoint::try_clone: ok")?;
-        let mut tickets = self.send(&endpoint)?;
-        self.run_jobs(&mut manager, &first)?;
-        let last = again!(
-            CallName::Fire,
-            endpoint.fire(Echo(0), rt),
-            self.are_waiting(&endpoint, 0)
-        )?;
+        let endpoint = again!(CallName::RemoteEndpoint, manager.remote_endpoint())?;
+        let mut tickets = self.send_and_run(&mut manager, &endpoint)?;
         mark(rt)?;
-        let closed = manager.close(rt);
+        let mut closed = manager.close(rt);
         mark(rt)?;
-        let (issued, taken) = (closed.issued(), closed.taken());
-        println!(rt; "between marks: close with {issued} issued and {taken} taken")?;
-        let mut closed = closed;
-        again!(CallName::ListTickets, tickets.reserve(1))?;
-        named(CallName::ListTickets, tickets.push(last))?;
-        mark(rt)?;
-        let gathered = closed.gather(&mut tickets);
-        mark(rt)?;
-        expect(CallName::Gather, gathered)?;
-        println!(rt; "between marks: gather of 22 tickets")?;
-        Ok(())
+        self.gather(&mut closed, &mut tickets)
     }
 }
 

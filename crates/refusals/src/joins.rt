@@ -180,6 +180,35 @@ impl<R: Loop> Joining<'_, R> {
         }
         Ok(())
     }
+
+    /// Takes the subscribers in, and answers the ids of the first and the last.
+    fn join_first_to_last<L: Ledger, T: Ledger, P: EventPoller>(
+        &self,
+        manager: &mut Manager<L, T, P>,
+    ) -> Result<(SubscriberId, SubscriberId), Fault> {
+        let ids = self.join_all(manager)?;
+        match (ids.first(), ids.last()) {
+            (Some(first), Some(last)) => Ok((*first, *last)),
+            _ => Err(Fault::Answer(CallName::AddSubscriber)),
+        }
+    }
+
+    /// Takes the subscribers in, and delivers an event of each descriptor.
+    fn join_and_run<L: Ledger, T: Ledger, P: EventPoller>(
+        &self,
+        manager: &mut Manager<L, T, P>,
+    ) -> Result<(), Fault> {
+        let (first, last) = self.join_first_to_last(manager)?;
+        self.ask_for_others(manager, first)?;
+        self.write_all()?;
+        let count = named(CallName::Run, manager.run_with_timeout(0, self.rt))?;
+        let by_first = heard(manager, first)?;
+        let by_last = heard(manager, last)?;
+        println!(self.rt;
+            "run: {count} events, {by_first} to the first and {by_last} to the last"
+        )?;
+        Ok(())
+    }
 }
 
 impl<R: Loop> Body for Joining<'_, R> {
@@ -187,18 +216,8 @@ impl<R: Loop> Body for Joining<'_, R> {
         &self,
         manager: Manager<L, T, P>,
     ) -> Result<(), Fault> {
-        let (mut manager, rt) = (manager, self.rt);
-        let ids = self.join_all(&mut manager)?;
-        let (Some(first), Some(last)) = (ids.first().copied(), ids.last().copied()) else {
-            return Err(Fault::Answer(CallName::AddSubscriber));
-        };
-        self.ask_for_others(&mut manager, first)?;
-        self.write_all()?;
-        let count = named(CallName::Run, manager.run_with_timeout(0, rt))?;
-        let by_first = heard(&mut manager, first)?;
-        let by_last = heard(&mut manager, last)?;
-        println!(rt; "run: {count} events, {by_first} to the first and {by_last} to the last")?;
-        Ok(())
+        let mut manager = manager;
+        self.join_and_run(&mut manager)
     }
 }
 

@@ -52,31 +52,60 @@ fn are_replies(replies: &[Reply<Watcher>]) -> bool {
     }
 }
 
+impl<R: Loop> Driving<'_, R> {
+    /// Makes the calls once.
+    fn drive_once<L: Ledger, T: Ledger, P: EventPoller>(
+        &self,
+        manager: &mut Manager<L, T, P>,
+        first: SubscriberId,
+        second: SubscriberId,
+        replies: &mut Vec<Reply<Watcher>>,
+    ) -> Result<event_manager::Result<()>, Fault> {
+        let calls = again!(CallName::ListCalls, self.calls(first, second))?;
+        Ok(drive(manager, calls, replies, self.rt))
+    }
+
+    /// Makes the calls, and looks at their replies.
+    fn drive_again<L: Ledger, T: Ledger, P: EventPoller>(
+        &self,
+        manager: &mut Manager<L, T, P>,
+        first: SubscriberId,
+        second: SubscriberId,
+        replies: &mut Vec<Reply<Watcher>>,
+    ) -> Result<(), Fault> {
+        again!(
+            CallName::Drive,
+            self.drive_once(manager, first, second, replies)?,
+            replies.is_empty() && heard(manager, first)? == 0
+        )?;
+        expect(
+            CallName::Drive,
+            are_replies(replies) && heard(manager, first)? == 1,
+        )
+    }
+
+    /// Takes two subscribers in, and makes the calls.
+    fn join_and_drive<L: Ledger, T: Ledger, P: EventPoller>(
+        &self,
+        manager: &mut Manager<L, T, P>,
+    ) -> Result<(), Fault> {
+        let (alloc, rt) = (self.alloc, self.rt);
+        let first = join(manager, Events::new_raw(1, EventSet::IN), alloc)?;
+        let second = join(manager, Events::new_raw(2, EventSet::IN), alloc)?;
+        let mut replies = Vec::new(alloc);
+        self.drive_again(manager, first, second, &mut replies)?;
+        println!(rt; "drive: {} replies", replies.len())?;
+        Ok(())
+    }
+}
+
 impl<R: Loop> Body for Driving<'_, R> {
     fn run<L: Ledger + Send + Sync, T: Ledger + Send + Sync, P: EventPoller + Drop>(
         &self,
         manager: Manager<L, T, P>,
     ) -> Result<(), Fault> {
-        let (mut manager, alloc, rt) = (manager, self.alloc, self.rt);
-        let first = join(&mut manager, Events::new_raw(1, EventSet::IN), alloc)?;
-        let second = join(&mut manager, Events::new_raw(2, EventSet::IN), alloc)?;
-        let mut replies = Vec::new(alloc);
-        again!(
-            CallName::Drive,
-            drive(
-                &mut manager,
-                again!(CallName::ListCalls, self.calls(first, second))?,
-                &mut replies,
-                rt
-            ),
-            replies.is_empty() && heard(&mut manager, first)? == 0
-        )?;
-        expect(
-            CallName::Drive,
-            are_replies(&replies) && heard(&mut manager, first)? == 1,
-        )?;
-        println!(rt; "drive: {} replies", replies.len())?;
-        Ok(())
+        let mut manager = manager;
+        self.join_and_drive(&mut manager)
     }
 }
 
@@ -105,13 +134,18 @@ fn is_outcome(outcome: &Outcome<char>) -> bool {
         && outcome.taken.as_slice() == [(1, 'a'), (2, 'b')].as_slice()
 }
 
+/// Does steps again on a new queue, once.
+fn replay_once<R: Host>(
+    rt: &R,
+    alloc: Global,
+) -> Result<event_manager::Result<Outcome<char>>, Fault> {
+    let steps = again!(CallName::ListSteps, steps(alloc))?;
+    Ok(replay(rt, alloc, steps))
+}
+
 /// Does steps again on a new queue.
 pub fn replay_steps<R: Host>(rt: &R, alloc: Global) -> Result<(), Fault> {
-    let steps_again = again!(
-        CallName::Replay,
-        replay(rt, alloc, again!(CallName::ListSteps, steps(alloc))?)
-    );
-    let outcome = steps_again?;
+    let outcome = again!(CallName::Replay, replay_once(rt, alloc)?)?;
     expect(CallName::Replay, is_outcome(&outcome))?;
     println!(rt;
         "replay: {} answers, {} taken",

@@ -70,6 +70,38 @@ impl<R: Loop> Removing<'_, R> {
         }
         Ok(id)
     }
+
+    /// Runs one of the batches.
+    fn run_batch<L: Ledger, T: Ledger, P: EventPoller>(
+        &self,
+        manager: &mut Manager<L, T, P>,
+        batch: &str,
+        remover: SubscriberId,
+        other: SubscriberId,
+    ) -> Result<(), Fault> {
+        mark(self.rt)?;
+        let ran = manager.run_with_timeout(0, self.rt);
+        mark(self.rt)?;
+        let count = named(CallName::Run, ran)?;
+        let by_remover = heard(manager, remover)?;
+        let by_other = heard(manager, other)?;
+        println!(self.rt;
+            "between marks: {batch} of {count}, with {REMOVED} removals: {by_remover} to the remover, {by_other} to the other"
+        )?;
+        Ok(())
+    }
+
+    /// Runs both batches.
+    fn run_both<L: Ledger, T: Ledger, P: EventPoller>(
+        &self,
+        manager: &mut Manager<L, T, P>,
+    ) -> Result<(), Fault> {
+        let remover = self.join_remover(manager)?;
+        let own = Events::new_raw(OTHER, EventSet::IN);
+        let other = join(manager, own, self.alloc)?;
+        self.run_batch(manager, "the first batch", remover, other)?;
+        self.run_batch(manager, "the second batch", remover, other)
+    }
 }
 
 impl<R: Loop> Body for Removing<'_, R> {
@@ -77,27 +109,8 @@ impl<R: Loop> Body for Removing<'_, R> {
         &self,
         manager: Manager<L, T, P>,
     ) -> Result<(), Fault> {
-        let (mut manager, rt) = (manager, self.rt);
-        let remover = self.join_remover(&mut manager)?;
-        let other = join(
-            &mut manager,
-            Events::new_raw(OTHER, EventSet::IN),
-            self.alloc,
-        )?;
-        for batch in ["the first batch", "the second batch"] {
-            mark(rt)?;
-            let ran = manager.run_with_timeout(0, rt);
-            mark(rt)?;
-            let count = named(CallName::Run, ran)?;
-            let (by_remover, by_other) = (
-                heard(&mut manager, remover)?,
-                heard(&mut manager, other)?,
-            );
-            println!(rt;
-                "between marks: {batch} of {count}, with {REMOVED} removals: {by_remover} to the remover, {by_other} to the other"
-            )?;
-        }
-        Ok(())
+        let mut manager = manager;
+        self.run_both(&mut manager)
     }
 }
 

@@ -3,7 +3,7 @@
 use crate::again::again;
 use crate::call_name::CallName;
 use crate::fault::{Fault, expect, expect_unchanged, named};
-use crate::host::{Host, mark};
+use crate::host::{Host, mark, tell};
 use std::alloc::Global;
 use vmm_sys::epoll::{ControlOperation, EpollEvent, EventSet, RawFd};
 use vmm_sys::errno::Errno;
@@ -19,36 +19,47 @@ pub fn event_of(fd: RawFd) -> EpollEvent {
     EpollEvent::new(EventSet::IN, fd.unsigned_abs() as u64)
 }
 
+/// Opens a counter of value 1, whose descriptor must be this one.
+fn open_counter(table: &mut Table, counter: RawFd) -> Result<(), Fault> {
+    let name = CallName::AddCounter;
+    let unopened = table.write(counter, 0) == Err(Errno::EBADF);
+    let fd = again!(
+        name,
+        table.add_counter(1),
+        table.write(counter, 0) == Err(Errno::EBADF)
+    )?;
+    expect(
+        name,
+        unopened && fd == counter && table.write(fd, 0) == Ok(()),
+    )
+}
+
+/// Opens a line, whose descriptor must be this one.
+fn open_line(table: &mut Table, line: RawFd) -> Result<(), Fault> {
+    let name = CallName::AddLine;
+    let set = EventSet::empty();
+    let fd = again!(
+        name,
+        table.add_line(),
+        table.set_line(line, set) == Err(Errno::EBADF)
+    )?;
+    expect(name, fd == line && table.set_line(fd, set) == Ok(()))
+}
+
+fn register(table: &mut Table, fd: RawFd) -> Result<(), Fault> {
+    let registered = table.ctl(ControlOperation::Add, fd, event_of(fd));
+    named(CallName::TableCtl, registered)
+}
+
 /// Opens counters of value 1 and lines in turn, and registers each.
 fn fill(table: &mut Table) -> Result<(), Fault> {
     for k in 0..COUNT {
         let counter = 2 * k as RawFd;
         let line = counter + 1;
-        let name = CallName::AddCounter;
-        let unopened = table.write(counter, 0) == Err(Errno::EBADF);
-        let fd = again!(
-            name,
-            table.add_counter(1),
-            table.write(counter, 0) == Err(Errno::EBADF)
-        )?;
-        expect(
-            name,
-            unopened && fd == counter && table.write(fd, 0) == Ok(()),
-        )?;
-        let name = CallName::AddLine;
-        let set = EventSet::empty();
-        let fd = again!(
-            name,
-            table.add_line(),
-            table.set_line(line, set) == Err(Errno::EBADF)
-        )?;
-        expect(name, fd == line && table.set_line(fd, set) == Ok(()))?;
-        for fd in [counter, line] {
-            named(
-                CallName::TableCtl,
-                table.ctl(ControlOperation::Add, fd, event_of(fd)),
-            )?;
-        }
+        open_counter(table, counter)?;
+        open_line(table, line)?;
+        register(table, counter)?;
+        register(table, line)?;
     }
     Ok(())
 }
@@ -57,8 +68,8 @@ fn fill(table: &mut Table) -> Result<(), Fault> {
 pub fn wait_on_a_table<R: Host>(rt: &R, alloc: Global) -> Result<(), Fault> {
     let mut table = Table::new(alloc);
     fill(&mut table)?;
-    println!(rt; "add_counter: the last of 9 is descriptor 16")?;
-    println!(rt; "add_line: the last of 9 is descriptor 17")?;
+    tell(rt, "add_counter: the last of 9 is descriptor 16")?;
+    tell(rt, "add_line: the last of 9 is descriptor 17")?;
     let mut buffer = [event_of(0); 16];
     mark(rt)?;
     let waited = table.wait(&mut buffer);
@@ -114,23 +125,26 @@ fn answers_as_pushed(script: &mut ScriptPoller) -> bool {
     script.wait(0, &mut buffer) == Ok(0)
 }
 
+/// Pushes a fault, a report of the descriptor and a refusal of it.
+fn push_three(script: &mut ScriptPoller, fd: RawFd, alloc: Global) -> Result<(), Fault> {
+    again!(CallName::PushFault, script.push_fault(Errno::EINTR), true)?;
+    push_report(script, &[event_of(fd)], alloc)?;
+    let op = ControlOperation::Add;
+    again!(
+        CallName::PushRefusal,
+        script.push_refusal(op, fd, Errno(fd)),
+        true
+    )
+}
+
 /// Pushes faults, reports and refusals in turn. A refused push would show in the answers, which are then taken.
 pub fn push_a_script<R: Host>(rt: &R, alloc: Global) -> Result<(), Fault> {
     let mut script = ScriptPoller::new(alloc);
     for k in 0..COUNT {
-        let fd = k as RawFd;
-        again!(CallName::PushFault, script.push_fault(Errno::EINTR), true)?;
-        push_report(&mut script, &[event_of(fd)], alloc)?;
-        let op = ControlOperation::Add;
-        again!(
-            CallName::PushRefusal,
-            script.push_refusal(op, fd, Errno(fd)),
-            true
-        )?;
+        push_three(&mut script, k as RawFd, alloc)?;
     }
     expect(CallName::PushedScript, answers_as_pushed(&mut script))?;
-    println!(rt; "push_fault: 9 answered")?;
-    println!(rt; "push_report: 9 answered")?;
-    println!(rt; "push_refusal: 9 answered")?;
-    Ok(())
+    tell(rt, "push_fault: 9 answered")?;
+    tell(rt, "push_report: 9 answered")?;
+    tell(rt, "push_refusal: 9 answered")
 }
