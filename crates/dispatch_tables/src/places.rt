@@ -217,6 +217,3 @@ impl<S> SubscriberPlaces<S> {
         }
     }
 }
-
-#[cfg(test)]
-mod tests;

@@ -31,6 +31,8 @@ mod making;
 #[cfg(test)]
 mod parts;
 #[cfg(test)]
+mod places;
+#[cfg(test)]
 mod real_parts;
 #[cfg(test)]
 mod removals;
@@ -40,5 +42,7 @@ mod requests;
 mod runs;
 #[cfg(test)]
 mod sizes;
+#[cfg(test)]
+mod tickets;
 #[cfg(test)]
 mod wrappers;

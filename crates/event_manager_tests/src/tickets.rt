@@ -1,8 +1,8 @@
 //! Tickets and counts over ledgers that a body is given.
 
-use crate::ledgers::{WithLedgers, with_ledgers};
-use crate::taken::open;
-use crate::tickets::{Register, Ticket};
+use job_tickets::ledgers::{WithLedgers, with_ledgers};
+use job_tickets::taken::open;
+use job_tickets::tickets::{Register, Ticket};
 use std::alloc::Global;
 use std::sync::ledger::{Blank, Ledger};
 use std::test::Fail;

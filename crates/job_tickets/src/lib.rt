@@ -8,7 +8,5 @@
 
 pub mod ledgers;
 pub mod taken;
-#[cfg(test)]
-mod tests;
 pub mod tickets;
 mod weights;

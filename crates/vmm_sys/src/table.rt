@@ -109,18 +109,6 @@ impl Table {
         }
     }
 
-    /// A table that may open this many descriptors, for tests of where the numbers end.
-    #[cfg(test)]
-    pub(crate) fn with_limit(alloc: Global, limit: usize) -> Table
-        requires { limit ≤ 2 ^ 31 }
-    {
-        Table {
-            sources: Vec::new(alloc),
-            interests: Interests::new(alloc),
-            limit,
-        }
-    }
-
     fn open(&mut self, source: Source) -> Result<RawFd, Errno>
         ensures { AnswersWithMemory (open_of self.old source) self.old result self.new }
     {
@@ -435,6 +423,3 @@ pub fn service_bound()
     ensures within_rooms { ReportedWithinRooms }
     ensures within_waits { ReportedWithinWaits }
 {}
-
-#[cfg(test)]
-mod tests;
