@@ -1,11 +1,9 @@
-//! Copies of counters and lines, and descriptors behind references and pointers.
+//! Copies of counters and lines.
 
 use crate::fixture::{entry, want};
 use crate::waiter::no_event;
-use std::rc::Rc;
-use std::sync::Arc;
 use std::test::Fail;
-use vmm_sys::epoll::{AsRawFd, Epoll, EventSet, RawFd};
+use vmm_sys::epoll::{AsRawFd, Epoll, EventSet};
 use vmm_sys::eventfd::EventFd;
 use vmm_sys::line::Line;
 use vmm_sys::poller::Poller;
@@ -36,25 +34,5 @@ fn what_a_copy_of_a_line_sets_is_reported(rt: HostRuntime) -> Result<(), Fail> {
     let mut buffer = [no_event()];
     assert_eq!(rt; epoll.wait(0, &mut buffer), Ok(1));
     assert_eq!(rt; buffer, [entry(&line, EventSet::IN)]);
-    Ok(())
-}
-
-fn descriptor_of<D: AsRawFd>(source: &D) -> RawFd {
-    source.as_raw_fd()
-}
-
-#[test]
-fn a_descriptor_is_the_same_behind_a_pointer(rt: HostRuntime) -> Result<(), Fail> {
-    let epoll = Epoll::new(rt, rt.alloc())?;
-    Line::new(&epoll, &rt)?;
-    let counter = EventFd::new(&epoll, 0, &rt)?;
-    let shared = Arc::new(rt.alloc(), counter.try_clone()?)?;
-    let counted = Rc::new(rt.alloc(), counter.try_clone()?)?;
-    let boxed = Box::new(rt.alloc(), counter.try_clone()?)?;
-    assert_eq!(rt; descriptor_of(&counter), 1);
-    assert_eq!(rt; descriptor_of(&&counter), 1);
-    assert_eq!(rt; descriptor_of(&shared), 1);
-    assert_eq!(rt; descriptor_of(&counted), 1);
-    assert_eq!(rt; descriptor_of(&boxed), 1);
     Ok(())
 }

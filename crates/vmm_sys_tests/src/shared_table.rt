@@ -80,16 +80,6 @@ fn changes_of_interests(rt: HostRuntime) -> Result<(), Fail> {
 }
 
 #[test]
-fn a_buffer_without_room_is_refused(rt: HostRuntime) -> Result<(), Fail> {
-    let epoll = Epoll::new(rt, rt.alloc())?;
-    for ms in [-1, 0, 60_000] {
-        let waiter = Waiter::start_with_room(rt, rt.alloc(), &epoll, ms, 0)?;
-        assert_eq!(rt; waiter.report(&rt).answer, Err(Errno::EINVAL));
-    }
-    Ok(())
-}
-
-#[test]
 fn those_reported_go_to_the_back(rt: HostRuntime) -> Result<(), Fail> {
     for ms in [-1, 0, 60_000] {
         expect_order_of_service(rt, rt.alloc(), ms)?;
