@@ -5,7 +5,6 @@ ghost use Rattle.std.specs.Prelude.{◌≤◌, length, IfOk};
 use super::*;
 use std::alloc::AllocError;
 use std::cell::RefCell;
-use std::fmt::Write as _;
 use std::io;
 use std::io::{ErrorKind, Write};
 use std::process::Abort;
@@ -153,15 +152,6 @@ fn writes<R: Abort + Wait + Clock + AllocGlobal + Clone + Send + Drop>(
 }
 
 #[test]
-fn an_empty_set_on_descriptor_0_is_delivered(rt: HostRuntime) -> Result<(), Fail> {
-    writes(
-        &rt,
-        "sub a add 0 - 0\nbatch 0:-:0\nrun\n",
-        "reply a add 0: ok\nsub a: 1\ndeliver a 0 - 0\nrun: 1\n",
-    )
-}
-
-#[test]
 fn an_owned_descriptor_is_refused_to_another(rt: HostRuntime) -> Result<(), Fail> {
     writes(
         &rt,
@@ -185,67 +175,6 @@ fn requests_are_checked_in_order(rt: HostRuntime) -> Result<(), Fail> {
 }
 
 #[test]
-fn events_of_nobody_and_interrupted_waits_are_counted(rt: HostRuntime) -> Result<(), Fail> {
-    writes(
-        &rt,
-        "batch -1:IN:0 9:IN:0\nintr\nbatch\nrun\nrun\nrun\n",
-        "run: 2\nrun: 0\nrun: 0\n",
-    )
-}
-
-#[test]
-fn an_empty_script_writes_nothing(rt: HostRuntime) -> Result<(), Fail> {
-    writes(&rt, "", "")
-}
-
-#[test]
-fn descriptors_removed_and_added_again_have_no_event_left(rt: HostRuntime) -> Result<(), Fail> {
-    writes(
-        &rt,
-        "sub a add 3 IN 0 add 4 IN 0\nsub b add 5 IN 0\non a 3 remove 3 remove 4 add 4 IN 1 add 3 IN 1\nbatch 4:IN:0 3:IN:0 4:IN:0 3:IN:0 -5:IN:0 7:OUT:2 9:ERROR:0 9:IN:0 5:IN:0\nrun\n",
-        "reply a add 3: ok\nreply a add 4: ok\nsub a: 1\nreply b add 5: ok\nsub b: 2\ndeliver a 4 IN 0\ndeliver a 3 IN 0\nreply a remove 3: ok\nreply a remove 4: ok\nreply a add 4: ok\nreply a add 3: ok\ndeliver b 5 IN 0\nrun: 9\n",
-    )
-}
-
-#[test]
-fn a_removed_descriptor_of_another_owner_is_served_by_the_next_run(
-    rt: HostRuntime,
-) -> Result<(), Fail> {
-    writes(
-        &rt,
-        "sub a add 3 IN 0 add 4 IN 0\nsub b add 5 IN 0\non a 3 remove 4\non b 5 add 4 OUT 9\nbatch 3:IN:0 5:IN:0 4:IN:0\nbatch 4:OUT:9\nrun\nrun\n",
-        "reply a add 3: ok\nreply a add 4: ok\nsub a: 1\nreply b add 5: ok\nsub b: 2\ndeliver a 3 IN 0\nreply a remove 4: ok\ndeliver b 5 IN 0\nreply b add 4: ok\nrun: 3\ndeliver b 4 OUT 9\nrun: 1\n",
-    )
-}
-
-#[test]
-fn refusals_are_used_once(rt: HostRuntime) -> Result<(), Fail> {
-    writes(
-        &rt,
-        "sub a add 3 IN 0\nrefuse modify 3 22\nask a modify 3 OUT 5 modify 3 OUT 6 remove 3 remove 3\nbatch 3:OUT:6\nrun\n",
-        "reply a add 3: ok\nsub a: 1\nreply a modify 3: event_manager: failed to manage epoll file descriptor: os error 22\nreply a modify 3: ok\nreply a remove 3: ok\nreply a remove 3: event_manager: failed to manage epoll file descriptor: os error 2\nrun: 1\n",
-    )?;
-    writes(
-        &rt,
-        "refuse add 3 12\nsub a add 3 IN 0 add 3 IN 0\n",
-        "reply a add 3: event_manager: failed to manage epoll file descriptor: os error 12\nreply a add 3: ok\nsub a: 1\n",
-    )
-}
-
-#[test]
-fn a_long_report_takes_two_runs(rt: HostRuntime) -> Result<(), Fail> {
-    let alloc = rt.alloc();
-    let mut script = repeated(alloc, "sub a add 3 IN 0\nbatch", " 3:IN:0", 300)?;
-    script.push_str("\nrun\nrun\n")?;
-    let first = "reply a add 3: ok\nsub a: 1\n";
-    let mut want = repeated(alloc, first, "deliver a 3 IN 0\n", 256)?;
-    want.push_str("run: 256\n")?;
-    let mut want = repeated(alloc, &want, "deliver a 3 IN 0\n", 44)?;
-    want.push_str("run: 44\n")?;
-    writes(&rt, script.as_str(), want.as_str())
-}
-
-#[test]
 fn a_removal_cancels_its_descriptor_alone(rt: HostRuntime) -> Result<(), Fail> {
     writes(
         &rt,
@@ -255,38 +184,11 @@ fn a_removal_cancels_its_descriptor_alone(rt: HostRuntime) -> Result<(), Fail> {
 }
 
 #[test]
-fn an_addition_revives_no_cancelled_event(rt: HostRuntime) -> Result<(), Fail> {
-    writes(
-        &rt,
-        "sub a add 3 IN 0 add 4 IN 7\non a 3 remove 4 add 4 IN 8\nbatch 3:IN:0 4:IN:7\nbatch 4:IN:8\nrun\nrun\n",
-        "reply a add 3: ok\nreply a add 4: ok\nsub a: 1\ndeliver a 3 IN 0\nreply a remove 4: ok\nreply a add 4: ok\nrun: 2\ndeliver a 4 IN 8\nrun: 1\n",
-    )
-}
-
-#[test]
-fn a_removal_cancels_a_repeated_event(rt: HostRuntime) -> Result<(), Fail> {
-    writes(
-        &rt,
-        "sub a add 3 IN 0\non a 3 remove 3 add 3 IN 5\nbatch 3:IN:0 3:IN:0\nrun\n",
-        "reply a add 3: ok\nsub a: 1\ndeliver a 3 IN 0\nreply a remove 3: ok\nreply a add 3: ok\nrun: 2\n",
-    )
-}
-
-#[test]
 fn a_change_leaves_the_batch(rt: HostRuntime) -> Result<(), Fail> {
     writes(
         &rt,
         "sub a add 3 IN 0 add 4 IN 7\non a 3 modify 4 OUT 8\nbatch 3:IN:0 4:IN:7\nrun\n",
         "reply a add 3: ok\nreply a add 4: ok\nsub a: 1\ndeliver a 3 IN 0\nreply a modify 4: ok\ndeliver a 4 IN 7\nrun: 2\n",
-    )
-}
-
-#[test]
-fn a_refused_removal_cancels_nothing(rt: HostRuntime) -> Result<(), Fail> {
-    writes(
-        &rt,
-        "sub a add 3 IN 0 add 4 IN 0\non a 3 remove 4\nrefuse delete 4 22\nbatch 3:IN:0 4:IN:0\nrun\n",
-        "reply a add 3: ok\nreply a add 4: ok\nsub a: 1\ndeliver a 3 IN 0\nreply a remove 4: event_manager: failed to manage epoll file descriptor: os error 22\ndeliver a 4 IN 0\nrun: 2\n",
     )
 }
 
@@ -302,181 +204,11 @@ fn a_leave_frees_its_descriptors_even_where_a_delete_is_refused(
 }
 
 #[test]
-fn the_owner_at_its_turn_gets_an_event(rt: HostRuntime) -> Result<(), Fail> {
-    writes(
-        &rt,
-        "sub a add 3 IN 0\non a 3 add 6 IN 0\nbatch 3:IN:0 6:OUT:4\nrun\n",
-        "reply a add 3: ok\nsub a: 1\ndeliver a 3 IN 0\nreply a add 6: ok\ndeliver a 6 OUT 4\nrun: 2\n",
-    )
-}
-
-#[test]
-fn a_subscriber_beside_a_neighbour_gets_what_it_gets_alone(rt: HostRuntime) -> Result<(), Fail> {
-    writes(
-        &rt,
-        "sub a add 3 IN 0\nsub b add 5 IN 0\non b 5 remove 3 remove 5 add 5 IN 2\nbatch 5:IN:0 3:IN:1 5:IN:0\nrun\n",
-        "reply a add 3: ok\nsub a: 1\nreply b add 5: ok\nsub b: 2\ndeliver b 5 IN 0\nreply b remove 3: event_manager: failed to manage epoll file descriptor: os error 2\nreply b remove 5: ok\nreply b add 5: ok\ndeliver a 3 IN 1\nrun: 3\n",
-    )?;
-    writes(
-        &rt,
-        "sub a add 3 IN 0\nbatch 5:IN:0 3:IN:1 5:IN:0\nrun\n",
-        "reply a add 3: ok\nsub a: 1\ndeliver a 3 IN 1\nrun: 3\n",
-    )
-}
-
-#[test]
-fn a_descriptor_that_a_neighbour_owns_is_refused(rt: HostRuntime) -> Result<(), Fail> {
-    writes(
-        &rt,
-        "sub a add 3 IN 0\nsub b add 6 IN 0\nask a add 6 IN 0\n",
-        "reply a add 3: ok\nsub a: 1\nreply b add 6: ok\nsub b: 2\nreply a add 6: event_manager: file descriptor has already been registered\n",
-    )?;
-    writes(
-        &rt,
-        "sub a add 3 IN 0\nask a add 6 IN 0\n",
-        "reply a add 3: ok\nsub a: 1\nreply a add 6: ok\n",
-    )
-}
-
-#[test]
-fn a_removal_between_runs_cancels_nothing(rt: HostRuntime) -> Result<(), Fail> {
-    writes(
-        &rt,
-        "sub a add 3 IN 0\nbatch 3:IN:0\nbatch 3:IN:1\nrun\nask a remove 3 add 3 IN 5\nrun\n",
-        "reply a add 3: ok\nsub a: 1\ndeliver a 3 IN 0\nrun: 1\nreply a remove 3: ok\nreply a add 3: ok\ndeliver a 3 IN 1\nrun: 1\n",
-    )
-}
-
-#[test]
-fn refusals_come_in_the_order_of_their_lines(rt: HostRuntime) -> Result<(), Fail> {
-    writes(
-        &rt,
-        "sub a add 3 IN 0\nrefuse modify 3 22\nrefuse modify 3 12\nask a modify 3 OUT 0 modify 3 OUT 0 modify 3 OUT 0\n",
-        "reply a add 3: ok\nsub a: 1\nreply a modify 3: event_manager: failed to manage epoll file descriptor: os error 22\nreply a modify 3: event_manager: failed to manage epoll file descriptor: os error 12\nreply a modify 3: ok\n",
-    )
-}
-
-#[test]
-fn the_rest_of_a_long_report_comes_before_the_next(rt: HostRuntime) -> Result<(), Fail> {
-    let alloc = rt.alloc();
-    let mut script = repeated(alloc, "sub a add 3 IN 0\nbatch", " 3:IN:0", 256)?;
-    script.push_str(" 3:IN:1\nbatch 3:OUT:2\nrun\nrun\nrun\n")?;
-    let first = "reply a add 3: ok\nsub a: 1\n";
-    let mut want = repeated(alloc, first, "deliver a 3 IN 0\n", 256)?;
-    want.push_str("run: 256\ndeliver a 3 IN 1\nrun: 1\ndeliver a 3 OUT 2\nrun: 1\n")?;
-    writes(&rt, script.as_str(), want.as_str())
-}
-
-#[test]
-fn a_leave_asks_for_its_deletes(rt: HostRuntime) -> Result<(), Fail> {
-    writes(
-        &rt,
-        "sub a add 3 IN 0 add 4 IN 0\nsub b\nrefuse delete 3 22\nrefuse delete 4 22\nrefuse delete 4 12\ndrop a\nask b add 3 IN 0 add 4 IN 0 remove 3 remove 4 remove 4\n",
-        "reply a add 3: ok\nreply a add 4: ok\nsub a: 1\nsub b: 2\ndrop a: ok\nreply b add 3: ok\nreply b add 4: ok\nreply b remove 3: ok\nreply b remove 4: event_manager: failed to manage epoll file descriptor: os error 12\nreply b remove 4: ok\n",
-    )
-}
-
-#[test]
-fn a_reaction_waits_for_its_descriptor(rt: HostRuntime) -> Result<(), Fail> {
-    writes(
-        &rt,
-        "sub a add 3 IN 0 add 4 IN 0\non a 4 add 5 IN 0\non a 4 remove 5\nbatch 3:IN:0 4:IN:0 3:IN:1 4:IN:1 4:IN:2\nrun\n",
-        "reply a add 3: ok\nreply a add 4: ok\nsub a: 1\ndeliver a 3 IN 0\ndeliver a 4 IN 0\nreply a add 5: ok\ndeliver a 3 IN 1\ndeliver a 4 IN 1\nreply a remove 5: ok\ndeliver a 4 IN 2\nrun: 5\n",
-    )
-}
-
-#[test]
-fn a_cancelled_event_takes_no_reaction(rt: HostRuntime) -> Result<(), Fail> {
-    writes(
-        &rt,
-        "sub a add 3 IN 0 add 4 IN 0\non a 4 add 6 IN 0\non a 3 remove 4 add 4 IN 0\nbatch 3:IN:0 4:IN:0\nbatch 4:IN:1\nrun\nrun\n",
-        "reply a add 3: ok\nreply a add 4: ok\nsub a: 1\ndeliver a 3 IN 0\nreply a remove 4: ok\nreply a add 4: ok\nrun: 2\ndeliver a 4 IN 1\nreply a add 6: ok\nrun: 1\n",
-    )
-}
-
-#[test]
 fn higher_priorities_are_delivered_first(rt: HostRuntime) -> Result<(), Fail> {
     writes(
         &rt,
         "sub a add 3 IN 0 addp 4 IN 7 2\nsub b addp 5 OUT 1 3 add 6 IN 0\nbatch 3:IN:0 4:IN:7 6:IN:0 5:OUT:1 8:IN:0 4:IN:7\nrun\n",
         "reply a add 3: ok\nreply a addp 4: ok\nsub a: 1\nreply b addp 5: ok\nreply b add 6: ok\nsub b: 2\ndeliver b 5 OUT 1\ndeliver a 4 IN 7\ndeliver a 4 IN 7\ndeliver a 3 IN 0\ndeliver b 6 IN 0\nrun: 6\n",
-    )
-}
-
-#[test]
-fn a_higher_event_cancels_a_lower_one(rt: HostRuntime) -> Result<(), Fail> {
-    writes(
-        &rt,
-        "sub a add 3 IN 0 addp 4 IN 0 1\non a 4 remove 3\nbatch 3:IN:0 4:IN:0\nrun\n",
-        "reply a add 3: ok\nreply a addp 4: ok\nsub a: 1\ndeliver a 4 IN 0\nreply a remove 3: ok\nrun: 2\n",
-    )
-}
-
-#[test]
-fn a_priority_given_in_a_batch_counts_from_the_next_wait(rt: HostRuntime) -> Result<(), Fail> {
-    writes(
-        &rt,
-        "sub a addp 3 IN 0 3 add 4 IN 0 add 5 IN 0\non a 3 remove 5 addp 5 IN 0 3\nbatch 4:IN:0 5:IN:0 3:IN:0\nbatch 4:IN:0 5:IN:0\nrun\nrun\n",
-        "reply a addp 3: ok\nreply a add 4: ok\nreply a add 5: ok\nsub a: 1\ndeliver a 3 IN 0\nreply a remove 5: ok\nreply a addp 5: ok\ndeliver a 4 IN 0\nrun: 3\ndeliver a 5 IN 0\ndeliver a 4 IN 0\nrun: 2\n",
-    )
-}
-
-#[test]
-fn an_entry_that_nobody_owned_at_the_wait_stays_low(rt: HostRuntime) -> Result<(), Fail> {
-    writes(
-        &rt,
-        "sub a add 3 IN 0\non a 3 addp 6 IN 0 3\nbatch 6:OUT:4 3:IN:0 6:OUT:5\nrun\n",
-        "reply a add 3: ok\nsub a: 1\ndeliver a 3 IN 0\nreply a addp 6: ok\ndeliver a 6 OUT 5\nrun: 3\n",
-    )
-}
-
-#[test]
-fn another_priority_in_a_batch_takes_the_place_of_the_old(rt: HostRuntime) -> Result<(), Fail> {
-    writes(
-        &rt,
-        "sub a addp 3 IN 0 1 addp 4 IN 0 2 add 5 IN 0\non a 4 remove 3 addp 3 IN 0 3\nbatch 5:IN:0 3:IN:0 4:IN:0\nbatch 5:IN:1 4:IN:1 3:IN:1\nrun\nrun\n",
-        "reply a addp 3: ok\nreply a addp 4: ok\nreply a add 5: ok\nsub a: 1\ndeliver a 4 IN 0\nreply a remove 3: ok\nreply a addp 3: ok\ndeliver a 5 IN 0\nrun: 3\ndeliver a 3 IN 1\ndeliver a 4 IN 1\ndeliver a 5 IN 1\nrun: 3\n",
-    )
-}
-
-#[test]
-fn a_join_between_two_runs_changes_the_order(rt: HostRuntime) -> Result<(), Fail> {
-    writes(
-        &rt,
-        "sub a add 3 IN 0\nbatch 3:IN:0 5:IN:0\nbatch 3:IN:1 5:IN:1\nrun\nsub b addp 5 IN 0 1\nrun\n",
-        "reply a add 3: ok\nsub a: 1\ndeliver a 3 IN 0\nrun: 2\nreply b addp 5: ok\nsub b: 2\ndeliver b 5 IN 1\ndeliver a 3 IN 1\nrun: 2\n",
-    )
-}
-
-#[test]
-fn a_change_keeps_a_priority_and_a_leave_forgets_it(rt: HostRuntime) -> Result<(), Fail> {
-    writes(
-        &rt,
-        "sub a add 3 IN 0 addp 4 IN 0 1\nask a modify 4 OUT 5\nbatch 3:IN:0 4:OUT:5\nbatch 3:IN:0 4:IN:0\nrun\ndrop a\nsub b add 3 IN 0 add 4 IN 0\nrun\n",
-        "reply a add 3: ok\nreply a addp 4: ok\nsub a: 1\nreply a modify 4: ok\ndeliver a 4 OUT 5\ndeliver a 3 IN 0\nrun: 2\ndrop a: ok\nreply b add 3: ok\nreply b add 4: ok\nsub b: 2\ndeliver b 3 IN 0\ndeliver b 4 IN 0\nrun: 2\n",
-    )
-}
-
-#[test]
-fn an_addition_with_a_priority_is_refused_as_one_without(rt: HostRuntime) -> Result<(), Fail> {
-    writes(
-        &rt,
-        "refuse add 3 12\nsub a addp 3 IN 0 1 addp 9 IN 0 1\nask a addp 3 IN 0 1 addp 3 IN 0 2\n",
-        "reply a addp 3: event_manager: failed to manage epoll file descriptor: os error 12\nreply a addp 9: event_manager: failed to manage epoll file descriptor: os error 17\nsub a: 1\nreply a addp 3: ok\nreply a addp 3: event_manager: file descriptor has already been registered\n",
-    )
-}
-
-#[test]
-fn a_neighbours_priority_leaves_a_subscribers_order(rt: HostRuntime) -> Result<(), Fail> {
-    writes(
-        &rt,
-        "sub a addp 3 IN 0 1 add 4 IN 0\nsub b addp 5 IN 0 2\non b 5 remove 5 addp 5 IN 2 3\nbatch 4:IN:0 5:IN:0 3:IN:1 5:IN:0\nrun\n",
-        "reply a addp 3: ok\nreply a add 4: ok\nsub a: 1\nreply b addp 5: ok\nsub b: 2\ndeliver b 5 IN 0\nreply b remove 5: ok\nreply b addp 5: ok\ndeliver a 3 IN 1\ndeliver a 4 IN 0\nrun: 4\n",
-    )?;
-    writes(
-        &rt,
-        "sub a addp 3 IN 0 1 add 4 IN 0\nbatch 4:IN:0 5:IN:0 3:IN:1 5:IN:0\nrun\n",
-        "reply a addp 3: ok\nreply a add 4: ok\nsub a: 1\ndeliver a 3 IN 1\ndeliver a 4 IN 0\nrun: 4\n",
     )
 }
 
@@ -717,16 +449,5 @@ fn hundreds_of_requests_of_one_line_are_made(rt: HostRuntime) -> Result<(), Fail
     let script = repeated(alloc, first, " modify 3 OUT 1", 500)?;
     let first = "reply a add 3: ok\nsub a: 1\n";
     let want = repeated(alloc, first, "reply a modify 3: ok\n", 500)?;
-    writes(&rt, script.as_str(), want.as_str())
-}
-
-#[test]
-fn hundreds_of_names_are_joined(rt: HostRuntime) -> Result<(), Fail> {
-    let mut script = String::new(rt.alloc());
-    let mut want = String::new(rt.alloc());
-    for number in 1..501 {
-        writeln!(script, "sub a{number}")?;
-        writeln!(want, "sub a{number}: {number}")?;
-    }
     writes(&rt, script.as_str(), want.as_str())
 }
