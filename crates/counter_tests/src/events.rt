@@ -1,12 +1,19 @@
 //! Events of a counter's descriptor.
 
-use crate::expecting::expect_same;
-use crate::making::{counter_of, on_table};
+use crate::expecting::{expect_ok, expect_same};
+use crate::making::{Host, counter_of};
 use event_manager::Events;
+use fixtures::parts::on_table;
+use std::alloc::Global;
 use std::process::Abort;
-use std::test::Fail;
 use vmm_sys::epoll::{AsRawFd, EventSet};
 use vmm_sys::eventfd::EventFd;
+
+/// A counter of value 0 in a new table, beside an endpoint.
+fn new_counter<R: Host>(rt: &R, alloc: Global) -> EventFd {
+    let parts = expect_ok(rt, on_table(*rt, alloc, 0));
+    counter_of(rt, &parts)
+}
 
 /// Expects that these are the events of the counter's descriptor of this set and data 0, as made of the plain number.
 fn expect_events<R: Abort>(
@@ -16,36 +23,33 @@ fn expect_events<R: Abort>(
     from_number: Events,
     set: EventSet,
 ) {
-    assert!(rt; events == from_number);
+    expect_same(rt, &(events == from_number), &true);
     expect_same(rt, &events.event_set(), &set);
     expect_same(rt, &events.data(), &0);
     expect_same(rt, &events.fd(), &event_fd.as_raw_fd());
 }
 
 #[test]
-fn test_empty_events(rt: HostRuntime) -> Result<(), Fail> {
-    let event_fd = counter_of(&rt, &on_table(rt, rt.alloc())?)?;
+fn test_empty_events(rt: HostRuntime) {
+    let event_fd = new_counter(&rt, rt.alloc());
     let from_number = Events::empty_raw(event_fd.as_raw_fd());
     let events = Events::empty(&event_fd);
     expect_events(&rt, &event_fd, events, from_number, EventSet::empty());
-    Ok(())
 }
 
 #[test]
-fn test_events_no_data(rt: HostRuntime) -> Result<(), Fail> {
-    let event_fd = counter_of(&rt, &on_table(rt, rt.alloc())?)?;
+fn test_events_no_data(rt: HostRuntime) {
+    let event_fd = new_counter(&rt, rt.alloc());
     let from_number = Events::new_raw(event_fd.as_raw_fd(), EventSet::IN);
     let events = Events::new(&event_fd, EventSet::IN);
     expect_events(&rt, &event_fd, events, from_number, EventSet::IN);
-    Ok(())
 }
 
 #[test]
-fn test_events_data(rt: HostRuntime) -> Result<(), Fail> {
-    let event_fd = counter_of(&rt, &on_table(rt, rt.alloc())?)?;
+fn test_events_data(rt: HostRuntime) {
+    let event_fd = new_counter(&rt, rt.alloc());
     let first = Events::with_data_raw(event_fd.as_raw_fd(), 42, EventSet::IN);
     let second = Events::with_data(&event_fd, 43, EventSet::IN);
-    assert!(rt; first != second);
+    expect_same(&rt, &(first != second), &true);
     expect_same(&rt, &(first.data(), second.data()), &(42, 43));
-    Ok(())
 }

@@ -9,12 +9,16 @@ use std::fmt::Debug;
 use std::process::Abort;
 use std::sync::Wait;
 use std::sync::ledger::Ledger;
-use std::test::Fail;
 use std::time::Clock;
 
 /// Expects that the two are equal.
 pub fn expect_same<A: PartialEq + Debug, R: Abort>(rt: &R, found: &A, expected: &A) {
     assert_eq!(rt; found, expected);
+}
+
+/// What a call answers that must succeed.
+pub fn expect_ok<A, E: Debug + Drop, R: Abort>(rt: &R, answer: Result<A, E>) -> A {
+    answer.expect(rt, "it succeeds")
 }
 
 /// Expects that a run without a limit reports so many events.
@@ -50,23 +54,27 @@ where
     expect_same(rt, &manager.run_with_timeout(ms, rt), &Ok(count));
 }
 
+/// Whether these were the subscriber's events since it was last asked, in order.
+fn saw<L: Ledger, T: Ledger, P: EventPoller>(
+    manager: &mut EventManager<Reacting, NoJob, L, T, P>,
+    id: SubscriberId,
+    expected: &[Events],
+) -> event_manager::Result<bool> {
+    Ok(manager.subscriber_mut(id)?.saw(expected))
+}
+
 /// Expects that these were the subscriber's events since it was last asked, in order.
 pub fn expect_saw<L: Ledger, T: Ledger, P: EventPoller, R: Abort>(
     rt: &R,
     manager: &mut EventManager<Reacting, NoJob, L, T, P>,
     id: SubscriberId,
     expected: &[Events],
-) -> Result<(), Fail> {
-    let subscriber = manager.subscriber_mut(id)?;
-    assert!(rt; subscriber.saw(expected));
-    Ok(())
+) {
+    expect_same(rt, &saw(manager, id, expected), &Ok(true));
 }
 
 /// Expects these values of the three counters.
 pub fn expect_values<R: Abort>(rt: &R, subscriber: &CounterSubscriberWithData, expected: [u64; 3]) {
-    let is_expected = match subscriber.get_all_counter_values() {
-        Ok(values) => values.as_slice() == expected.as_slice(),
-        Err(_) => false,
-    };
-    assert!(rt; is_expected);
+    let values = expect_ok(rt, subscriber.get_all_counter_values());
+    expect_same(rt, &values.as_slice(), &expected.as_slice());
 }

@@ -2,11 +2,13 @@
 
 ghost use Rattle.std.specs.Prelude.{◌≡◌, [], ◌∷◌, MatchOption};
 
+use crate::expecting::expect_ok;
 use event_manager::{
-    EventManager, EventOps, EventPoller, Events, MutEventSubscriber, NoJob, Request, Result,
-    SubscriberId, SubscriberOps,
+    EventManager, EventOps, EventPoller, Events, MutEventSubscriber, NoJob, Request, SubscriberId,
+    SubscriberOps,
 };
 use std::alloc::Global;
+use std::process::Abort;
 use std::sync::ledger::Ledger;
 
 /// Adds one descriptor in `init`, notes its events, and makes its request, if any, at the first of them.
@@ -55,11 +57,15 @@ impl MutEventSubscriber for Reacting {
 }
 
 /// Takes in a subscriber of this descriptor, with this reaction: its id.
-pub fn add<L: Ledger, T: Ledger, P: EventPoller>(
+pub fn add<L: Ledger, T: Ledger, P: EventPoller, R: Abort>(
+    rt: &R,
     alloc: Global,
     manager: &mut EventManager<Reacting, NoJob, L, T, P>,
     own: Events,
     reaction: Option<Request>,
-) -> Result<SubscriberId> {
-    manager.add_subscriber(Reacting::new(alloc, own, reaction))
+) -> SubscriberId {
+    expect_ok(
+        rt,
+        manager.add_subscriber(Reacting::new(alloc, own, reaction)),
+    )
 }

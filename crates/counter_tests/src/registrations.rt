@@ -1,21 +1,20 @@
 //! Descriptors that are added, changed and removed, and subscribers that leave.
 
-use crate::expecting::{expect_run, expect_run_within, expect_same, expect_saw};
-use crate::making::{Host, OnTable, Parts, WithManager, counter_of, on_table, with_manager};
+use crate::expecting::{expect_ok, expect_run, expect_run_within, expect_same, expect_saw};
+use crate::making::{Host, counter_of};
 use crate::reacting::{Reacting, add};
 use event_manager::utilities::subscribers::CounterSubscriber;
 use event_manager::{
     Error, EventManager, EventPoller, Events, NoJob, Request, SubscriberId, SubscriberOps,
-    WithLedgers, with_ledgers,
 };
+use fixtures::making::{WithManager, with_manager};
+use fixtures::parts::{OnTable, on_table};
 use std::alloc::Global;
 use std::process::Abort;
 use std::sync::Wait;
-use std::sync::ledger::{Blank, Ledger};
-use std::test::Fail;
+use std::sync::ledger::Ledger;
 use std::time::Clock;
 use vmm_sys::epoll::EventSet;
-use vmm_sys::errno::Errno;
 use vmm_sys::eventfd::EventFd;
 
 /// The limit of a run in milliseconds, or none, and the events that it delivers.
@@ -34,33 +33,35 @@ struct Runs<'a, R> {
 impl<R: Wait + Clock + Abort> WithManager for Runs<'_, R> {
     type Subscriber = Reacting;
 
+    type Output = ();
+
     fn run<L: Ledger, T: Ledger, P: EventPoller>(
-        &self,
+        self,
         manager: &mut EventManager<Reacting, NoJob, L, T, P>,
-    ) -> Result<(), Fail> {
-        let id = add(self.alloc, manager, self.own, self.reaction)?;
+    ) -> event_manager::Result<()> {
+        let id = add(self.rt, self.alloc, manager, self.own, self.reaction);
         for (limit, delivered) in self.runs {
             match limit {
                 Some(ms) => expect_run_within(self.rt, manager, *ms, delivered.len()),
                 None => expect_run(self.rt, manager, delivered.len()),
             }
-            expect_saw(self.rt, manager, id, delivered)?;
+            expect_saw(self.rt, manager, id, delivered);
         }
         Ok(())
     }
 }
 
 /// `OUT` events of a new counter of this value in the table of these parts.
-fn writable_of<R: Host>(rt: &R, parts: &OnTable<R>, value: u64) -> Result<Events, Errno> {
-    let event_fd = EventFd::new(&parts.poller.0, value, rt)?;
-    Ok(Events::new(&event_fd, EventSet::OUT))
+fn writable_of<R: Host>(rt: &R, parts: &OnTable<R>, value: u64) -> Events {
+    let event_fd = expect_ok(rt, EventFd::new(&parts.poller.0, value, rt));
+    Events::new(&event_fd, EventSet::OUT)
 }
 
 #[test]
-fn test_register(rt: HostRuntime) -> Result<(), Fail> {
-    let parts = on_table(rt, rt.alloc())?;
-    let first = writable_of(&rt, &parts, 0)?;
-    let second = writable_of(&rt, &parts, 0)?;
+fn test_register(rt: HostRuntime) {
+    let parts = expect_ok(&rt, on_table(rt, rt.alloc(), 0));
+    let first = writable_of(&rt, &parts, 0);
+    let second = writable_of(&rt, &parts, 0);
     let body = Runs {
         rt: &rt,
         alloc: rt.alloc(),
@@ -68,13 +69,13 @@ fn test_register(rt: HostRuntime) -> Result<(), Fail> {
         reaction: Some(Request::Add(second)),
         runs: &[(None, &[first]), (None, &[first, second])],
     };
-    with_manager(parts, &body)
+    expect_ok(&rt, with_manager(parts, body));
 }
 
 #[test]
-fn test_unregister(rt: HostRuntime) -> Result<(), Fail> {
-    let parts = on_table(rt, rt.alloc())?;
-    let own = writable_of(&rt, &parts, 0)?;
+fn test_unregister(rt: HostRuntime) {
+    let parts = expect_ok(&rt, on_table(rt, rt.alloc(), 0));
+    let own = writable_of(&rt, &parts, 0);
     let body = Runs {
         rt: &rt,
         alloc: rt.alloc(),
@@ -82,13 +83,13 @@ fn test_unregister(rt: HostRuntime) -> Result<(), Fail> {
         reaction: Some(Request::Remove(own)),
         runs: &[(None, &[own]), (Some(100), &[])],
     };
-    with_manager(parts, &body)
+    expect_ok(&rt, with_manager(parts, body));
 }
 
 #[test]
-fn test_modify(rt: HostRuntime) -> Result<(), Fail> {
-    let parts = on_table(rt, rt.alloc())?;
-    let before = writable_of(&rt, &parts, 1)?;
+fn test_modify(rt: HostRuntime) {
+    let parts = expect_ok(&rt, on_table(rt, rt.alloc(), 0));
+    let before = writable_of(&rt, &parts, 1);
     let after = Events::new_raw(before.fd(), EventSet::IN);
     let body = Runs {
         rt: &rt,
@@ -97,7 +98,7 @@ fn test_modify(rt: HostRuntime) -> Result<(), Fail> {
         reaction: Some(Request::Modify(after)),
         runs: &[(None, &[before]), (None, &[after])],
     };
-    with_manager(parts, &body)
+    expect_ok(&rt, with_manager(parts, body));
 }
 
 /// Runs, lets the subscriber leave, runs, and lets it leave once more.
@@ -114,22 +115,23 @@ fn expect_leave<L: Ledger, T: Ledger, P: EventPoller, R: Abort>(
     manager: &mut EventManager<Reacting, NoJob, L, T, P>,
     id: SubscriberId,
     events: &[Events],
-) -> Result<(), Fail> {
-    let mut left = manager.remove_subscriber(id)?;
-    assert!(rt; left.saw(events));
-    Ok(())
+) {
+    let mut left = expect_ok(rt, manager.remove_subscriber(id));
+    expect_same(rt, &left.saw(events), &true);
 }
 
 impl<R: Wait + Clock + Abort> WithManager for Removing<'_, R> {
     type Subscriber = Reacting;
 
+    type Output = ();
+
     fn run<L: Ledger, T: Ledger, P: EventPoller>(
-        &self,
+        self,
         manager: &mut EventManager<Reacting, NoJob, L, T, P>,
-    ) -> Result<(), Fail> {
-        let id = add(self.alloc, manager, self.own, None)?;
+    ) -> event_manager::Result<()> {
+        let id = add(self.rt, self.alloc, manager, self.own, None);
         expect_run(self.rt, manager, 1);
-        expect_leave(self.rt, manager, id, &[self.own])?;
+        expect_leave(self.rt, manager, id, &[self.own]);
         expect_run_within(self.rt, manager, 100, 0);
         let again = manager.remove_subscriber(id).err();
         expect_same(self.rt, &again, &Some(Error::InvalidId));
@@ -138,14 +140,22 @@ impl<R: Wait + Clock + Abort> WithManager for Removing<'_, R> {
 }
 
 #[test]
-fn test_remove_subscriber(rt: HostRuntime) -> Result<(), Fail> {
-    let parts = on_table(rt, rt.alloc())?;
+fn test_remove_subscriber(rt: HostRuntime) {
+    let parts = expect_ok(&rt, on_table(rt, rt.alloc(), 0));
     let body = Removing {
         rt: &rt,
         alloc: rt.alloc(),
-        own: writable_of(&rt, &parts, 0)?,
+        own: writable_of(&rt, &parts, 0),
     };
-    with_manager(parts, &body)
+    expect_ok(&rt, with_manager(parts, body));
+}
+
+/// The subscriber's fault.
+fn fault_of<L: Ledger, T: Ledger, P: EventPoller>(
+    manager: &mut EventManager<CounterSubscriber, NoJob, L, T, P>,
+    id: SubscriberId,
+) -> event_manager::Result<Option<Error>> {
+    Ok(manager.subscriber_mut(id)?.fault())
 }
 
 /// Takes in a subscriber of this counter, which must then have this fault.
@@ -154,10 +164,11 @@ fn expect_joined<L: Ledger, T: Ledger, P: EventPoller, R: Abort>(
     manager: &mut EventManager<CounterSubscriber, NoJob, L, T, P>,
     event_fd: &EventFd,
     fault: Option<Error>,
-) -> Result<SubscriberId, Fail> {
-    let id = manager.add_subscriber(CounterSubscriber::new(event_fd.try_clone()?))?;
-    expect_same(rt, &manager.subscriber_mut(id)?.fault(), &fault);
-    Ok(id)
+) -> SubscriberId {
+    let same = expect_ok(rt, event_fd.try_clone());
+    let id = expect_ok(rt, manager.add_subscriber(CounterSubscriber::new(same)));
+    expect_same(rt, &fault_of(manager, id), &Ok(fault));
+    id
 }
 
 /// Two subscribers join, whose descriptors are the same.
@@ -170,61 +181,62 @@ struct JoiningTwice<'a, R> {
 impl<R: Abort> WithManager for JoiningTwice<'_, R> {
     type Subscriber = CounterSubscriber;
 
+    type Output = ();
+
     fn run<L: Ledger, T: Ledger, P: EventPoller>(
-        &self,
+        self,
         manager: &mut EventManager<CounterSubscriber, NoJob, L, T, P>,
-    ) -> Result<(), Fail> {
-        let one = expect_joined(self.rt, manager, self.event_fd, None)?;
+    ) -> event_manager::Result<()> {
+        let one = expect_joined(self.rt, manager, self.event_fd, None);
         let refusal = Some(Error::FdAlreadyRegistered);
-        let two = expect_joined(self.rt, manager, self.event_fd, refusal)?;
-        assert!(self.rt; one != two);
-        expect_same(self.rt, &manager.subscriber_mut(one)?.fault(), &None);
+        let two = expect_joined(self.rt, manager, self.event_fd, refusal);
+        expect_same(self.rt, &(one != two), &true);
+        expect_same(self.rt, &fault_of(manager, one), &Ok(None));
         Ok(())
     }
 }
 
 #[test]
-fn test_add_invalid_subscriber(rt: HostRuntime) -> Result<(), Fail> {
-    let parts = on_table(rt, rt.alloc())?;
+fn test_add_invalid_subscriber(rt: HostRuntime) {
+    let parts = expect_ok(&rt, on_table(rt, rt.alloc(), 0));
     let body = JoiningTwice {
         rt: &rt,
-        event_fd: &counter_of(&rt, &parts)?,
+        event_fd: &counter_of(&rt, &parts),
     };
-    with_manager(parts, &body)
+    expect_ok(&rt, with_manager(parts, body));
 }
 
-/// Makes a manager of this capacity, and answers what refuses it.
-struct OfCapacity<R> {
-    parts: OnTable<R>,
-    capacity: usize,
-}
+/// Does nothing.
+#[derive(Drop)]
+struct Nothing;
 
-impl<R: Wait + Clock + Copy + Send + Drop> WithLedgers for OfCapacity<R> {
-    type Output = Option<Error>;
+impl WithManager for Nothing {
+    type Subscriber = CounterSubscriber;
 
-    fn run<L: Ledger + Send + Sync, T: Ledger + Send + Sync>(
+    type Output = ();
+
+    fn run<L: Ledger, T: Ledger, P: EventPoller>(
         self,
-        tickets: Blank,
-        taken: Blank,
-    ) -> Option<Error> {
-        let OfCapacity { parts, capacity } = self;
-        let Parts {
-            alloc,
-            poller,
-            endpoint,
-        } = parts;
-        EventManager::<CounterSubscriber, NoJob, L, T, _>::new_with_capacity(
-            alloc, poller, endpoint, capacity, tickets, taken,
-        ).err()
+        _manager: &mut EventManager<CounterSubscriber, NoJob, L, T, P>,
+    ) -> event_manager::Result<()> {
+        Ok(())
     }
+}
+
+/// Expects that a manager of this capacity is refused.
+fn expect_refused<R: Host>(rt: R, alloc: Global, capacity: usize) {
+    let mut parts = expect_ok(&rt, on_table(rt, alloc, 0));
+    parts.capacity = Some(capacity);
+    expect_same(
+        &rt,
+        &with_manager(parts, Nothing),
+        &Err(Error::InvalidCapacity),
+    );
 }
 
 #[test]
-fn test_max_ready_list_size(rt: HostRuntime) -> Result<(), Fail> {
+fn test_max_ready_list_size(rt: HostRuntime) {
     for capacity in [178956971, usize::MAX] {
-        let parts = on_table(rt, rt.alloc())?;
-        let refusal = with_ledgers(OfCapacity { parts, capacity });
-        expect_same(&rt, &refusal, &Some(Error::InvalidCapacity));
+        expect_refused(rt, rt.alloc(), capacity);
     }
-    Ok(())
 }

@@ -1,14 +1,15 @@
 //! Subscribers that are shared while they count, served events of a script.
 
-use crate::expecting::{expect_run, expect_same};
-use crate::making::{Host, Parts, WithManager, with_manager};
+use crate::expecting::{expect_ok, expect_run, expect_same};
+use crate::making::Host;
 use event_manager::utilities::subscribers::CounterInnerMutSubscriber;
 use event_manager::{Error, EventManager, EventPoller, Events, NoJob, PlainPoller, SubscriberOps};
+use fixtures::making::{WithManager, with_manager};
+use fixtures::parts::Parts;
 use std::alloc::Global;
 use std::process::Abort;
 use std::sync::ledger::Ledger;
 use std::sync::{Arc, Wait};
-use std::test::Fail;
 use std::time::Clock;
 use vmm_sys::epoll::{ControlOperation, Epoll, EpollEvent, EventSet};
 use vmm_sys::errno::Errno;
@@ -32,23 +33,25 @@ struct Script<'a> {
 /// up, and its fault.
 type State = ((u64, u64, u64), bool, Option<Error>);
 
-fn entries_of(alloc: Global, report: &[EventSet]) -> Result<Vec<EpollEvent>, Fail> {
+/// The entries of a report.
+fn entries_of<R: Abort>(rt: &R, alloc: Global, report: &[EventSet]) -> Vec<EpollEvent> {
     let mut entries = Vec::new(alloc);
     for set in report {
-        entries.push(Events::new_raw(0, *set).epoll_event())?;
+        expect_ok(rt, entries.push(Events::new_raw(0, *set).epoll_event()));
     }
-    Ok(entries)
+    entries
 }
 
-fn poller_of(alloc: Global, script: Script<'_>) -> Result<ScriptPoller, Fail> {
+/// The poller of a script.
+fn poller_of<R: Abort>(rt: &R, alloc: Global, script: Script<'_>) -> ScriptPoller {
     let mut poller = ScriptPoller::new(alloc);
     for &(op, errno) in script.refusals {
-        poller.push_refusal(op, 0, Errno(errno))?;
+        expect_ok(rt, poller.push_refusal(op, 0, Errno(errno)));
     }
     for report in script.reports {
-        poller.push_report(entries_of(alloc, report)?)?;
+        expect_ok(rt, poller.push_report(entries_of(rt, alloc, report)));
     }
-    Ok(poller)
+    poller
 }
 
 /// Takes the subscriber in, and makes a run for each report.
@@ -62,11 +65,14 @@ struct Serving<'a, R> {
 impl<R: Wait + Clock + Abort> WithManager for Serving<'_, R> {
     type Subscriber = Arc<CounterInnerMutSubscriber>;
 
+    type Output = ();
+
     fn run<L: Ledger, T: Ledger, P: EventPoller>(
-        &self,
+        self,
         manager: &mut EventManager<Arc<CounterInnerMutSubscriber>, NoJob, L, T, P>,
-    ) -> Result<(), Fail> {
-        manager.add_subscriber(self.subscriber.clone()?)?;
+    ) -> event_manager::Result<()> {
+        let subscriber = expect_ok(self.rt, self.subscriber.clone());
+        expect_ok(self.rt, manager.add_subscriber(subscriber));
         for report in self.reports {
             expect_run(self.rt, manager, report.len());
         }
@@ -75,11 +81,12 @@ impl<R: Wait + Clock + Abort> WithManager for Serving<'_, R> {
 }
 
 /// A shared subscriber of descriptor 0, and an endpoint of descriptor 1.
-fn make<R: Host>(rt: R, alloc: Global) -> Result<(Arc<CounterInnerMutSubscriber>, EventFd), Fail> {
-    let epoll = Epoll::new(rt, alloc)?;
-    let subscriber = CounterInnerMutSubscriber::new(EventFd::new(&epoll, 0, &rt)?);
-    let endpoint = EventFd::new(&epoll, 0, &rt)?;
-    Ok((Arc::new(alloc, subscriber)?, endpoint))
+fn make<R: Host>(rt: R, alloc: Global) -> (Arc<CounterInnerMutSubscriber>, EventFd) {
+    let epoll = expect_ok(&rt, Epoll::new(rt, alloc));
+    let own = expect_ok(&rt, EventFd::new(&epoll, 0, &rt));
+    let endpoint = expect_ok(&rt, EventFd::new(&epoll, 0, &rt));
+    let shared = Arc::new(alloc, CounterInnerMutSubscriber::new(own));
+    (expect_ok(&rt, shared), endpoint)
 }
 
 /// Expects this state of the subscriber.
@@ -92,30 +99,21 @@ fn expect_state<R: Abort>(rt: &R, subscriber: &CounterInnerMutSubscriber, expect
 }
 
 /// Expects this state of a shared subscriber after a manager has served it the script.
-fn expect_served<R: Host>(
-    rt: R,
-    alloc: Global,
-    script: Script<'_>,
-    expected: State,
-) -> Result<(), Fail> {
-    let (subscriber, endpoint) = make(rt, alloc)?;
-    let parts = Parts {
-        alloc,
-        poller: PlainPoller(poller_of(alloc, script)?),
-        endpoint,
-    };
+fn expect_served<R: Host>(rt: R, alloc: Global, script: Script<'_>, expected: State) {
+    let (subscriber, endpoint) = make(rt, alloc);
+    let poller = PlainPoller(poller_of(&rt, alloc, script));
+    let parts = Parts::new(alloc, poller, endpoint);
     let body = Serving {
         rt: &rt,
         subscriber: &subscriber,
         reports: script.reports,
     };
-    with_manager(parts, &body)?;
+    expect_ok(&rt, with_manager(parts, body));
     expect_state(&rt, &subscriber, expected);
-    Ok(())
 }
 
 #[test]
-fn a_shared_counter_tells_events_by_their_sets(rt: HostRuntime) -> Result<(), Fail> {
+fn a_shared_counter_tells_events_by_their_sets(rt: HostRuntime) {
     let script = Script {
         reports: &[
             &[IN, IN],
@@ -125,37 +123,35 @@ fn a_shared_counter_tells_events_by_their_sets(rt: HostRuntime) -> Result<(), Fa
         ],
         refusals: &[],
     };
-    expect_served(rt, rt.alloc(), script, ((2, 3, 0), false, None))
+    expect_served(rt, rt.alloc(), script, ((2, 3, 0), false, None));
 }
 
 #[test]
-fn a_shared_counter_whose_removal_is_refused_stays(rt: HostRuntime) -> Result<(), Fail> {
+fn a_shared_counter_whose_removal_is_refused_stays(rt: HostRuntime) {
     let script = Script {
         reports: &[&[EventSet::HANG_UP], &[IN]],
         refusals: &[(DELETE, 22)],
     };
     let fault = Some(Error::Epoll(Errno(22)));
-    expect_served(rt, rt.alloc(), script, ((1, 0, 0), true, fault))
+    expect_served(rt, rt.alloc(), script, ((1, 0, 0), true, fault));
 }
 
 #[test]
-fn a_shared_counter_keeps_its_first_fault(rt: HostRuntime) -> Result<(), Fail> {
+fn a_shared_counter_keeps_its_first_fault(rt: HostRuntime) {
     let script = Script {
         reports: &[&[EventSet::HANG_UP], &[EventSet::HANG_UP]],
         refusals: &[(DELETE, 22), (DELETE, 5)],
     };
     let fault = Some(Error::Epoll(Errno(22)));
-    expect_served(rt, rt.alloc(), script, ((0, 0, 0), true, fault))
+    expect_served(rt, rt.alloc(), script, ((0, 0, 0), true, fault));
 }
 
 #[test]
-fn a_shared_counter_whose_addition_is_refused_joins_with_the_fault(
-    rt: HostRuntime,
-) -> Result<(), Fail> {
+fn a_shared_counter_whose_addition_is_refused_joins_with_the_fault(rt: HostRuntime) {
     let script = Script {
         reports: &[&[IN]],
         refusals: &[(ADD, 12)],
     };
     let fault = Some(Error::Epoll(Errno(12)));
-    expect_served(rt, rt.alloc(), script, ((0, 0, 0), false, fault))
+    expect_served(rt, rt.alloc(), script, ((0, 0, 0), false, fault));
 }

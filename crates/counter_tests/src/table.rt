@@ -1,25 +1,28 @@
 //! Counting subscribers over the in-process table, on one thread.
 
-use crate::expecting::{expect_run_within, expect_same, expect_values};
-use crate::making::{Host, WithManager, counter_of, on_table, three_counters_of, with_manager};
+use crate::expecting::{expect_ok, expect_run_within, expect_same, expect_values};
+use crate::making::{Host, counter_of, three_counters_of};
 use event_manager::utilities::subscribers::{
     CounterInnerMutSubscriber, CounterSubscriber, CounterSubscriberWithData,
 };
-use event_manager::{EventManager, EventPoller, NoJob, SubscriberId, SubscriberOps};
+use event_manager::{EventManager, EventPoller, NoJob, Result, SubscriberId, SubscriberOps};
+use fixtures::making::{WithManager, with_manager};
+use fixtures::parts::{OnTable, on_table};
 use std::alloc::Global;
 use std::process::Abort;
 use std::sync::ledger::Ledger;
 use std::sync::{Arc, Wait};
-use std::test::Fail;
 use std::time::Clock;
 use vmm_sys::eventfd::EventFd;
 
 /// Takes in a subscriber of this counter: its id.
-fn join<L: Ledger, T: Ledger, P: EventPoller>(
+fn join<L: Ledger, T: Ledger, P: EventPoller, R: Abort>(
+    rt: &R,
     manager: &mut EventManager<CounterSubscriber, NoJob, L, T, P>,
     event_fd: &EventFd,
-) -> Result<SubscriberId, Fail> {
-    Ok(manager.add_subscriber(CounterSubscriber::new(event_fd.try_clone()?))?)
+) -> SubscriberId {
+    let same = expect_ok(rt, event_fd.try_clone());
+    expect_ok(rt, manager.add_subscriber(CounterSubscriber::new(same)))
 }
 
 /// Triggers the subscriber's counter, or clears it.
@@ -28,7 +31,7 @@ fn set_ready<L: Ledger, T: Ledger, P: EventPoller, R: Wait>(
     manager: &mut EventManager<CounterSubscriber, NoJob, L, T, P>,
     id: SubscriberId,
     is_ready: bool,
-) -> Result<(), Fail> {
+) -> Result<()> {
     let subscriber = manager.subscriber_mut(id)?;
     match is_ready {
         true => subscriber.trigger_event(rt),
@@ -41,31 +44,39 @@ fn set_ready<L: Ledger, T: Ledger, P: EventPoller, R: Wait>(
 const TRIGGERED: [usize; 4] = [1, 3, 50, 97];
 
 /// Takes in a subscriber of each counter: their ids, in order.
-fn join_all<L: Ledger, T: Ledger, P: EventPoller>(
+fn join_all<L: Ledger, T: Ledger, P: EventPoller, R: Abort>(
+    rt: &R,
     alloc: Global,
     manager: &mut EventManager<CounterSubscriber, NoJob, L, T, P>,
     event_fds: &[EventFd],
-) -> Result<Vec<SubscriberId>, Fail> {
+) -> Vec<SubscriberId> {
     let mut ids = Vec::new(alloc);
     for event_fd in event_fds {
-        ids.push(join(manager, event_fd)?)?;
+        expect_ok(rt, ids.push(join(rt, manager, event_fd)));
     }
-    Ok(ids)
+    ids
 }
 
 /// Makes those ready that are triggered, or no longer.
-fn set_some_ready<L: Ledger, T: Ledger, P: EventPoller, R: Wait>(
+fn set_some_ready<L: Ledger, T: Ledger, P: EventPoller, R: Wait + Abort>(
     rt: &R,
     manager: &mut EventManager<CounterSubscriber, NoJob, L, T, P>,
     ids: &[SubscriberId],
     is_ready: bool,
-) -> Result<(), Fail> {
+) {
     for (index, id) in ids.iter().enumerate() {
         if TRIGGERED.contains(&index) {
-            set_ready(rt, manager, *id, is_ready)?;
+            expect_ok(rt, set_ready(rt, manager, *id, is_ready));
         }
     }
-    Ok(())
+}
+
+/// How many events the subscriber has counted.
+fn counted_by<L: Ledger, T: Ledger, P: EventPoller>(
+    manager: &mut EventManager<CounterSubscriber, NoJob, L, T, P>,
+    id: SubscriberId,
+) -> Result<u64> {
+    Ok(manager.subscriber_mut(id)?.counter())
 }
 
 /// Expects that a run has so many events, and that those that were triggered have then counted one, and the others none.
@@ -74,13 +85,12 @@ fn expect_counts<L: Ledger, T: Ledger, P: EventPoller, R: Wait + Clock + Abort>(
     manager: &mut EventManager<CounterSubscriber, NoJob, L, T, P>,
     ids: &[SubscriberId],
     count: usize,
-) -> Result<(), Fail> {
+) {
     expect_run_within(rt, manager, 100, count);
     for (index, id) in ids.iter().enumerate() {
         let counted = u64::from(TRIGGERED.contains(&index));
-        expect_same(rt, &manager.subscriber_mut(*id)?.counter(), &counted);
+        expect_same(rt, &counted_by(manager, *id), &Ok(counted));
     }
-    Ok(())
 }
 
 /// Triggers some of a hundred subscribers, runs, clears them, and runs again.
@@ -94,31 +104,40 @@ struct Hundred<'a, R> {
 impl<R: Wait + Clock + Abort> WithManager for Hundred<'_, R> {
     type Subscriber = CounterSubscriber;
 
+    type Output = ();
+
     fn run<L: Ledger, T: Ledger, P: EventPoller>(
-        &self,
+        self,
         manager: &mut EventManager<CounterSubscriber, NoJob, L, T, P>,
-    ) -> Result<(), Fail> {
-        let ids = join_all(self.alloc, manager, self.event_fds)?;
-        set_some_ready(self.rt, manager, &ids, true)?;
-        expect_counts(self.rt, manager, &ids, 4)?;
-        set_some_ready(self.rt, manager, &ids, false)?;
-        expect_counts(self.rt, manager, &ids, 0)
+    ) -> Result<()> {
+        let ids = join_all(self.rt, self.alloc, manager, self.event_fds);
+        set_some_ready(self.rt, manager, &ids, true);
+        expect_counts(self.rt, manager, &ids, 4);
+        set_some_ready(self.rt, manager, &ids, false);
+        expect_counts(self.rt, manager, &ids, 0);
+        Ok(())
     }
 }
 
-#[test]
-fn test_single_threaded(rt: HostRuntime) -> Result<(), Fail> {
-    let parts = on_table(rt, rt.alloc())?;
-    let mut event_fds = Vec::new(rt.alloc());
+/// A hundred counters of value 0 in the table of these parts.
+fn hundred_counters_of<R: Host>(rt: &R, alloc: Global, parts: &OnTable<R>) -> Vec<EventFd> {
+    let mut event_fds = Vec::new(alloc);
     for _ in 0..100 {
-        event_fds.push(counter_of(&rt, &parts)?)?;
+        expect_ok(rt, event_fds.push(counter_of(rt, parts)));
     }
+    event_fds
+}
+
+#[test]
+fn test_single_threaded(rt: HostRuntime) {
+    let parts = expect_ok(&rt, on_table(rt, rt.alloc(), 0));
+    let event_fds = hundred_counters_of(&rt, rt.alloc(), &parts);
     let body = Hundred {
         rt: &rt,
         alloc: rt.alloc(),
         event_fds: event_fds.as_slice(),
     };
-    with_manager(parts, &body)
+    expect_ok(&rt, with_manager(parts, body));
 }
 
 /// Runs before a trigger, twice after it, and after the clear.
@@ -131,29 +150,31 @@ struct Triggered<'a, R> {
 impl<R: Wait + Clock + Abort> WithManager for Triggered<'_, R> {
     type Subscriber = CounterSubscriber;
 
+    type Output = ();
+
     fn run<L: Ledger, T: Ledger, P: EventPoller>(
-        &self,
+        self,
         manager: &mut EventManager<CounterSubscriber, NoJob, L, T, P>,
-    ) -> Result<(), Fail> {
-        let id = join(manager, self.event_fd)?;
+    ) -> Result<()> {
+        let id = join(self.rt, manager, self.event_fd);
         expect_run_within(self.rt, manager, 0, 0);
-        set_ready(self.rt, manager, id, true)?;
+        expect_ok(self.rt, set_ready(self.rt, manager, id, true));
         expect_run_within(self.rt, manager, 100, 1);
         expect_run_within(self.rt, manager, 100, 1);
-        set_ready(self.rt, manager, id, false)?;
+        expect_ok(self.rt, set_ready(self.rt, manager, id, false));
         expect_run_within(self.rt, manager, 0, 0);
         Ok(())
     }
 }
 
 #[test]
-fn a_counter_is_ready_from_trigger_to_clear(rt: HostRuntime) -> Result<(), Fail> {
-    let parts = on_table(rt, rt.alloc())?;
+fn a_counter_is_ready_from_trigger_to_clear(rt: HostRuntime) {
+    let parts = expect_ok(&rt, on_table(rt, rt.alloc(), 0));
     let body = Triggered {
         rt: &rt,
-        event_fd: &counter_of(&rt, &parts)?,
+        event_fd: &counter_of(&rt, &parts),
     };
-    with_manager(parts, &body)
+    expect_ok(&rt, with_manager(parts, body));
 }
 
 /// The same with one that is shared.
@@ -166,11 +187,14 @@ struct SharedTriggered<'a, R> {
 impl<R: Wait + Clock + Abort> WithManager for SharedTriggered<'_, R> {
     type Subscriber = Arc<CounterInnerMutSubscriber>;
 
+    type Output = ();
+
     fn run<L: Ledger, T: Ledger, P: EventPoller>(
-        &self,
+        self,
         manager: &mut EventManager<Arc<CounterInnerMutSubscriber>, NoJob, L, T, P>,
-    ) -> Result<(), Fail> {
-        manager.add_subscriber(self.subscriber.clone()?)?;
+    ) -> Result<()> {
+        let subscriber = expect_ok(self.rt, self.subscriber.clone());
+        expect_ok(self.rt, manager.add_subscriber(subscriber));
         expect_run_within(self.rt, manager, 0, 0);
         self.subscriber.trigger_event(self.rt);
         expect_run_within(self.rt, manager, 100, 1);
@@ -183,14 +207,15 @@ impl<R: Wait + Clock + Abort> WithManager for SharedTriggered<'_, R> {
 }
 
 #[test]
-fn a_shared_counter_is_ready_from_trigger_to_clear(rt: HostRuntime) -> Result<(), Fail> {
-    let parts = on_table(rt, rt.alloc())?;
-    let subscriber = CounterInnerMutSubscriber::new(counter_of(&rt, &parts)?);
+fn a_shared_counter_is_ready_from_trigger_to_clear(rt: HostRuntime) {
+    let parts = expect_ok(&rt, on_table(rt, rt.alloc(), 0));
+    let subscriber = CounterInnerMutSubscriber::new(counter_of(&rt, &parts));
+    let shared = expect_ok(&rt, Arc::new(rt.alloc(), subscriber));
     let body = SharedTriggered {
         rt: &rt,
-        subscriber: &Arc::new(rt.alloc(), subscriber)?,
+        subscriber: &shared,
     };
-    with_manager(parts, &body)
+    expect_ok(&rt, with_manager(parts, body));
 }
 
 /// Runs once with all three counters ready: the subscriber must then have these values.
@@ -205,28 +230,55 @@ struct AllReady<'a, R> {
 }
 
 impl<R: Wait + Clock + Abort> AllReady<'_, R> {
-    fn subscriber(&self) -> Result<CounterSubscriberWithData, Fail> {
+    fn subscriber(&self) -> CounterSubscriberWithData {
         let [first, second, third] = self.event_fds;
-        let event_fds = [first.try_clone()?, second.try_clone()?, third.try_clone()?];
+        let event_fds = [
+            expect_ok(self.rt, first.try_clone()),
+            expect_ok(self.rt, second.try_clone()),
+            expect_ok(self.rt, third.try_clone()),
+        ];
         let first_data = u32::from(self.first_data);
         let mut subscriber = CounterSubscriberWithData::new(self.alloc, event_fds, first_data);
         subscriber.set_toggle_registry(self.toggles);
-        Ok(subscriber)
+        subscriber
     }
+}
+
+/// Triggers all counters of the subscriber.
+fn trigger_all<L: Ledger, T: Ledger, P: EventPoller, R: Wait>(
+    rt: &R,
+    manager: &mut EventManager<CounterSubscriberWithData, NoJob, L, T, P>,
+    id: SubscriberId,
+) -> Result<()> {
+    manager.subscriber_mut(id)?.trigger_all_counters(rt);
+    Ok(())
+}
+
+/// Expects these values of the subscriber's counters.
+fn expect_values_of<L: Ledger, T: Ledger, P: EventPoller, R: Abort>(
+    rt: &R,
+    manager: &mut EventManager<CounterSubscriberWithData, NoJob, L, T, P>,
+    id: SubscriberId,
+    values: [u64; 3],
+) -> Result<()> {
+    expect_values(rt, manager.subscriber_mut(id)?, values);
+    Ok(())
 }
 
 impl<R: Wait + Clock + Abort> WithManager for AllReady<'_, R> {
     type Subscriber = CounterSubscriberWithData;
 
+    type Output = ();
+
     fn run<L: Ledger, T: Ledger, P: EventPoller>(
-        &self,
+        self,
         manager: &mut EventManager<CounterSubscriberWithData, NoJob, L, T, P>,
-    ) -> Result<(), Fail> {
-        let id = manager.add_subscriber(self.subscriber()?)?;
+    ) -> Result<()> {
+        let id = expect_ok(self.rt, manager.add_subscriber(self.subscriber()));
         expect_run_within(self.rt, manager, 0, 0);
-        manager.subscriber_mut(id)?.trigger_all_counters(self.rt);
+        expect_ok(self.rt, trigger_all(self.rt, manager, id));
         expect_run_within(self.rt, manager, 100, 3);
-        expect_values(self.rt, manager.subscriber_mut(id)?, self.values);
+        expect_ok(self.rt, expect_values_of(self.rt, manager, id, self.values));
         Ok(())
     }
 }
@@ -238,25 +290,25 @@ fn expect_all_ready<R: Host>(
     first_data: u16,
     toggles: bool,
     values: [u64; 3],
-) -> Result<(), Fail> {
-    let parts = on_table(rt, alloc)?;
+) {
+    let parts = expect_ok(&rt, on_table(rt, alloc, 0));
     let body = AllReady {
         rt: &rt,
         alloc,
-        event_fds: &three_counters_of(&rt, &parts)?,
+        event_fds: &three_counters_of(&rt, &parts),
         first_data,
         toggles,
         values,
     };
-    with_manager(parts, &body)
+    expect_ok(&rt, with_manager(parts, body));
 }
 
 #[test]
-fn test_reuse_file_descriptor(rt: HostRuntime) -> Result<(), Fail> {
-    expect_all_ready(rt, rt.alloc(), 0, true, [1, 0, 0])
+fn test_reuse_file_descriptor(rt: HostRuntime) {
+    expect_all_ready(rt, rt.alloc(), 0, true, [1, 0, 0]);
 }
 
 #[test]
-fn a_trigger_of_all_makes_three_counters_ready(rt: HostRuntime) -> Result<(), Fail> {
-    expect_all_ready(rt, rt.alloc(), 7, false, [1, 1, 1])
+fn a_trigger_of_all_makes_three_counters_ready(rt: HostRuntime) {
+    expect_all_ready(rt, rt.alloc(), 7, false, [1, 1, 1]);
 }

@@ -2,22 +2,23 @@
 
 ghost use Rattle.std.specs.Prelude.{◌≡◌};
 
-use crate::expecting::{expect_run_within, expect_same, expect_values};
-use crate::making::{Host, OnTable, counter_of, make, no_memory, on_table, three_counters_of};
+use crate::expecting::{expect_ok, expect_run_within, expect_same, expect_values};
+use crate::making::{Host, counter_of, three_counters_of};
 use event_manager::utilities::subscribers::{
     CounterInnerMutSubscriber, CounterSubscriber, CounterSubscriberWithData,
 };
 use event_manager::{
-    Either, EventManager, MutEventSubscriber, NoJob, PlainPoller, SubscriberId, SubscriberOps,
+    Either, EventManager, MutEventSubscriber, NoJob, PlainPoller, Result, SubscriberId,
+    SubscriberOps,
 };
+use fixtures::making::{make, no_memory};
+use fixtures::parts::{OnTable, on_table};
 use std::alloc::Global;
 use std::marker::Brand;
 use std::sync::Arc;
 use std::sync::ledger::{Blank, Ledger};
-use std::test::Fail;
 use std::thread;
 use vmm_sys::epoll::Epoll;
-use vmm_sys::errno::Errno;
 
 type Loop<S, L, T, R> = EventManager<S, NoJob, L, T, PlainPoller<Epoll<R>>>;
 
@@ -39,7 +40,7 @@ fn add_all<S: MutEventSubscriber + Drop, L: Ledger, T: Ledger, R: Host>(
     alloc: Global,
     manager: &mut Loop<S, L, T, R>,
     subscribers: Vec<S>,
-) -> event_manager::Result<Vec<SubscriberId>> {
+) -> Result<Vec<SubscriberId>> {
     let mut ids = Vec::new(alloc);
     for subscriber in subscribers {
         ids.push(manager.add_subscriber(subscriber)?)?;
@@ -52,7 +53,7 @@ fn remove_to<S: MutEventSubscriber + Drop, L: Ledger, T: Ledger, R: Host>(
     manager: &mut Loop<S, L, T, R>,
     id: SubscriberId,
     left: &mut Vec<S>,
-) -> event_manager::Result<()> {
+) -> Result<()> {
     let subscriber = manager.remove_subscriber(id)?;
     left.push(subscriber).map_err(no_memory)
 }
@@ -62,7 +63,7 @@ fn remove_all<S: MutEventSubscriber + Drop, L: Ledger, T: Ledger, R: Host>(
     alloc: Global,
     manager: &mut Loop<S, L, T, R>,
     ids: &[SubscriberId],
-) -> event_manager::Result<Vec<S>> {
+) -> Result<Vec<S>> {
     let mut left = Vec::new(alloc);
     for id in ids {
         remove_to(manager, *id, &mut left)?;
@@ -71,11 +72,7 @@ fn remove_all<S: MutEventSubscriber + Drop, L: Ledger, T: Ledger, R: Host>(
 }
 
 /// The manager, after a second thread made a hundred runs with it.
-fn moved<S, L, T, R>(
-    rt: R,
-    manager: Loop<S, L, T, R>,
-    count: usize,
-) -> event_manager::Result<Loop<S, L, T, R>>
+fn moved<S, L, T, R>(rt: R, manager: Loop<S, L, T, R>, count: usize) -> Result<Loop<S, L, T, R>>
 where
     S: MutEventSubscriber + Send + Drop + 'static,
     L: Ledger + Send + Sync + 'static,
@@ -95,7 +92,7 @@ fn move_and_leave<S, L, T, R>(
     manager: Loop<S, L, T, R>,
     ids: &[SubscriberId],
     count: usize,
-) -> event_manager::Result<Vec<S>>
+) -> Result<Vec<S>>
 where
     S: MutEventSubscriber + Send + Drop + 'static,
     L: Ledger + Send + Sync + 'static,
@@ -114,7 +111,7 @@ fn run_moved<S, L, T, R>(
     count: usize,
     tickets: Blank,
     taken: Blank,
-) -> Result<Vec<S>, Fail>
+) -> Result<Vec<S>>
 where
     S: MutEventSubscriber + Send + Drop + 'static,
     L: Ledger + Send + Sync + 'static,
@@ -126,9 +123,9 @@ where
     requires taken_parts { (taken.parts ≡ T.parts) × (taken.parts ≡ 1) }
 {
     let alloc = parts.alloc;
-    let mut manager = make::<S, L, T, _>(parts, tickets, taken)?;
+    let mut manager = make::<S, NoJob, L, T, _>(parts, tickets, taken)?;
     let ids = add_all(alloc, &mut manager, subscribers)?;
-    Ok(move_and_leave(rt, alloc, manager, ids.as_slice(), count)?)
+    move_and_leave(rt, alloc, manager, ids.as_slice(), count)
 }
 
 /// The subscribers, in order, after a manager of them was moved to a second thread and has made a hundred runs there,
@@ -138,7 +135,7 @@ fn run_on_second_thread<S: MutEventSubscriber + Send + Drop + 'static, R: Host>(
     parts: OnTable<R>,
     subscribers: Vec<S>,
     count: usize,
-) -> Result<Vec<S>, Fail> {
+) -> Result<Vec<S>> {
     let tickets = Blank::new(9223372036854775808);
     run_moved::<S, Brand, Brand, R>(rt, parts, subscribers, count, tickets, Blank::new(1))
 }
@@ -149,35 +146,35 @@ fn triggered<R: Host>(
     alloc: Global,
     parts: &OnTable<R>,
     first_data: u16,
-) -> Result<CounterSubscriberWithData, Errno> {
-    let event_fds = three_counters_of(rt, parts)?;
+) -> CounterSubscriberWithData {
+    let event_fds = three_counters_of(rt, parts);
     let mut subscriber = CounterSubscriberWithData::new(alloc, event_fds, u32::from(first_data));
     subscriber.trigger_all_counters(rt);
-    Ok(subscriber)
+    subscriber
 }
 
 #[test]
-fn test_one_type_subscriber(rt: HostRuntime) -> Result<(), Fail> {
-    let parts = on_table(rt, rt.alloc())?;
-    let first = triggered(&rt, rt.alloc(), &parts, 1)?;
-    let second = triggered(&rt, rt.alloc(), &parts, 1999)?;
-    let both = vec![in rt.alloc(); first, second]?;
-    let left = run_on_second_thread(rt, parts, both, 6)?;
+fn test_one_type_subscriber(rt: HostRuntime) {
+    let parts = expect_ok(&rt, on_table(rt, rt.alloc(), 0));
+    let first = triggered(&rt, rt.alloc(), &parts, 1);
+    let second = triggered(&rt, rt.alloc(), &parts, 1999);
+    let both = expect_ok(&rt, vec![in rt.alloc(); first, second]);
+    let left = expect_ok(&rt, run_on_second_thread(rt, parts, both, 6));
     expect_same(&rt, &left.len(), &2);
     for subscriber in &left {
         expect_values(&rt, subscriber, [100, 100, 100]);
     }
-    Ok(())
 }
 
 #[test]
-fn test_diff_type_subscribers(rt: HostRuntime) -> Result<(), Fail> {
-    let parts = on_table(rt, rt.alloc())?;
-    let three = triggered(&rt, rt.alloc(), &parts, 1)?;
-    let mut one = CounterSubscriber::new(counter_of(&rt, &parts)?);
+fn test_diff_type_subscribers(rt: HostRuntime) {
+    let parts = expect_ok(&rt, on_table(rt, rt.alloc(), 0));
+    let three = triggered(&rt, rt.alloc(), &parts, 1);
+    let mut one = CounterSubscriber::new(counter_of(&rt, &parts));
     one.trigger_event(&rt);
-    let both = vec![in rt.alloc(); Either::First(three), Either::Second(one)]?;
-    let left = run_on_second_thread(rt, parts, both, 4)?;
+    let both = vec![in rt.alloc(); Either::First(three), Either::Second(one)];
+    let both = expect_ok(&rt, both);
+    let left = expect_ok(&rt, run_on_second_thread(rt, parts, both, 4));
     expect_same(&rt, &left.len(), &2);
     for subscriber in &left {
         match subscriber {
@@ -185,18 +182,17 @@ fn test_diff_type_subscribers(rt: HostRuntime) -> Result<(), Fail> {
             Either::Second(one) => expect_same(&rt, &one.counter(), &100),
         }
     }
-    Ok(())
 }
 
 #[test]
-fn test_subscriber_inner_mut(rt: HostRuntime) -> Result<(), Fail> {
-    let parts = on_table(rt, rt.alloc())?;
-    let subscriber = CounterInnerMutSubscriber::new(counter_of(&rt, &parts)?);
-    let shared = Arc::new(rt.alloc(), subscriber)?;
+fn test_subscriber_inner_mut(rt: HostRuntime) {
+    let parts = expect_ok(&rt, on_table(rt, rt.alloc(), 0));
+    let subscriber = CounterInnerMutSubscriber::new(counter_of(&rt, &parts));
+    let shared = expect_ok(&rt, Arc::new(rt.alloc(), subscriber));
     shared.trigger_event(&rt);
-    let one = vec![in rt.alloc(); shared.clone()?]?;
-    let left = run_on_second_thread(rt, parts, one, 1)?;
+    let theirs = expect_ok(&rt, shared.clone());
+    let one = expect_ok(&rt, vec![in rt.alloc(); theirs]);
+    let left = expect_ok(&rt, run_on_second_thread(rt, parts, one, 1));
     expect_same(&rt, &left.len(), &1);
     expect_same(&rt, &shared.counter(), &100);
-    Ok(())
 }

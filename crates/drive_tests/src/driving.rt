@@ -1,67 +1,46 @@
 //! Managers over scripts, driven by lists of calls.
 
+use crate::expecting::expect_ok;
 use crate::subscribers::Quiet;
 use crate::told::{Told, tell};
 use event_manager::drive::drive;
 use event_manager::{
-    Call, Error, EventManager, MutEventSubscriber, NoJob, PlainPoller, Reply, Result, SubscriberId,
-    WithLedgers, with_ledgers,
+    Call, EventManager, EventPoller, MutEventSubscriber, NoJob, PlainPoller, Reply, Result,
+    SubscriberId,
 };
+use fixtures::making::{WithManager, with_manager};
+use fixtures::parts::silent_parts;
 use std::alloc::Global;
+use std::process::Abort;
 use std::sync::Wait;
-use std::sync::ledger::{Blank, Ledger};
-use std::test::Fail;
+use std::sync::ledger::Ledger;
 use std::time::Clock;
-use vmm_sys::epoll::Epoll;
-use vmm_sys::errno::Errno;
-use vmm_sys::eventfd::EventFd;
 use vmm_sys::script_poller::ScriptPoller;
 
-/// What a manager is made of, the lists for it, and the replies that stand before theirs.
+/// The lists for a manager, and the replies that stand before its own.
+#[derive(Drop)]
 struct Driving<'a, R, S> {
     rt: &'a R,
-    alloc: Global,
-    script: ScriptPoller,
-    event_fd: EventFd,
     lists: Vec<Vec<Call<S>>>,
     replies: Vec<Reply<S>>,
 }
 
-impl<R: Wait + Clock, S: MutEventSubscriber + Drop> WithLedgers for Driving<'_, R, S> {
-    type Output = Result<Vec<Reply<S>>>;
+impl<R: Wait + Clock, S: MutEventSubscriber + Drop> WithManager for Driving<'_, R, S> {
+    type Subscriber = S;
 
-    fn run<L: Ledger + Send + Sync, T: Ledger + Send + Sync>(
+    type Output = Vec<Reply<S>>;
+
+    fn run<L: Ledger, T: Ledger, P: EventPoller>(
         self,
-        tickets: Blank,
-        taken: Blank,
+        manager: &mut EventManager<S, NoJob, L, T, P>,
     ) -> Result<Vec<Reply<S>>> {
-        let Driving {
-            rt,
-            alloc,
-            script,
-            event_fd,
-            lists,
-            replies,
-        } = self;
+        let Driving { rt, lists, replies } = self;
         let mut replies = replies;
-        let poller = PlainPoller(script);
-        let mut manager = EventManager::<S, NoJob, L, T, _>::new(
-            alloc, poller, event_fd, tickets, taken,
-        )?;
         for calls in lists {
-            drive(&mut manager, calls, &mut replies, rt)?;
+            drive(manager, calls, &mut replies, rt)?;
         }
         Ok(replies)
     }
-}
-
-/// A counter with descriptor 0 and value 0: an endpoint that stays silent.
-fn silent_endpoint<R: Wait + Clock + Copy + Send + Drop>(
-    rt: R,
-    alloc: Global,
-) -> std::result::Result<EventFd, Errno> {
-    let epoll = Epoll::new(rt, alloc)?;
-    EventFd::new(&epoll, 0, &rt)
 }
 
 /// Drives a new manager over the script by the lists in turn, and appends the replies to these.
@@ -71,21 +50,18 @@ pub fn drive_behind<R, S>(
     script: ScriptPoller,
     lists: Vec<Vec<Call<S>>>,
     replies: Vec<Reply<S>>,
-) -> std::result::Result<Vec<Reply<S>>, Fail>
+) -> Vec<Reply<S>>
 where
-    R: Wait + Clock + Copy + Send + Drop,
+    R: Wait + Clock + Abort + Copy + Send + Drop,
     S: MutEventSubscriber + Drop,
 {
-    let event_fd = silent_endpoint(rt, alloc)?;
+    let parts = expect_ok(&rt, silent_parts(rt, alloc, PlainPoller(script)));
     let driving = Driving {
         rt: &rt,
-        alloc,
-        script,
-        event_fd,
         lists,
         replies,
     };
-    Ok(with_ledgers(driving)?)
+    expect_ok(&rt, with_manager(parts, driving))
 }
 
 /// The replies of a new manager over the script to one list.
@@ -94,52 +70,52 @@ pub fn replies_to<R, S>(
     alloc: Global,
     script: ScriptPoller,
     calls: Vec<Call<S>>,
-) -> std::result::Result<Vec<Reply<S>>, Fail>
+) -> Vec<Reply<S>>
 where
-    R: Wait + Clock + Copy + Send + Drop,
+    R: Wait + Clock + Abort + Copy + Send + Drop,
     S: MutEventSubscriber + Drop,
 {
-    let lists = vec![in alloc; calls]?;
+    let lists = expect_ok(&rt, vec![in alloc; calls]);
     drive_behind(rt, alloc, script, lists, Vec::new(alloc))
 }
 
 /// What a new manager of quiet subscribers tells to the lists, over a poller that reports nothing.
-pub fn told_by_quiet<R: Wait + Clock + Copy + Send + Drop>(
+pub fn told_by_quiet<R: Wait + Clock + Abort + Copy + Send + Drop>(
     rt: R,
     alloc: Global,
     lists: Vec<Vec<Call<Quiet>>>,
-) -> std::result::Result<Vec<Told>, Fail> {
+) -> Vec<Told> {
     let script = ScriptPoller::new(alloc);
-    let replies = drive_behind(rt, alloc, script, lists, Vec::new(alloc))?;
-    Ok(tell(alloc, replies)?)
+    let replies = drive_behind(rt, alloc, script, lists, Vec::new(alloc));
+    expect_ok(&rt, tell(alloc, replies))
 }
 
 /// The first ids of a manager: an id is its number alone, so they are those of every manager.
-pub fn first_ids<R: Wait + Clock + Copy + Send + Drop>(
+pub fn first_ids<R: Wait + Clock + Abort + Copy + Send + Drop>(
     rt: R,
     alloc: Global,
     count: u64,
-) -> std::result::Result<Vec<SubscriberId>, Fail> {
+) -> Vec<SubscriberId> {
     let mut calls = Vec::new(alloc);
     for name in 0..count {
-        calls.push(Call::Add(Quiet(name)))?;
+        expect_ok(&rt, calls.push(Call::Add(Quiet(name))));
     }
     let mut ids = Vec::new(alloc);
-    for reply in replies_to(rt, alloc, ScriptPoller::new(alloc), calls)? {
+    for reply in replies_to(rt, alloc, ScriptPoller::new(alloc), calls) {
         if let Reply::Added(Ok(id)) = reply {
-            ids.push(id)?;
+            expect_ok(&rt, ids.push(id));
         }
     }
-    Ok(ids)
+    ids
 }
 
 /// The first two of them.
-pub fn two_ids<R: Wait + Clock + Copy + Send + Drop>(
+pub fn two_ids<R: Wait + Clock + Abort + Copy + Send + Drop>(
     rt: R,
     alloc: Global,
-) -> std::result::Result<[SubscriberId; 2], Fail> {
-    match first_ids(rt, alloc, 2)?.as_slice() {
-        [first, second] => Ok([*first, *second]),
-        _ => Err(Error::InvalidId)?,
+) -> [SubscriberId; 2] {
+    match first_ids(rt, alloc, 2).as_slice() {
+        [first, second] => [*first, *second],
+        _ => panic!(rt; "an id is missing"),
     }
 }

@@ -1,6 +1,7 @@
 //! Ids, and calls with an id that nobody has.
 
 use crate::driving::{replies_to, told_by_quiet, two_ids};
+use crate::expecting::{expect_ok, expect_same};
 use crate::subscribers::{Quiet, wanted};
 use crate::told::Told;
 use event_manager::{
@@ -8,62 +9,70 @@ use event_manager::{
 };
 use std::alloc::AllocError;
 use std::rc::Rc;
-use std::sync::Wait;
-use std::test::Fail;
 use vmm_sys::script_poller::ScriptPoller;
 
 #[test]
-fn ids_go_up_and_an_id_that_left_is_unknown(rt: HostRuntime) -> Result<(), Fail> {
-    let [first, second] = two_ids(rt, rt.alloc())?;
-    let requests = vec![in rt.alloc(); Request::Remove(wanted(3))]?;
-    let calls = vec![in rt.alloc();
-        Call::Add(Quiet(11)),
-        Call::Remove(first),
-        Call::Add(Quiet(12)),
-        Call::Remove(first),
-        Call::Set(second, Quiet(13)),
-        Call::Ask(first, requests),
-    ]?;
+fn ids_go_up_and_an_id_that_left_is_unknown(rt: HostRuntime) {
+    let [first, second] = two_ids(rt, rt.alloc());
+    let requests = expect_ok(&rt, vec![in rt.alloc(); Request::Remove(wanted(3))]);
+    let calls = expect_ok(
+        &rt,
+        vec![in rt.alloc();
+            Call::Add(Quiet(11)),
+            Call::Remove(first),
+            Call::Add(Quiet(12)),
+            Call::Remove(first),
+            Call::Set(second, Quiet(13)),
+            Call::Ask(first, requests),
+        ],
+    );
     let unknown = Error::InvalidId;
-    let expected = vec![in rt.alloc();
-        Told::Added(Ok(1)),
-        Told::Removed(Ok(11)),
-        Told::Added(Ok(2)),
-        Told::Removed(Err(unknown)),
-        Told::Set(Ok(12)),
-        Told::Asked(Err(unknown)),
-    ]?;
-    let lists = vec![in rt.alloc(); calls]?;
-    assert_eq!(rt; told_by_quiet(rt, rt.alloc(), lists)?, expected);
-    Ok(())
+    let expected = expect_ok(
+        &rt,
+        vec![in rt.alloc();
+            Told::Added(Ok(1)),
+            Told::Removed(Ok(11)),
+            Told::Added(Ok(2)),
+            Told::Removed(Err(unknown)),
+            Told::Set(Ok(12)),
+            Told::Asked(Err(unknown)),
+        ],
+    );
+    let lists = expect_ok(&rt, vec![in rt.alloc(); calls]);
+    expect_same(&rt, &told_by_quiet(rt, rt.alloc(), lists), &expected);
 }
 
 #[test]
-fn an_id_that_left_changes_nobody(rt: HostRuntime) -> Result<(), Fail> {
-    let [first, second] = two_ids(rt, rt.alloc())?;
-    let requests = vec![in rt.alloc(); Request::Add(wanted(3))]?;
-    let calls = vec![in rt.alloc();
-        Call::Add(Quiet(11)),
-        Call::Add(Quiet(12)),
-        Call::Remove(first),
-        Call::Set(first, Quiet(13)),
-        Call::Ask(first, requests),
-        Call::Remove(first),
-        Call::Remove(second),
-    ]?;
+fn an_id_that_left_changes_nobody(rt: HostRuntime) {
+    let [first, second] = two_ids(rt, rt.alloc());
+    let requests = expect_ok(&rt, vec![in rt.alloc(); Request::Add(wanted(3))]);
+    let calls = expect_ok(
+        &rt,
+        vec![in rt.alloc();
+            Call::Add(Quiet(11)),
+            Call::Add(Quiet(12)),
+            Call::Remove(first),
+            Call::Set(first, Quiet(13)),
+            Call::Ask(first, requests),
+            Call::Remove(first),
+            Call::Remove(second),
+        ],
+    );
     let unknown = Error::InvalidId;
-    let expected = vec![in rt.alloc();
-        Told::Added(Ok(1)),
-        Told::Added(Ok(2)),
-        Told::Removed(Ok(11)),
-        Told::Set(Err(unknown)),
-        Told::Asked(Err(unknown)),
-        Told::Removed(Err(unknown)),
-        Told::Removed(Ok(12)),
-    ]?;
-    let lists = vec![in rt.alloc(); calls]?;
-    assert_eq!(rt; told_by_quiet(rt, rt.alloc(), lists)?, expected);
-    Ok(())
+    let expected = expect_ok(
+        &rt,
+        vec![in rt.alloc();
+            Told::Added(Ok(1)),
+            Told::Added(Ok(2)),
+            Told::Removed(Ok(11)),
+            Told::Set(Err(unknown)),
+            Told::Asked(Err(unknown)),
+            Told::Removed(Err(unknown)),
+            Told::Removed(Ok(12)),
+        ],
+    );
+    let lists = expect_ok(&rt, vec![in rt.alloc(); calls]);
+    expect_same(&rt, &told_by_quiet(rt, rt.alloc(), lists), &expected);
 }
 
 /// Counts in `init` how many hold what it holds.
@@ -95,19 +104,23 @@ fn count_holders(held: &Rc<u64>) -> Result<Counting, AllocError> {
 }
 
 #[test]
-fn a_refused_set_drops_the_new_value_before_the_next_call(rt: HostRuntime) -> Result<(), Fail> {
-    let [first, _] = two_ids(rt, rt.alloc())?;
-    let held = Rc::new(rt.alloc(), 7)?;
-    let calls = vec![in rt.alloc();
-        Call::Set(first, count_holders(&held)?),
-        Call::Add(count_holders(&held)?),
-        Call::Remove(first),
-    ]?;
-    let mut replies = replies_to(rt, rt.alloc(), ScriptPoller::new(rt.alloc()), calls)?;
+fn a_refused_set_drops_the_new_value_before_the_next_call(rt: HostRuntime) {
+    let [first, _] = two_ids(rt, rt.alloc());
+    let held = expect_ok(&rt, Rc::new(rt.alloc(), 7));
+    let refused = expect_ok(&rt, count_holders(&held));
+    let joining = expect_ok(&rt, count_holders(&held));
+    let calls = expect_ok(
+        &rt,
+        vec![in rt.alloc();
+            Call::Set(first, refused),
+            Call::Add(joining),
+            Call::Remove(first),
+        ],
+    );
+    let mut replies = replies_to(rt, rt.alloc(), ScriptPoller::new(rt.alloc()), calls);
     let Some(Reply::Removed(Ok(left))) = replies.pop() else {
         panic!(rt; "nobody leaves");
     };
     // The test's and its own.
-    assert_eq!(rt; left.holders, 2);
-    Ok(())
+    expect_same(&rt, &left.holders, &2);
 }

@@ -4,6 +4,8 @@
 #[cfg(test)]
 mod driving;
 #[cfg(test)]
+mod expecting;
+#[cfg(test)]
 mod ids;
 #[cfg(test)]
 mod lists;

@@ -1,48 +1,55 @@
 //! Runs among other calls.
 
 use crate::driving::{replies_to, two_ids};
+use crate::expecting::{expect, expect_ok, expect_same};
 use crate::subscribers::{make_noting, wanted};
 use crate::told::{Told, tell};
 use event_manager::{Call, Error, Reply};
 use std::alloc::Global;
-use std::sync::Wait;
-use std::test::Fail;
+use std::process::Abort;
 use vmm_sys::epoll::{EpollEvent, EventSet};
 use vmm_sys::errno::Errno;
 use vmm_sys::script_poller::ScriptPoller;
 
 /// Refuses a wait, interrupts the next, and then reports descriptor 3.
-fn faults_and_a_report(alloc: Global) -> Result<ScriptPoller, Fail> {
+fn faults_and_a_report<R: Abort>(rt: &R, alloc: Global) -> ScriptPoller {
     let mut script = ScriptPoller::new(alloc);
-    script.push_fault(Errno(22))?;
-    script.push_fault(Errno::EINTR)?;
-    script.push_report(vec![in alloc; EpollEvent::new(EventSet::IN, 3)]?)?;
-    Ok(script)
+    expect_ok(rt, script.push_fault(Errno(22)));
+    expect_ok(rt, script.push_fault(Errno::EINTR));
+    let report = expect_ok(rt, vec![in alloc; EpollEvent::new(EventSet::IN, 3)]);
+    expect_ok(rt, script.push_report(report));
+    script
 }
 
 #[test]
-fn calls_go_on_behind_a_run_that_is_refused_or_interrupted(rt: HostRuntime) -> Result<(), Fail> {
-    let [id, _] = two_ids(rt, rt.alloc())?;
-    let calls = vec![in rt.alloc();
-        Call::Add(make_noting(rt.alloc(), 3, 4)),
-        Call::Run(0),
-        Call::Add(make_noting(rt.alloc(), 5, 6)),
-        Call::Run(0),
-        Call::Run(0),
-        Call::Remove(id),
-    ]?;
-    let mut replies = replies_to(rt, rt.alloc(), faults_and_a_report(rt.alloc())?, calls)?;
+fn calls_go_on_behind_a_run_that_is_refused_or_interrupted(rt: HostRuntime) {
+    let [id, _] = two_ids(rt, rt.alloc());
+    let calls = expect_ok(
+        &rt,
+        vec![in rt.alloc();
+            Call::Add(make_noting(rt.alloc(), 3, 4)),
+            Call::Run(0),
+            Call::Add(make_noting(rt.alloc(), 5, 6)),
+            Call::Run(0),
+            Call::Run(0),
+            Call::Remove(id),
+        ],
+    );
+    let script = faults_and_a_report(&rt, rt.alloc());
+    let mut replies = replies_to(rt, rt.alloc(), script, calls);
     let Some(Reply::Removed(Ok(left))) = replies.pop() else {
         panic!(rt; "nobody leaves");
     };
-    assert!(rt; left.seen.as_slice() == [wanted(3)].as_slice());
-    let expected = vec![in rt.alloc();
-        Told::Added(Ok(1)),
-        Told::Ran(Err(Error::Epoll(Errno(22)))),
-        Told::Added(Ok(2)),
-        Told::Ran(Ok(0)),
-        Told::Ran(Ok(1)),
-    ]?;
-    assert_eq!(rt; tell(rt.alloc(), replies)?, expected);
-    Ok(())
+    expect(&rt, left.seen.as_slice() == [wanted(3)].as_slice());
+    let expected = expect_ok(
+        &rt,
+        vec![in rt.alloc();
+            Told::Added(Ok(1)),
+            Told::Ran(Err(Error::Epoll(Errno(22)))),
+            Told::Added(Ok(2)),
+            Told::Ran(Ok(0)),
+            Told::Ran(Ok(1)),
+        ],
+    );
+    expect_same(&rt, &expect_ok(&rt, tell(rt.alloc(), replies)), &expected);
 }

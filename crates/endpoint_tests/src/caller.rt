@@ -1,12 +1,12 @@
 //! A caller on a thread of its own, looked at from outside with a bound.
 
+use crate::expecting::expect_ok;
 use crate::threads::{Host, LIMIT};
 use event_manager::{Job, MutEventSubscriber, RemoteEndpoint, Result};
 use std::alloc::Global;
 use std::sync::Arc;
 use std::sync::atomic::{AtomicBool, Ordering};
 use std::sync::ledger::Ledger;
-use std::test::Fail;
 use std::thread;
 use std::thread::JoinHandle;
 use std::time::Duration;
@@ -24,7 +24,7 @@ pub fn start<S, J, L, T, R>(
     alloc: Global,
     endpoint: RemoteEndpoint<S, J, L, T>,
     job: J,
-) -> std::result::Result<Caller<J::Reply>, Fail>
+) -> Caller<J::Reply>
 where
     S: MutEventSubscriber + Send + 'static,
     J: Job<S> + Send + 'static,
@@ -33,14 +33,15 @@ where
     T: Ledger + Send + Sync + 'static,
     R: Host + 'static,
 {
-    let over = Arc::new(alloc, AtomicBool::new(false))?;
-    let theirs = Arc::try_clone(&over)?;
-    let thread = thread::spawn(&rt, move || {
+    let over = expect_ok(&rt, Arc::new(alloc, AtomicBool::new(false)));
+    let theirs = expect_ok(&rt, Arc::try_clone(&over));
+    let started = thread::spawn(&rt, move || {
         let reply = endpoint.call_blocking(job, &rt);
         theirs.store(true, Ordering::SeqCst);
         reply
-    })?;
-    Ok(Caller { over, thread })
+    });
+    let thread = expect_ok(&rt, started);
+    Caller { over, thread }
 }
 
 impl<V: Send + Drop + 'static> Caller<V> {

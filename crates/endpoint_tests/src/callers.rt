@@ -5,15 +5,15 @@ ghost use Rattle.std.specs.Prelude.{◌≡◌};
 
 use crate::caller::{Caller, start};
 use crate::courses::expect_let_go;
-use crate::expecting::{expect_noted, expect_run_within, expect_same, new_notes};
-use crate::making::{Idle, OnTable, make, on_table};
+use crate::expecting::{expect_noted, expect_ok, expect_run_within, expect_same, new_notes};
 use crate::threads::{Host, wait_until_pending};
 use crate::work::{Notes, Work};
 use event_manager::{Error, EventManager, PlainPoller, RemoteEndpoint, Result};
+use fixtures::making::make;
+use fixtures::parts::{Idle, OnTable, on_table};
 use std::alloc::Global;
 use std::marker::Brand;
 use std::sync::ledger::{Blank, Ledger};
-use std::test::Fail;
 use std::thread;
 use std::time::Duration;
 use vmm_sys::epoll::Epoll;
@@ -45,7 +45,7 @@ fn line_up<L, T, R>(
     endpoint: &Sender<L, T>,
     notes: &Notes,
     jobs: &[(u64, bool)],
-) -> std::result::Result<Vec<Caller<u64>>, Fail>
+) -> Vec<Caller<u64>>
 where
     L: Ledger + Send + Sync + 'static,
     T: Ledger + Send + Sync + 'static,
@@ -54,17 +54,20 @@ where
     let mut callers = Vec::new(alloc);
     let mut count = 0usize;
     for &(number, has_caller) in jobs {
-        let job = Work::Note(notes.clone()?, number);
+        let job = Work::Note(expect_ok(&rt, notes.clone()), number);
         match has_caller {
-            true => callers.push(start(rt, alloc, endpoint.try_clone()?, job)?)?,
+            true => {
+                let theirs = expect_ok(&rt, endpoint.try_clone());
+                expect_ok(&rt, callers.push(start(rt, alloc, theirs, job)));
+            }
             false => {
-                endpoint.fire(job, &rt)?;
+                expect_ok(&rt, endpoint.fire(job, &rt));
             }
         }
         count = count.wrapping_add(1);
         expect_same(&rt, &wait_until_pending(&rt, endpoint, count), &true);
     }
-    Ok(callers)
+    callers
 }
 
 /// Runs, or not, once the callers sleep, and closes.
@@ -98,7 +101,7 @@ fn expect_line_on<L, T, R>(
     line: &Line<'_>,
     tickets: Blank,
     taken: Blank,
-) -> std::result::Result<(), Fail>
+)
 where
     L: Ledger + Send + Sync + 'static,
     T: Ledger + Send + Sync + 'static,
@@ -109,9 +112,9 @@ where
     requires taken_parts { (taken.parts ≡ T.parts) × (taken.parts ≡ 1) }
 {
     let alloc = parts.alloc;
-    let manager = make::<Idle, Work, L, T, _>(parts, tickets, taken)?;
-    let endpoint = manager.remote_endpoint()?;
-    let callers = line_up(rt, alloc, &endpoint, notes, line.jobs)?;
+    let manager = expect_ok(&rt, make::<Idle, Work, L, T, _>(parts, tickets, taken));
+    let endpoint = expect_ok(&rt, manager.remote_endpoint());
+    let callers = line_up(rt, alloc, &endpoint, notes, line.jobs);
     let counts = run_and_close(&rt, manager, line.is_run);
     let issued = line.jobs.len() as u64;
     let taken = if line.is_run { issued } else { 0 };
@@ -119,56 +122,51 @@ where
     expect_let_go(&rt, notes);
     expect_replies(&rt, callers, line.replies);
     expect_noted(&rt, notes, line.noted);
-    Ok(())
 }
 
 /// Expects what the line says of a new manager.
-fn expect_line<R: Host + 'static>(
-    rt: R,
-    alloc: Global,
-    line: &Line<'_>,
-) -> std::result::Result<(), Fail> {
-    let notes = new_notes(alloc)?;
-    let parts = on_table(rt, alloc, 0)?;
+fn expect_line<R: Host + 'static>(rt: R, alloc: Global, line: &Line<'_>) {
+    let notes = new_notes(&rt, alloc);
+    let parts = expect_ok(&rt, on_table(rt, alloc, 0));
     let tickets = Blank::new(9223372036854775808);
-    expect_line_on::<Brand, Brand, R>(rt, parts, &notes, line, tickets, Blank::new(1))
+    expect_line_on::<Brand, Brand, R>(rt, parts, &notes, line, tickets, Blank::new(1));
 }
 
 #[test]
-fn two_callers_get_their_own_replies(rt: HostRuntime) -> std::result::Result<(), Fail> {
+fn two_callers_get_their_own_replies(rt: HostRuntime) {
     let line = Line {
         jobs: &[(5, true), (6, true)],
         is_run: true,
         replies: &[Ok(5), Ok(6)],
         noted: &[5, 6],
     };
-    expect_line(rt, rt.alloc(), &line)
+    expect_line(rt, rt.alloc(), &line);
 }
 
 #[test]
-fn a_reply_wakes_its_caller(rt: HostRuntime) -> std::result::Result<(), Fail> {
+fn a_reply_wakes_its_caller(rt: HostRuntime) {
     let line = Line {
         jobs: &[(5, true)],
         is_run: true,
         replies: &[Ok(5)],
         noted: &[5],
     };
-    expect_line(rt, rt.alloc(), &line)
+    expect_line(rt, rt.alloc(), &line);
 }
 
 #[test]
-fn a_close_wakes_a_caller(rt: HostRuntime) -> std::result::Result<(), Fail> {
+fn a_close_wakes_a_caller(rt: HostRuntime) {
     let line = Line {
         jobs: &[(5, true)],
         is_run: false,
         replies: &[Err(Error::ChannelRecv)],
         noted: &[],
     };
-    expect_line(rt, rt.alloc(), &line)
+    expect_line(rt, rt.alloc(), &line);
 }
 
 #[test]
-fn a_close_answers_each_caller_and_drops_its_job(rt: HostRuntime) -> std::result::Result<(), Fail> {
+fn a_close_answers_each_caller_and_drops_its_job(rt: HostRuntime) {
     let (called, fired) = ((1, true), (1, false));
     let line = Line {
         jobs: &[called, fired, called, called, fired, fired, called],
@@ -176,5 +174,5 @@ fn a_close_answers_each_caller_and_drops_its_job(rt: HostRuntime) -> std::result
         replies: &[Err(Error::ChannelRecv); 4],
         noted: &[],
     };
-    expect_line(rt, rt.alloc(), &line)
+    expect_line(rt, rt.alloc(), &line);
 }

@@ -1,29 +1,23 @@
 //! What a close leaves of the jobs, the endpoint and its counter.
 
 use crate::courses::{Course, expect_close, expect_course, expect_let_go, expect_over};
-use crate::expecting::{expect_noted, expect_same, fire_note};
-use crate::making::on_table;
+use crate::expecting::{expect_noted, expect_ok, expect_same, fire_note};
 use crate::meetings::{Kind, Loop, Sender, Shared, meet};
 use crate::refusals::{expect_after, expect_refusals};
 use crate::threads::{Host, Looping, wait_until_pending};
 use crate::work::Notes;
 use event_manager::{Error, Ticket};
+use fixtures::parts::on_table;
 use std::sync::Arc;
 use std::sync::ledger::Ledger;
-use std::test::Fail;
 use vmm_sys::epoll::{AsRawFd, ControlOperation, EpollEvent, EventSet};
 use vmm_sys::poller::Poller;
 
 /// Sends two jobs that hold the notes.
-pub fn waiting<L: Ledger, T: Ledger, R: Looping>(
-    rt: &R,
-    endpoint: &Sender<L, T>,
-    notes: &Notes,
-) -> Result<(), Fail> {
-    fire_note(rt, endpoint, notes, 1)?;
-    fire_note(rt, endpoint, notes, 2)?;
+pub fn waiting<L: Ledger, T: Ledger, R: Looping>(rt: &R, endpoint: &Sender<L, T>, notes: &Notes) {
+    expect_ok(rt, fire_note(rt, endpoint, notes, 1));
+    expect_ok(rt, fire_note(rt, endpoint, notes, 2));
     expect_same(rt, &Arc::strong_count(notes), &3);
-    Ok(())
 }
 
 /// Expects of endpoints of a closed manager that each send is refused and a kick agreed, and that no job is left.
@@ -69,32 +63,30 @@ pub fn send_round_a_close<L: Ledger, T: Ledger, R: Host>(
 }
 
 #[test]
-fn a_sender_is_refused_after_a_close(rt: HostRuntime) -> Result<(), Fail> {
-    meet(&rt, rt.alloc(), 0, &Kind::CloseBesideSends)
+fn a_sender_is_refused_after_a_close(rt: HostRuntime) {
+    meet(&rt, rt.alloc(), 0, &Kind::CloseBesideSends);
 }
 
 #[test]
-fn a_close_drops_the_jobs_that_wait(rt: HostRuntime) -> Result<(), Fail> {
-    expect_course(rt, rt.alloc(), 0, &Course::Waiting, (3, 0))
+fn a_close_drops_the_jobs_that_wait(rt: HostRuntime) {
+    expect_course(rt, rt.alloc(), 0, &Course::Waiting, (3, 0));
 }
 
 #[test]
-fn a_kick_after_a_close_is_agreed_and_read_by_nobody(rt: HostRuntime) -> Result<(), Fail> {
-    let parts = on_table(rt, rt.alloc(), 0)?;
-    let counter = parts.event_fd.try_clone()?;
-    expect_over(&rt, parts, &Course::Nothing, (0, 0))?;
+fn a_kick_after_a_close_is_agreed_and_read_by_nobody(rt: HostRuntime) {
+    let parts = expect_ok(&rt, on_table(rt, rt.alloc(), 0));
+    let counter = expect_ok(&rt, parts.event_fd.try_clone());
+    expect_over(&rt, parts, &Course::Nothing, (0, 0));
     expect_same(&rt, &counter.read(&rt), &Ok(1));
-    Ok(())
 }
 
 #[test]
-fn a_close_asks_the_poller_for_nothing(rt: HostRuntime) -> Result<(), Fail> {
-    let parts = on_table(rt, rt.alloc(), 0)?;
-    let mut epoll = parts.poller.0.try_clone()?;
+fn a_close_asks_the_poller_for_nothing(rt: HostRuntime) {
+    let parts = expect_ok(&rt, on_table(rt, rt.alloc(), 0));
+    let mut epoll = expect_ok(&rt, parts.poller.0.try_clone());
     let fd = parts.event_fd.as_raw_fd();
-    expect_over(&rt, parts, &Course::Nothing, (0, 0))?;
+    expect_over(&rt, parts, &Course::Nothing, (0, 0));
     let nothing = EpollEvent::new(EventSet::empty(), 0);
     let deleted = epoll.ctl(ControlOperation::Delete, fd, nothing);
     expect_same(&rt, &deleted, &Ok(()));
-    Ok(())
 }

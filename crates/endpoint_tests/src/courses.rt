@@ -1,17 +1,16 @@
 //! Courses of calls of a manager of idle subscribers and of its endpoint, each ended by a close.
 
-use crate::expecting::{expect_same, new_notes};
-use crate::making::{Idle, Parts, make, on_table};
+use crate::expecting::{expect_ok, expect_same, new_notes};
 use crate::threads::{Host, Looping};
 use crate::work::{Notes, Work};
 use crate::{closes, queue, refusals, reports, sends};
-use event_manager::{
-    EventManager, EventPoller, RemoteEndpoint, Result, Ticket, WithLedgers, with_ledgers,
-};
+use event_manager::{EventManager, EventPoller, RemoteEndpoint, Ticket, WithLedgers, with_ledgers};
+use fixtures::making::make;
+use fixtures::parts::{Idle, Parts, on_table};
 use std::alloc::Global;
+use std::process::Abort;
 use std::sync::Arc;
 use std::sync::ledger::{Blank, Ledger};
-use std::test::Fail;
 use vmm_sys::eventfd::EventFd;
 
 /// What is done before the close.
@@ -46,9 +45,9 @@ fn follow<L: Ledger, T: Ledger, P: EventPoller, R: Looping>(
     endpoint: &RemoteEndpoint<Idle, Work, L, T>,
     notes: &Notes,
     course: &Course<'_>,
-) -> std::result::Result<(), Fail> {
+) {
     match course {
-        Course::Nothing => Ok(()),
+        Course::Nothing => {}
         Course::TwoJobs => sends::two_jobs(rt, manager, endpoint, notes),
         Course::Full => refusals::full(rt, manager, endpoint),
         Course::NearlyFull => refusals::nearly_full(rt, manager, endpoint),
@@ -66,10 +65,10 @@ fn send_more<L: Ledger, T: Ledger, R: Looping>(
     rt: &R,
     endpoint: &RemoteEndpoint<Idle, Work, L, T>,
     course: &Course<'_>,
-) -> Result<Option<Ticket<L>>> {
+) -> Option<Ticket<L>> {
     match course {
-        Course::Waiting => Ok(Some(endpoint.fire(Work::Own(0), rt)?)),
-        _ => Ok(None),
+        Course::Waiting => Some(expect_ok(rt, endpoint.fire(Work::Own(0), rt))),
+        _ => None,
     }
 }
 
@@ -84,10 +83,14 @@ pub fn expect_close<L: Ledger, T: Ledger, P: EventPoller + Drop, R: Looping>(
 }
 
 /// Two endpoints of the manager.
-fn endpoints_of<L: Ledger, T: Ledger, P: EventPoller>(
+fn endpoints_of<L: Ledger, T: Ledger, P: EventPoller, R: Abort>(
+    rt: &R,
     manager: &EventManager<Idle, Work, L, T, P>,
-) -> Result<[RemoteEndpoint<Idle, Work, L, T>; 2]> {
-    Ok([manager.remote_endpoint()?, manager.remote_endpoint()?])
+) -> [RemoteEndpoint<Idle, Work, L, T>; 2] {
+    [
+        expect_ok(rt, manager.remote_endpoint()),
+        expect_ok(rt, manager.remote_endpoint()),
+    ]
 }
 
 /// Follows the course by the first endpoint: the last ticket, if it may be shown.
@@ -97,10 +100,10 @@ fn follow_and_send<L: Ledger, T: Ledger, P: EventPoller, R: Looping>(
     endpoints: &[RemoteEndpoint<Idle, Work, L, T>; 2],
     notes: &Notes,
     course: &Course<'_>,
-) -> std::result::Result<Option<Ticket<L>>, Fail> {
+) -> Option<Ticket<L>> {
     let [endpoint, _] = endpoints;
-    follow(rt, manager, endpoint, notes, course)?;
-    Ok(send_more(rt, endpoint, course)?)
+    follow(rt, manager, endpoint, notes, course);
+    send_more(rt, endpoint, course)
 }
 
 /// A course, and the parts of its manager.
@@ -113,13 +116,9 @@ struct Run<'a, R, P> {
 }
 
 impl<R: Looping, P: EventPoller + Drop> WithLedgers for Run<'_, R, P> {
-    type Output = std::result::Result<(), Fail>;
+    type Output = ();
 
-    fn run<L: Ledger + Send + Sync, T: Ledger + Send + Sync>(
-        self,
-        tickets: Blank,
-        taken: Blank,
-    ) -> std::result::Result<(), Fail> {
+    fn run<L: Ledger + Send + Sync, T: Ledger + Send + Sync>(self, tickets: Blank, taken: Blank) {
         let Run {
             rt,
             parts,
@@ -127,12 +126,11 @@ impl<R: Looping, P: EventPoller + Drop> WithLedgers for Run<'_, R, P> {
             course,
             counts,
         } = self;
-        let mut manager = make::<Idle, Work, L, T, P>(parts, tickets, taken)?;
-        let endpoints = endpoints_of(&manager)?;
-        let shown = follow_and_send(rt, &mut manager, &endpoints, notes, course)?;
+        let mut manager = expect_ok(rt, make::<Idle, Work, L, T, P>(parts, tickets, taken));
+        let endpoints = endpoints_of(rt, &manager);
+        let shown = follow_and_send(rt, &mut manager, &endpoints, notes, course);
         expect_close(rt, manager, counts);
         closes::expect_closed(rt, &endpoints, notes, &shown);
-        Ok(())
     }
 }
 
@@ -143,8 +141,8 @@ pub fn expect_over<R: Looping, P: EventPoller + Drop>(
     parts: Parts<P>,
     course: &Course<'_>,
     counts: (u64, u64),
-) -> std::result::Result<(), Fail> {
-    let notes = new_notes(parts.alloc)?;
+) {
+    let notes = new_notes(rt, parts.alloc);
     let run = Run {
         rt,
         parts,
@@ -152,7 +150,7 @@ pub fn expect_over<R: Looping, P: EventPoller + Drop>(
         course,
         counts,
     };
-    with_ledgers(run)
+    with_ledgers(run);
 }
 
 /// The same over a new table, where the endpoint's counter has this value.
@@ -162,8 +160,9 @@ pub fn expect_course<R: Host>(
     value: u64,
     course: &Course<'_>,
     counts: (u64, u64),
-) -> std::result::Result<(), Fail> {
-    expect_over(&rt, on_table(rt, alloc, value)?, course, counts)
+) {
+    let parts = expect_ok(&rt, on_table(rt, alloc, value));
+    expect_over(&rt, parts, course, counts);
 }
 
 /// Expects that nobody holds the notes but the test.

@@ -7,7 +7,6 @@ use std::fmt::Debug;
 use std::process::Abort;
 use std::sync::ledger::Ledger;
 use std::sync::{Arc, Mutex, Wait};
-use std::test::Fail;
 use std::time::Clock;
 
 /// Expects that the two are equal.
@@ -15,9 +14,14 @@ pub fn expect_same<A: PartialEq + Debug, R: Abort>(rt: &R, found: &A, expected: 
     assert_eq!(rt; found, expected);
 }
 
+/// What a call answers that must succeed.
+pub fn expect_ok<A, E: Debug + Drop, R: Abort>(rt: &R, answer: std::result::Result<A, E>) -> A {
+    answer.expect(rt, "it succeeds")
+}
+
 /// No note yet.
-pub fn new_notes(alloc: Global) -> std::result::Result<Notes, Fail> {
-    Ok(Arc::new(alloc, Mutex::new(Vec::new(alloc)))?)
+pub fn new_notes<R: Abort>(rt: &R, alloc: Global) -> Notes {
+    expect_ok(rt, Arc::new(alloc, Mutex::new(Vec::new(alloc))))
 }
 
 /// Sends a job that notes this: the number of its ticket.

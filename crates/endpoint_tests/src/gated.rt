@@ -1,22 +1,23 @@
 //! A job that waits while another thread sends.
 
-use crate::expecting::{expect_noted, expect_pending, expect_run_within, expect_same, fire_note};
+use crate::expecting::{
+    expect_noted, expect_ok, expect_pending, expect_run_within, expect_same, fire_note,
+};
 use crate::meetings::{Kind, Loop, Sender, Shared, meet};
 use crate::threads::Host;
 use crate::work::Work;
 use std::sync::ledger::Ledger;
-use std::test::Fail;
 
 /// Sends a job that waits at the gate, and one that notes 2.
 pub fn fire_at_gate<L: Ledger, T: Ledger, R: Host>(
     rt: &R,
     endpoint: &Sender<L, T>,
     shared: &Shared,
-) -> Result<(), Fail> {
-    let job = Work::Pass(shared.gate.clone()?, shared.notes.clone()?);
-    endpoint.fire(job, rt)?;
-    fire_note(rt, endpoint, &shared.notes, 2)?;
-    Ok(())
+) {
+    let gate = expect_ok(rt, shared.gate.clone());
+    let notes = expect_ok(rt, shared.notes.clone());
+    expect_ok(rt, endpoint.fire(Work::Pass(gate, notes), rt));
+    expect_ok(rt, fire_note(rt, endpoint, &shared.notes, 2));
 }
 
 /// Sends while a job waits at the gate and no other waits, and then lets it go on.
@@ -44,6 +45,6 @@ pub fn run_twice<L: Ledger, T: Ledger, R: Host>(
 }
 
 #[test]
-fn lock_is_free_while_jobs_run(rt: HostRuntime) -> Result<(), Fail> {
-    meet(&rt, rt.alloc(), 0, &Kind::AtGate)
+fn lock_is_free_while_jobs_run(rt: HostRuntime) {
+    meet(&rt, rt.alloc(), 0, &Kind::AtGate);
 }

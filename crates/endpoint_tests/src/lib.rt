@@ -16,8 +16,6 @@ mod gated;
 #[cfg(test)]
 mod looks;
 #[cfg(test)]
-mod making;
-#[cfg(test)]
 mod meetings;
 #[cfg(test)]
 mod members;

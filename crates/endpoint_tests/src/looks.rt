@@ -1,20 +1,18 @@
 //! A thread that looks how many jobs wait, while another's sends are refused under the lock.
 
-use crate::expecting::expect_same;
+use crate::expecting::{expect_ok, expect_same};
 use crate::meetings::{Kind, Sender, Shared, meet};
 use crate::threads::Host;
 use crate::work::Work;
 use std::sync::atomic::Ordering;
 use std::sync::ledger::Ledger;
-use std::test::Fail;
 
 /// How often a thread looks, and how often the other sends, at most: for seconds.
 const MOST: u32 = 50_000_000;
 
 /// Sends a job, behind which the counter is full.
-pub fn fill<L: Ledger, T: Ledger, R: Host>(rt: &R, endpoint: &Sender<L, T>) -> Result<(), Fail> {
-    endpoint.fire(Work::Own(0), rt)?;
-    Ok(())
+pub fn fill<L: Ledger, T: Ledger, R: Host>(rt: &R, endpoint: &Sender<L, T>) {
+    expect_ok(rt, endpoint.fire(Work::Own(0), rt));
 }
 
 /// Sends until it is told to stop, and expects that each send is refused.
@@ -50,6 +48,6 @@ pub fn look<L: Ledger, T: Ledger, R: Host>(rt: &R, endpoint: &Sender<L, T>, shar
 }
 
 #[test]
-fn pending_is_unknown_while_the_lock_is_held(rt: HostRuntime) -> Result<(), Fail> {
-    meet(&rt, rt.alloc(), u64::MAX - 2, &Kind::LooksBesideSends)
+fn pending_is_unknown_while_the_lock_is_held(rt: HostRuntime) {
+    meet(&rt, rt.alloc(), u64::MAX - 2, &Kind::LooksBesideSends);
 }

@@ -2,18 +2,18 @@
 
 ghost use Rattle.std.specs.Prelude.{◌≡◌};
 
-use crate::expecting::{expect_pending, new_notes};
-use crate::making::{Idle, OnTable, make, on_table};
+use crate::expecting::{expect_ok, expect_pending, new_notes};
 use crate::threads::Host;
 use crate::work::{Gate, Notes, Work};
 use crate::{closes, gated, looks};
 use event_manager::{EventManager, PlainPoller, RemoteEndpoint};
+use fixtures::making::make;
+use fixtures::parts::{Idle, OnTable, on_table};
 use std::alloc::Global;
 use std::marker::Brand;
 use std::sync::Arc;
 use std::sync::atomic::AtomicBool;
 use std::sync::ledger::{Blank, Ledger};
-use std::test::Fail;
 use std::thread;
 use vmm_sys::epoll::Epoll;
 
@@ -46,11 +46,11 @@ fn prepare<L: Ledger, T: Ledger, R: Host>(
     endpoint: &Sender<L, T>,
     shared: &Shared,
     kind: &Kind,
-) -> Result<(), Fail> {
+) {
     match kind {
         Kind::AtGate => gated::fire_at_gate(rt, endpoint, shared),
         Kind::LooksBesideSends => looks::fill(rt, endpoint),
-        Kind::CloseBesideSends => Ok(()),
+        Kind::CloseBesideSends => {}
     }
 }
 
@@ -116,33 +116,32 @@ fn meet_on<L: Ledger + Send + Sync, T: Ledger + Send + Sync, R: Host>(
     kind: &Kind,
     tickets: Blank,
     taken: Blank,
-) -> Result<(), Fail>
+)
     requires tickets_name { tickets.name ≡ L.name }
     requires tickets_parts { (tickets.parts ≡ L.parts) × (tickets.parts ≡ 9223372036854775808) }
     requires taken_name { taken.name ≡ T.name }
     requires taken_parts { (taken.parts ≡ T.parts) × (taken.parts ≡ 1) }
 {
-    let manager = make::<Idle, Work, L, T, _>(parts, tickets, taken)?;
-    let endpoint = manager.remote_endpoint()?;
-    prepare(rt, &endpoint, shared, kind)?;
+    let manager = expect_ok(rt, make::<Idle, Work, L, T, _>(parts, tickets, taken));
+    let endpoint = expect_ok(rt, manager.remote_endpoint());
+    prepare(rt, &endpoint, shared, kind);
     join_both(rt, manager, &endpoint, shared, kind);
     expect_behind(rt, &endpoint, kind);
-    Ok(())
 }
 
 /// What two threads share at first.
-fn new_shared(alloc: Global) -> Result<Shared, Fail> {
-    Ok(Shared {
-        gate: Arc::new(alloc, Gate::new())?,
-        notes: new_notes(alloc)?,
+fn new_shared<R: Host>(rt: &R, alloc: Global) -> Shared {
+    Shared {
+        gate: expect_ok(rt, Arc::new(alloc, Gate::new())),
+        notes: new_notes(rt, alloc),
         is_over: AtomicBool::new(false),
-    })
+    }
 }
 
 /// Lets the two meet at a new manager, whose endpoint's counter has this value.
-pub fn meet<R: Host>(rt: &R, alloc: Global, value: u64, kind: &Kind) -> Result<(), Fail> {
-    let shared = new_shared(alloc)?;
-    let parts = on_table(*rt, alloc, value)?;
+pub fn meet<R: Host>(rt: &R, alloc: Global, value: u64, kind: &Kind) {
+    let shared = new_shared(rt, alloc);
+    let parts = expect_ok(rt, on_table(*rt, alloc, value));
     let tickets = Blank::new(9223372036854775808);
-    meet_on::<Brand, Brand, R>(rt, parts, &shared, kind, tickets, Blank::new(1))
+    meet_on::<Brand, Brand, R>(rt, parts, &shared, kind, tickets, Blank::new(1));
 }

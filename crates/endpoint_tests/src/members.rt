@@ -1,7 +1,6 @@
 //! Jobs that change which subscribers there are.
 
-use crate::expecting::{expect_noted, expect_run, expect_run_within, new_notes};
-use crate::making::{OnTable, WithEndpoint, on_table, with_endpoint};
+use crate::expecting::{expect_noted, expect_ok, expect_run, expect_run_within, new_notes};
 use crate::noting::{Noting, add_noting, make_noting};
 use crate::threads::{Host, Looping};
 use crate::work::Notes;
@@ -9,11 +8,11 @@ use event_manager::{
     EventManager, EventPoller, EventSet, Events, Job, Registry, RemoteEndpoint, Result,
     SubscriberId, SubscriberOps,
 };
+use fixtures::making::{WithEndpoint, with_endpoint};
+use fixtures::parts::{OnTable, on_table};
 use std::sync::Wait;
 use std::sync::ledger::Ledger;
-use std::test::Fail;
 use std::time::Clock;
-use vmm_sys::errno::Errno;
 use vmm_sys::eventfd::EventFd;
 
 /// Adds a subscriber.
@@ -103,9 +102,9 @@ impl<R: Wait + Drop> Job<Noting<R>> for Renumber {
 const DELIVERED: u64 = 1;
 
 /// Events of a descriptor of the table of these parts that has one at each run.
-fn writable<R: Host>(rt: &R, parts: &OnTable<R>) -> std::result::Result<Events, Errno> {
-    let event_fd = EventFd::new(&parts.poller.0, 0, rt)?;
-    Ok(Events::new(&event_fd, EventSet::OUT))
+fn writable<R: Host>(rt: &R, parts: &OnTable<R>) -> Events {
+    let event_fd = expect_ok(rt, EventFd::new(&parts.poller.0, 0, rt));
+    Events::new(&event_fd, EventSet::OUT)
 }
 
 /// A job adds the subscriber.
@@ -121,14 +120,16 @@ impl<R: Looping> WithEndpoint for Joining<'_, R> {
 
     type Job = Join<R>;
 
+    type Output = ();
+
     fn run<L: Ledger, T: Ledger, P: EventPoller>(
-        &self,
+        self,
         manager: &mut EventManager<Noting<R>, Join<R>, L, T, P>,
         endpoint: &RemoteEndpoint<Noting<R>, Join<R>, L, T>,
-    ) -> std::result::Result<(), Fail> {
+    ) -> Result<()> {
         expect_run_within(self.rt, manager, 0, Ok(0));
-        let subscriber = make_noting(self.rt, self.own, DELIVERED, self.notes)?;
-        endpoint.fire(Join(subscriber), self.rt)?;
+        let subscriber = make_noting(self.rt, self.own, DELIVERED, self.notes);
+        expect_ok(self.rt, endpoint.fire(Join(subscriber), self.rt));
         expect_run(self.rt, manager, Ok(1));
         expect_noted(self.rt, self.notes, &[]);
         expect_run_within(self.rt, manager, 0, Ok(1));
@@ -138,15 +139,15 @@ impl<R: Looping> WithEndpoint for Joining<'_, R> {
 }
 
 #[test]
-fn a_job_joins_a_subscriber(rt: HostRuntime) -> std::result::Result<(), Fail> {
-    let notes = new_notes(rt.alloc())?;
-    let parts = on_table(rt, rt.alloc(), 0)?;
+fn a_job_joins_a_subscriber(rt: HostRuntime) {
+    let notes = new_notes(&rt, rt.alloc());
+    let parts = expect_ok(&rt, on_table(rt, rt.alloc(), 0));
     let body = Joining {
         rt: &rt,
-        own: writable(&rt, &parts)?,
+        own: writable(&rt, &parts),
         notes: &notes,
     };
-    with_endpoint(parts, &body)
+    expect_ok(&rt, with_endpoint(parts, body));
 }
 
 /// A job lets the subscriber leave.
@@ -162,13 +163,15 @@ impl<R: Looping> WithEndpoint for Leaving<'_, R> {
 
     type Job = Leave;
 
+    type Output = ();
+
     fn run<L: Ledger, T: Ledger, P: EventPoller>(
-        &self,
+        self,
         manager: &mut EventManager<Noting<R>, Leave, L, T, P>,
         endpoint: &RemoteEndpoint<Noting<R>, Leave, L, T>,
-    ) -> std::result::Result<(), Fail> {
-        let id = add_noting(self.rt, manager, self.own, DELIVERED, self.notes)?;
-        endpoint.fire(Leave(id), self.rt)?;
+    ) -> Result<()> {
+        let id = add_noting(self.rt, manager, self.own, DELIVERED, self.notes);
+        expect_ok(self.rt, endpoint.fire(Leave(id), self.rt));
         expect_run(self.rt, manager, Ok(2));
         expect_noted(self.rt, self.notes, &[DELIVERED]);
         expect_run_within(self.rt, manager, 0, Ok(0));
@@ -178,15 +181,15 @@ impl<R: Looping> WithEndpoint for Leaving<'_, R> {
 }
 
 #[test]
-fn a_job_lets_a_subscriber_leave(rt: HostRuntime) -> std::result::Result<(), Fail> {
-    let notes = new_notes(rt.alloc())?;
-    let parts = on_table(rt, rt.alloc(), 0)?;
+fn a_job_lets_a_subscriber_leave(rt: HostRuntime) {
+    let notes = new_notes(&rt, rt.alloc());
+    let parts = expect_ok(&rt, on_table(rt, rt.alloc(), 0));
     let body = Leaving {
         rt: &rt,
-        own: writable(&rt, &parts)?,
+        own: writable(&rt, &parts),
         notes: &notes,
     };
-    with_endpoint(parts, &body)
+    expect_ok(&rt, with_endpoint(parts, body));
 }
 
 /// A job gives the subscriber another number.
@@ -202,13 +205,15 @@ impl<R: Looping> WithEndpoint for Renumbering<'_, R> {
 
     type Job = Renumber;
 
+    type Output = ();
+
     fn run<L: Ledger, T: Ledger, P: EventPoller>(
-        &self,
+        self,
         manager: &mut EventManager<Noting<R>, Renumber, L, T, P>,
         endpoint: &RemoteEndpoint<Noting<R>, Renumber, L, T>,
-    ) -> std::result::Result<(), Fail> {
-        let id = add_noting(self.rt, manager, self.own, DELIVERED, self.notes)?;
-        endpoint.fire(Renumber { id, number: 2 }, self.rt)?;
+    ) -> Result<()> {
+        let id = add_noting(self.rt, manager, self.own, DELIVERED, self.notes);
+        expect_ok(self.rt, endpoint.fire(Renumber { id, number: 2 }, self.rt));
         expect_run(self.rt, manager, Ok(2));
         expect_run_within(self.rt, manager, 0, Ok(1));
         expect_noted(self.rt, self.notes, &[DELIVERED, 2]);
@@ -217,13 +222,13 @@ impl<R: Looping> WithEndpoint for Renumbering<'_, R> {
 }
 
 #[test]
-fn a_job_changes_a_subscriber(rt: HostRuntime) -> std::result::Result<(), Fail> {
-    let notes = new_notes(rt.alloc())?;
-    let parts = on_table(rt, rt.alloc(), 0)?;
+fn a_job_changes_a_subscriber(rt: HostRuntime) {
+    let notes = new_notes(&rt, rt.alloc());
+    let parts = expect_ok(&rt, on_table(rt, rt.alloc(), 0));
     let body = Renumbering {
         rt: &rt,
-        own: writable(&rt, &parts)?,
+        own: writable(&rt, &parts),
         notes: &notes,
     };
-    with_endpoint(parts, &body)
+    expect_ok(&rt, with_endpoint(parts, body));
 }

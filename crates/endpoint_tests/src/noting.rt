@@ -1,5 +1,6 @@
 //! A subscriber that notes its events among what jobs note.
 
+use crate::expecting::expect_ok;
 use crate::threads::Looping;
 use crate::work::{Notes, note};
 use event_manager::{
@@ -8,7 +9,6 @@ use event_manager::{
 };
 use std::sync::Wait;
 use std::sync::ledger::Ledger;
-use std::test::Fail;
 
 /// Adds one descriptor in `init`, and notes its number at each event.
 #[derive(Drop)]
@@ -38,18 +38,13 @@ impl<R: Wait> MutEventSubscriber for Noting<R> {
 }
 
 /// A subscriber of these events that notes this.
-pub fn make_noting<R: Looping>(
-    rt: &R,
-    own: Events,
-    number: u64,
-    notes: &Notes,
-) -> Result<Noting<R>, Fail> {
-    Ok(Noting {
+pub fn make_noting<R: Looping>(rt: &R, own: Events, number: u64, notes: &Notes) -> Noting<R> {
+    Noting {
         own,
         number,
-        notes: notes.clone()?,
+        notes: expect_ok(rt, notes.clone()),
         rt: *rt,
-    })
+    }
 }
 
 /// Takes in a subscriber of these events that notes this: its id.
@@ -59,6 +54,9 @@ pub fn add_noting<J: Job<Noting<R>>, L: Ledger, T: Ledger, P: EventPoller, R: Lo
     own: Events,
     number: u64,
     notes: &Notes,
-) -> Result<SubscriberId, Fail> {
-    Ok(manager.add_subscriber(make_noting(rt, own, number, notes)?)?)
+) -> SubscriberId {
+    expect_ok(
+        rt,
+        manager.add_subscriber(make_noting(rt, own, number, notes)),
+    )
 }

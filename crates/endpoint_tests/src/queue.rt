@@ -2,15 +2,15 @@
 
 use crate::courses::{Course, expect_course};
 use crate::expecting::{
-    expect_counted, expect_noted, expect_pending, expect_run, expect_run_within, expect_same,
-    fire_note, new_notes,
+    expect_counted, expect_noted, expect_ok, expect_pending, expect_run, expect_run_within,
+    expect_same, fire_note, new_notes,
 };
-use crate::making::{Idle, OnTable, make, on_table};
 use crate::threads::Looping;
 use crate::work::{Notes, Work};
 use event_manager::{EventManager, EventPoller, RemoteEndpoint, WithLedgers, with_ledgers};
+use fixtures::making::make;
+use fixtures::parts::{Idle, OnTable, on_table};
 use std::sync::ledger::{Blank, Ledger};
-use std::test::Fail;
 
 type Sender<L, T> = RemoteEndpoint<Idle, Work, L, T>;
 
@@ -22,11 +22,10 @@ fn fire_counting<L: Ledger, T: Ledger, R: Looping>(
     endpoint: &Sender<L, T>,
     notes: &Notes,
     count: u64,
-) -> Result<(), Fail> {
+) {
     for number in 1..=count {
-        expect_same(rt, &fire_note(rt, endpoint, notes, number)?, &number);
+        expect_same(rt, &fire_note(rt, endpoint, notes, number), &Ok(number));
     }
-    Ok(())
 }
 
 /// Sends five thousand jobs, and runs twice.
@@ -35,17 +34,16 @@ pub fn thousands<L: Ledger, T: Ledger, P: EventPoller, R: Looping>(
     manager: &mut Loop<L, T, P>,
     endpoint: &Sender<L, T>,
     notes: &Notes,
-) -> Result<(), Fail> {
-    fire_counting(rt, endpoint, notes, 5000)?;
+) {
+    fire_counting(rt, endpoint, notes, 5000);
     expect_run(rt, manager, Ok(1));
     expect_counted(rt, notes, 5000);
     expect_run_within(rt, manager, 0, Ok(0));
-    Ok(())
 }
 
 #[test]
-fn five_thousand_jobs_wait_and_are_run(rt: HostRuntime) -> Result<(), Fail> {
-    expect_course(rt, rt.alloc(), 0, &Course::Thousands, (5000, 5000))
+fn five_thousand_jobs_wait_and_are_run(rt: HostRuntime) {
+    expect_course(rt, rt.alloc(), 0, &Course::Thousands, (5000, 5000));
 }
 
 /// Sends two jobs by an endpoint that is then dropped.
@@ -53,9 +51,9 @@ fn fire_and_drop<L: Ledger, T: Ledger, P: EventPoller, R: Looping>(
     rt: &R,
     manager: &Loop<L, T, P>,
     notes: &Notes,
-) -> Result<(), Fail> {
-    let endpoint = manager.remote_endpoint()?;
-    fire_counting(rt, &endpoint, notes, 2)
+) {
+    let endpoint = expect_ok(rt, manager.remote_endpoint());
+    fire_counting(rt, &endpoint, notes, 2);
 }
 
 /// Drops an endpoint while its jobs wait.
@@ -63,16 +61,15 @@ pub fn dropped_endpoint<L: Ledger, T: Ledger, P: EventPoller, R: Looping>(
     rt: &R,
     manager: &mut Loop<L, T, P>,
     notes: &Notes,
-) -> Result<(), Fail> {
-    fire_and_drop(rt, manager, notes)?;
+) {
+    fire_and_drop(rt, manager, notes);
     expect_run(rt, manager, Ok(1));
     expect_noted(rt, notes, &[1, 2]);
-    Ok(())
 }
 
 #[test]
-fn jobs_outlive_their_endpoint(rt: HostRuntime) -> Result<(), Fail> {
-    expect_course(rt, rt.alloc(), 0, &Course::DroppedEndpoint, (2, 2))
+fn jobs_outlive_their_endpoint(rt: HostRuntime) {
+    expect_course(rt, rt.alloc(), 0, &Course::DroppedEndpoint, (2, 2));
 }
 
 /// Expects of two endpoints how many jobs wait.
@@ -91,11 +88,10 @@ fn fire_in_turn<L: Ledger, T: Ledger, R: Looping>(
     first: &Sender<L, T>,
     second: &Sender<L, T>,
     notes: &Notes,
-) -> Result<(), Fail> {
+) {
     for (number, endpoint) in [(1, first), (2, second), (3, first)] {
-        expect_same(rt, &fire_note(rt, endpoint, notes, number)?, &number);
+        expect_same(rt, &fire_note(rt, endpoint, notes, number), &Ok(number));
     }
-    Ok(())
 }
 
 /// Sends by two endpoints of one manager.
@@ -104,19 +100,18 @@ pub fn two_endpoints<L: Ledger, T: Ledger, P: EventPoller, R: Looping>(
     manager: &mut Loop<L, T, P>,
     endpoint: &Sender<L, T>,
     notes: &Notes,
-) -> Result<(), Fail> {
-    let second = endpoint.try_clone()?;
-    fire_in_turn(rt, endpoint, &second, notes)?;
+) {
+    let second = expect_ok(rt, endpoint.try_clone());
+    fire_in_turn(rt, endpoint, &second, notes);
     expect_both_pending(rt, (endpoint, &second), (3, 3));
     expect_run(rt, manager, Ok(1));
     expect_counted(rt, notes, 3);
     expect_both_pending(rt, (endpoint, &second), (0, 0));
-    Ok(())
 }
 
 #[test]
-fn an_endpoint_is_of_its_manager(rt: HostRuntime) -> Result<(), Fail> {
-    expect_course(rt, rt.alloc(), 0, &Course::TwoEndpoints, (3, 3))
+fn an_endpoint_is_of_its_manager(rt: HostRuntime) {
+    expect_course(rt, rt.alloc(), 0, &Course::TwoEndpoints, (3, 3));
 }
 
 /// Sends to a manager beside an endpoint of another, for which two jobs wait.
@@ -125,14 +120,13 @@ fn run_beside<L: Ledger, T: Ledger, P: EventPoller, E: Ledger, F: Ledger, R: Loo
     manager: &mut Loop<L, T, P>,
     other: &Sender<E, F>,
     notes: &Notes,
-) -> Result<(), Fail> {
-    let endpoint = manager.remote_endpoint()?;
-    fire_counting(rt, &endpoint, notes, 1)?;
+) {
+    let endpoint = expect_ok(rt, manager.remote_endpoint());
+    fire_counting(rt, &endpoint, notes, 1);
     expect_both_pending(rt, (&endpoint, other), (1, 2));
     expect_run(rt, manager, Ok(1));
     expect_both_pending(rt, (&endpoint, other), (0, 2));
     expect_counted(rt, notes, 1);
-    Ok(())
 }
 
 /// A manager beside an endpoint of another.
@@ -144,21 +138,17 @@ struct Beside<'a, R, E: Ledger, F: Ledger> {
 }
 
 impl<R: Looping + Send, E: Ledger, F: Ledger> WithLedgers for Beside<'_, R, E, F> {
-    type Output = Result<(), Fail>;
+    type Output = ();
 
-    fn run<L: Ledger + Send + Sync, T: Ledger + Send + Sync>(
-        self,
-        tickets: Blank,
-        taken: Blank,
-    ) -> Result<(), Fail> {
+    fn run<L: Ledger + Send + Sync, T: Ledger + Send + Sync>(self, tickets: Blank, taken: Blank) {
         let Beside {
             rt,
             parts,
             other,
             notes,
         } = self;
-        let mut manager = make::<Idle, Work, L, T, _>(parts, tickets, taken)?;
-        run_beside(rt, &mut manager, other, notes)
+        let mut manager = expect_ok(rt, make::<Idle, Work, L, T, _>(parts, tickets, taken));
+        run_beside(rt, &mut manager, other, notes);
     }
 }
 
@@ -182,13 +172,9 @@ struct TwoManagers<'a, R> {
 }
 
 impl<R: Looping + Send> WithLedgers for TwoManagers<'_, R> {
-    type Output = Result<(), Fail>;
+    type Output = ();
 
-    fn run<L: Ledger + Send + Sync, T: Ledger + Send + Sync>(
-        self,
-        tickets: Blank,
-        taken: Blank,
-    ) -> Result<(), Fail> {
+    fn run<L: Ledger + Send + Sync, T: Ledger + Send + Sync>(self, tickets: Blank, taken: Blank) {
         let TwoManagers {
             rt,
             parts,
@@ -196,29 +182,28 @@ impl<R: Looping + Send> WithLedgers for TwoManagers<'_, R> {
             others,
             other_notes,
         } = self;
-        let mut manager = make::<Idle, Work, L, T, _>(parts, tickets, taken)?;
-        let endpoint = manager.remote_endpoint()?;
-        fire_counting(rt, &endpoint, notes, 2)?;
+        let mut manager = expect_ok(rt, make::<Idle, Work, L, T, _>(parts, tickets, taken));
+        let endpoint = expect_ok(rt, manager.remote_endpoint());
+        fire_counting(rt, &endpoint, notes, 2);
         with_ledgers(Beside {
             rt,
             parts: others,
             other: &endpoint,
             notes: other_notes,
-        })?;
+        });
         expect_two_run(rt, &mut manager, notes);
-        Ok(())
     }
 }
 
 #[test]
-fn endpoints_of_two_managers_are_apart(rt: HostRuntime) -> Result<(), Fail> {
+fn endpoints_of_two_managers_are_apart(rt: HostRuntime) {
     let alloc = rt.alloc();
-    let (notes, other_notes) = (new_notes(alloc)?, new_notes(alloc)?);
+    let (notes, other_notes) = (new_notes(&rt, alloc), new_notes(&rt, alloc));
     with_ledgers(TwoManagers {
         rt: &rt,
-        parts: on_table(rt, alloc, 0)?,
+        parts: expect_ok(&rt, on_table(rt, alloc, 0)),
         notes: &notes,
-        others: on_table(rt, alloc, 0)?,
+        others: expect_ok(&rt, on_table(rt, alloc, 0)),
         other_notes: &other_notes,
-    })
+    });
 }

@@ -1,13 +1,12 @@
 //! Sends that are refused.
 
 use crate::courses::{Course, expect_course};
-use crate::expecting::{expect_pending, expect_run, expect_same};
-use crate::making::Idle;
+use crate::expecting::{expect_ok, expect_pending, expect_run, expect_same};
 use crate::threads::Looping;
 use crate::work::Work;
 use event_manager::{Error, EventManager, EventPoller, RemoteEndpoint, Result, Ticket};
+use fixtures::parts::Idle;
 use std::sync::ledger::Ledger;
-use std::test::Fail;
 use vmm_sys::errno::Errno;
 
 /// The largest value of an `EventFd`.
@@ -57,18 +56,17 @@ pub fn full<L: Ledger, T: Ledger, P: EventPoller, R: Looping>(
     rt: &R,
     manager: &mut EventManager<Idle, Work, L, T, P>,
     endpoint: &Sender<L, T>,
-) -> std::result::Result<(), Fail> {
+) {
     let refusal = Error::EventFd(Errno::EAGAIN);
     expect_refusals(rt, endpoint, refusal, 0);
     expect_same(rt, &endpoint.kick(rt), &Err(refusal));
     expect_run(rt, manager, Ok(1));
     expect_fire(rt, endpoint, Ok(1));
-    Ok(())
 }
 
 #[test]
-fn a_full_counter_refuses_the_send(rt: HostRuntime) -> std::result::Result<(), Fail> {
-    expect_course(rt, rt.alloc(), FULL, &Course::Full, (1, 0))
+fn a_full_counter_refuses_the_send(rt: HostRuntime) {
+    expect_course(rt, rt.alloc(), FULL, &Course::Full, (1, 0));
 }
 
 /// Expects that a job after another is refused while the counter is full, and taken after the next run.
@@ -76,16 +74,15 @@ pub fn nearly_full<L: Ledger, T: Ledger, P: EventPoller, R: Looping>(
     rt: &R,
     manager: &mut EventManager<Idle, Work, L, T, P>,
     endpoint: &Sender<L, T>,
-) -> std::result::Result<(), Fail> {
-    let shown = endpoint.fire(Work::Own(1), rt)?;
+) {
+    let shown = expect_ok(rt, endpoint.fire(Work::Own(1), rt));
     let refusal = Err(Error::EventFd(Errno::EAGAIN));
     expect_after(rt, endpoint, &shown, refusal, 1);
     expect_run(rt, manager, Ok(1));
     expect_after(rt, endpoint, &shown, Ok(2), 1);
-    Ok(())
 }
 
 #[test]
-fn a_full_counter_refuses_the_send_after_another(rt: HostRuntime) -> std::result::Result<(), Fail> {
-    expect_course(rt, rt.alloc(), FULL - 1, &Course::NearlyFull, (2, 1))
+fn a_full_counter_refuses_the_send_after_another(rt: HostRuntime) {
+    expect_course(rt, rt.alloc(), FULL - 1, &Course::NearlyFull, (2, 1));
 }

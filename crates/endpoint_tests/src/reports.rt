@@ -2,16 +2,20 @@
 
 use crate::courses::{Course, expect_over};
 use crate::expecting::{
-    expect_noted, expect_pending, expect_run, expect_run_within, expect_same, fire_note, new_notes,
+    expect_noted, expect_ok, expect_pending, expect_run, expect_run_within, expect_same, fire_note,
+    new_notes,
 };
-use crate::making::{Idle, Parts, WithEndpoint, on_table, with_endpoint};
 use crate::noting::{Noting, add_noting};
 use crate::threads::{Host, Looping};
 use crate::work::{Notes, Work};
-use event_manager::{EventManager, EventPoller, EventSet, Events, PlainPoller, RemoteEndpoint};
+use event_manager::{
+    EventManager, EventPoller, EventSet, Events, PlainPoller, RemoteEndpoint, Result,
+};
+use fixtures::making::{WithEndpoint, with_endpoint};
+use fixtures::parts::{Idle, Parts, on_table};
 use std::alloc::Global;
+use std::process::Abort;
 use std::sync::ledger::Ledger;
-use std::test::Fail;
 use vmm_sys::epoll::EpollEvent;
 use vmm_sys::eventfd::EventFd;
 use vmm_sys::script_poller::ScriptPoller;
@@ -36,14 +40,16 @@ impl<R: Looping> WithEndpoint for OneRun<'_, R> {
 
     type Job = Work;
 
+    type Output = ();
+
     fn run<L: Ledger, T: Ledger, P: EventPoller>(
-        &self,
+        self,
         manager: &mut EventManager<Noting<R>, Work, L, T, P>,
         endpoint: &RemoteEndpoint<Noting<R>, Work, L, T>,
-    ) -> Result<(), Fail> {
+    ) -> Result<()> {
         let own = Events::new_raw(3, EventSet::IN);
-        add_noting(self.rt, manager, own, DELIVERED, self.notes)?;
-        fire_note(self.rt, endpoint, self.notes, RAN)?;
+        add_noting(self.rt, manager, own, DELIVERED, self.notes);
+        expect_ok(self.rt, fire_note(self.rt, endpoint, self.notes, RAN));
         expect_run(self.rt, manager, Ok(self.count));
         expect_noted(self.rt, self.notes, self.noted);
         expect_pending(self.rt, endpoint, 0);
@@ -52,14 +58,14 @@ impl<R: Looping> WithEndpoint for OneRun<'_, R> {
 }
 
 /// A script of one report: of these words and sets.
-fn script_of(alloc: Global, report: &[(u64, EventSet)]) -> Result<ScriptPoller, Fail> {
+fn script_of<R: Abort>(rt: &R, alloc: Global, report: &[(u64, EventSet)]) -> ScriptPoller {
     let mut script = ScriptPoller::new(alloc);
     let mut events = Vec::new(alloc);
     for &(word, set) in report {
-        events.push(EpollEvent::new(set, word))?;
+        expect_ok(rt, events.push(EpollEvent::new(set, word)));
     }
-    script.push_report(events)?;
-    Ok(script)
+    expect_ok(rt, script.push_report(events));
+    script
 }
 
 /// The parts over a script, whose endpoint has descriptor 0 and this value.
@@ -68,38 +74,29 @@ fn on_script<R: Host>(
     alloc: Global,
     script: ScriptPoller,
     value: u64,
-) -> Result<Parts<PlainPoller<ScriptPoller>>, Fail> {
-    let Parts { event_fd, .. } = on_table(rt, alloc, value)?;
-    Ok(Parts {
-        alloc,
-        poller: PlainPoller(script),
-        event_fd,
-    })
+) -> Parts<PlainPoller<ScriptPoller>> {
+    let Parts { event_fd, .. } = expect_ok(&rt, on_table(rt, alloc, value));
+    Parts::new(alloc, PlainPoller(script), event_fd)
 }
 
 /// Expects that this was noted in a run over this report. The endpoint has descriptor 0, and the subscriber 3.
-fn expect_one_run<R: Host>(
-    rt: &R,
-    alloc: Global,
-    report: &[(u64, EventSet)],
-    noted: &[u64],
-) -> Result<(), Fail> {
-    let notes = new_notes(alloc)?;
-    let parts = on_script(*rt, alloc, script_of(alloc, report)?, 0)?;
+fn expect_one_run<R: Host>(rt: &R, alloc: Global, report: &[(u64, EventSet)], noted: &[u64]) {
+    let notes = new_notes(rt, alloc);
+    let parts = on_script(*rt, alloc, script_of(rt, alloc, report), 0);
     let body = OneRun {
         rt,
         notes: &notes,
         count: report.len(),
         noted,
     };
-    with_endpoint(parts, &body)
+    expect_ok(rt, with_endpoint(parts, body));
 }
 
 /// An event of the subscriber's.
 const OTHERS: (u64, EventSet) = (3, EventSet::IN);
 
 #[test]
-fn reports_of_an_endpoint_event_of_any_set(rt: HostRuntime) -> Result<(), Fail> {
+fn reports_of_an_endpoint_event_of_any_set(rt: HostRuntime) {
     let none = EventSet::empty();
     let reports: [(&[(u64, EventSet)], &[u64]); 4] = [
         (
@@ -111,9 +108,8 @@ fn reports_of_an_endpoint_event_of_any_set(rt: HostRuntime) -> Result<(), Fail> 
         (&[(0, EventSet::OUT), OTHERS, (0, none)], &[DELIVERED, RAN]),
     ];
     for (report, noted) in reports {
-        expect_one_run(&rt, rt.alloc(), report, noted)?;
+        expect_one_run(&rt, rt.alloc(), report, noted);
     }
-    Ok(())
 }
 
 /// Fires a job, lets somebody else read the endpoint's counter, and runs once over a script.
@@ -123,20 +119,19 @@ pub fn behind_read<L: Ledger, T: Ledger, P: EventPoller, R: Looping>(
     endpoint: &RemoteEndpoint<Idle, Work, L, T>,
     notes: &Notes,
     counter: &EventFd,
-) -> Result<(), Fail> {
-    fire_note(rt, endpoint, notes, RAN)?;
+) {
+    expect_ok(rt, fire_note(rt, endpoint, notes, RAN));
     expect_same(rt, &counter.read(rt), &Ok(1));
     expect_run(rt, manager, Ok(1));
     expect_noted(rt, notes, &[RAN]);
-    Ok(())
 }
 
 #[test]
-fn jobs_are_run_where_the_counter_has_nothing(rt: HostRuntime) -> Result<(), Fail> {
-    let script = script_of(rt.alloc(), &[(0, EventSet::IN)])?;
-    let parts = on_script(rt, rt.alloc(), script, 0)?;
-    let counter = parts.event_fd.try_clone()?;
-    expect_over(&rt, parts, &Course::BehindRead(&counter), (1, 1))
+fn jobs_are_run_where_the_counter_has_nothing(rt: HostRuntime) {
+    let script = script_of(&rt, rt.alloc(), &[(0, EventSet::IN)]);
+    let parts = on_script(rt, rt.alloc(), script, 0);
+    let counter = expect_ok(&rt, parts.event_fd.try_clone());
+    expect_over(&rt, parts, &Course::BehindRead(&counter), (1, 1));
 }
 
 /// Runs over a script, kicks, and runs again: the first run has an event of the endpoint, and the second none.
@@ -145,21 +140,21 @@ pub fn behind_kick<L: Ledger, T: Ledger, P: EventPoller, R: Looping>(
     manager: &mut EventManager<Idle, Work, L, T, P>,
     endpoint: &RemoteEndpoint<Idle, Work, L, T>,
     counter: &EventFd,
-) -> Result<(), Fail> {
+) {
     expect_run(rt, manager, Ok(1));
-    endpoint.kick(rt)?;
+    expect_same(rt, &endpoint.kick(rt), &Ok(()));
     expect_run(rt, manager, Ok(1));
     expect_same(rt, &counter.read(rt), &Ok(1));
-    Ok(())
 }
 
 #[test]
-fn endpoint_event_is_answered_by_its_own_run_alone(rt: HostRuntime) -> Result<(), Fail> {
-    let mut script = script_of(rt.alloc(), &[(0, EventSet::IN)])?;
-    script.push_report(vec![in rt.alloc(); EpollEvent::new(EventSet::IN, 7)]?)?;
-    let parts = on_script(rt, rt.alloc(), script, 3)?;
-    let counter = parts.event_fd.try_clone()?;
-    expect_over(&rt, parts, &Course::BehindKick(&counter), (0, 0))
+fn endpoint_event_is_answered_by_its_own_run_alone(rt: HostRuntime) {
+    let mut script = script_of(&rt, rt.alloc(), &[(0, EventSet::IN)]);
+    let others = vec![in rt.alloc(); EpollEvent::new(EventSet::IN, 7)];
+    expect_ok(&rt, script.push_report(expect_ok(&rt, others)));
+    let parts = on_script(rt, rt.alloc(), script, 3);
+    let counter = expect_ok(&rt, parts.event_fd.try_clone());
+    expect_over(&rt, parts, &Course::BehindKick(&counter), (0, 0));
 }
 
 /// Kicks a manager with a subscriber of this descriptor, which has no event.
@@ -175,16 +170,18 @@ impl<R: Looping> WithEndpoint for Kicked<'_, R> {
 
     type Job = Work;
 
+    type Output = ();
+
     fn run<L: Ledger, T: Ledger, P: EventPoller>(
-        &self,
+        self,
         manager: &mut EventManager<Noting<R>, Work, L, T, P>,
         endpoint: &RemoteEndpoint<Noting<R>, Work, L, T>,
-    ) -> Result<(), Fail> {
-        add_noting(self.rt, manager, self.silent, DELIVERED, self.notes)?;
-        endpoint.kick(self.rt)?;
+    ) -> Result<()> {
+        add_noting(self.rt, manager, self.silent, DELIVERED, self.notes);
+        expect_same(self.rt, &endpoint.kick(self.rt), &Ok(()));
         expect_run_within(self.rt, manager, 5000, Ok(1));
         expect_run_within(self.rt, manager, 0, Ok(0));
-        endpoint.kick(self.rt)?;
+        expect_same(self.rt, &endpoint.kick(self.rt), &Ok(()));
         expect_run(self.rt, manager, Ok(1));
         expect_noted(self.rt, self.notes, &[]);
         Ok(())
@@ -192,13 +189,14 @@ impl<R: Looping> WithEndpoint for Kicked<'_, R> {
 }
 
 #[test]
-fn a_kick_ends_a_wait(rt: HostRuntime) -> Result<(), Fail> {
-    let notes = new_notes(rt.alloc())?;
-    let parts = on_table(rt, rt.alloc(), 0)?;
+fn a_kick_ends_a_wait(rt: HostRuntime) {
+    let notes = new_notes(&rt, rt.alloc());
+    let parts = expect_ok(&rt, on_table(rt, rt.alloc(), 0));
+    let silent = expect_ok(&rt, EventFd::new(&parts.poller.0, 0, &rt));
     let body = Kicked {
         rt: &rt,
-        silent: Events::new(&EventFd::new(&parts.poller.0, 0, &rt)?, EventSet::IN),
+        silent: Events::new(&silent, EventSet::IN),
         notes: &notes,
     };
-    with_endpoint(parts, &body)
+    expect_ok(&rt, with_endpoint(parts, body));
 }

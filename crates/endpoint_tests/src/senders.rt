@@ -2,18 +2,20 @@
 
 ghost use Rattle.std.specs.Prelude.{◌≡◌};
 
-use crate::expecting::{expect_counted, expect_pending, expect_run, expect_same, new_notes};
-use crate::making::{OnTable, make, on_table};
+use crate::expecting::{
+    expect_counted, expect_ok, expect_pending, expect_run, expect_same, new_notes,
+};
 use crate::meetings::{Loop, Sender};
 use crate::threads::{Host, LIMIT, wait_until_pending};
 use crate::work::{Notes, Work};
 use event_manager::{Closed, Result, Ticket};
+use fixtures::making::make;
+use fixtures::parts::{OnTable, on_table};
 use std::alloc::Global;
 use std::marker::Brand;
 use std::sync::Mutex;
 use std::sync::atomic::{AtomicU64, Ordering};
 use std::sync::ledger::{Blank, Ledger};
-use std::test::Fail;
 use std::thread;
 
 /// How many jobs each thread sends, and when the loop runs.
@@ -200,7 +202,7 @@ fn send_on<L: Ledger + Send + Sync, T: Ledger + Send + Sync, R: Host>(
     plan: Plan,
     tickets: Blank,
     taken: Blank,
-) -> std::result::Result<(), Fail>
+)
     requires tickets_name { tickets.name ≡ L.name }
     requires tickets_parts { (tickets.parts ≡ L.parts) × (tickets.parts ≡ 9223372036854775808) }
     requires taken_name { taken.name ≡ T.name }
@@ -212,48 +214,45 @@ fn send_on<L: Ledger + Send + Sync, T: Ledger + Send + Sync, R: Host>(
         tickets: Mutex::new(Vec::new(alloc)),
         ended: AtomicU64::new(0),
     };
-    let mut manager = make::<_, _, L, T, _>(parts, tickets, taken)?;
-    let endpoint = manager.remote_endpoint()?;
+    let mut manager = expect_ok(rt, make::<_, _, L, T, _>(parts, tickets, taken));
+    let endpoint = expect_ok(rt, manager.remote_endpoint());
     send_beside_loop(rt, alloc, &mut manager, &endpoint, &sending, plan);
     let mut closed = manager.close(rt);
     let total = total_of(&sending, plan) as u64;
     expect_all(rt, &mut closed, &mut sending.tickets.lock(rt), total);
-    Ok(())
 }
 
 /// Expects of as many senders as there are notes that all they send is run, in the order of each.
-fn expect_sent<R: Host>(
-    rt: &R,
-    alloc: Global,
-    notes: &[Notes],
-    plan: Plan,
-) -> std::result::Result<(), Fail> {
-    let parts = on_table(*rt, alloc, 0)?;
+fn expect_sent<R: Host>(rt: &R, alloc: Global, notes: &[Notes], plan: Plan) {
+    let parts = expect_ok(rt, on_table(*rt, alloc, 0));
     let tickets = Blank::new(9223372036854775808);
-    send_on::<Brand, Brand, R>(rt, parts, notes, plan, tickets, Blank::new(1))?;
+    send_on::<Brand, Brand, R>(rt, parts, notes, plan, tickets, Blank::new(1));
     for noted in notes {
         expect_counted(rt, noted, plan.count as usize);
     }
-    Ok(())
 }
 
 #[test]
-fn two_threads_send_fifty_each(rt: HostRuntime) -> std::result::Result<(), Fail> {
+fn two_threads_send_fifty_each(rt: HostRuntime) {
     let plan = Plan {
         count: 50,
         runs_beside: false,
     };
-    let notes = [new_notes(rt.alloc())?, new_notes(rt.alloc())?];
-    expect_sent(&rt, rt.alloc(), &notes, plan)
+    let notes = [new_notes(&rt, rt.alloc()), new_notes(&rt, rt.alloc())];
+    expect_sent(&rt, rt.alloc(), &notes, plan);
 }
 
 #[test]
-fn three_threads_send_a_thousand_each(rt: HostRuntime) -> std::result::Result<(), Fail> {
+fn three_threads_send_a_thousand_each(rt: HostRuntime) {
     let plan = Plan {
         count: 1000,
         runs_beside: true,
     };
     let alloc = rt.alloc();
-    let notes = [new_notes(alloc)?, new_notes(alloc)?, new_notes(alloc)?];
-    expect_sent(&rt, alloc, &notes, plan)
+    let notes = [
+        new_notes(&rt, alloc),
+        new_notes(&rt, alloc),
+        new_notes(&rt, alloc),
+    ];
+    expect_sent(&rt, alloc, &notes, plan);
 }

@@ -4,12 +4,11 @@ use crate::courses::{Course, expect_course};
 use crate::expecting::{
     expect_noted, expect_pending, expect_run, expect_run_within, expect_same, fire_note,
 };
-use crate::making::Idle;
 use crate::threads::Looping;
 use crate::work::{Notes, Work};
 use event_manager::{EventManager, EventPoller, RemoteEndpoint};
+use fixtures::parts::Idle;
 use std::sync::ledger::Ledger;
-use std::test::Fail;
 
 /// Fires two jobs, and runs twice.
 pub fn two_jobs<L: Ledger, T: Ledger, P: EventPoller, R: Looping>(
@@ -17,19 +16,17 @@ pub fn two_jobs<L: Ledger, T: Ledger, P: EventPoller, R: Looping>(
     manager: &mut EventManager<Idle, Work, L, T, P>,
     endpoint: &RemoteEndpoint<Idle, Work, L, T>,
     notes: &Notes,
-) -> Result<(), Fail> {
-    let first = fire_note(rt, endpoint, notes, 1)?;
-    let second = fire_note(rt, endpoint, notes, 2)?;
-    expect_same(rt, &(first, second), &(1, 2));
+) {
+    expect_same(rt, &fire_note(rt, endpoint, notes, 1), &Ok(1));
+    expect_same(rt, &fire_note(rt, endpoint, notes, 2), &Ok(2));
     expect_pending(rt, endpoint, 2);
     expect_run(rt, manager, Ok(1));
     expect_noted(rt, notes, &[1, 2]);
     expect_run_within(rt, manager, 0, Ok(0));
     expect_pending(rt, endpoint, 0);
-    Ok(())
 }
 
 #[test]
-fn two_fired_jobs_run_in_order(rt: HostRuntime) -> Result<(), Fail> {
-    expect_course(rt, rt.alloc(), 0, &Course::TwoJobs, (2, 2))
+fn two_fired_jobs_run_in_order(rt: HostRuntime) {
+    expect_course(rt, rt.alloc(), 0, &Course::TwoJobs, (2, 2));
 }

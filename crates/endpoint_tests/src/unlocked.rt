@@ -2,16 +2,16 @@
 
 ghost use Rattle.std.specs.Prelude.{◌≡◌};
 
-use crate::expecting::expect_same;
-use crate::making::{Parts, make, on_table};
+use crate::expecting::{expect_ok, expect_same};
 use crate::threads::Host;
 use crate::watched::{Drops, Guest, Reporter, Task, Watched};
 use event_manager::{Error, EventManager, RemoteEndpoint, Result, SubscriberOps, Ticket};
+use fixtures::making::make;
+use fixtures::parts::{Parts, on_table};
 use std::alloc::Global;
 use std::marker::Brand;
 use std::sync::ledger::{Blank, Ledger};
 use std::sync::{Arc, Wait};
-use std::test::Fail;
 use std::thread;
 use std::time::Clock;
 use vmm_sys::errno::Errno;
@@ -152,13 +152,13 @@ fn act_beside_looks<L: Ledger + Send + Sync, T: Ledger + Send + Sync, R: Host>(
     job: Task<R>,
     act: Act,
     drops: &Drops,
-) -> std::result::Result<(Seen, Option<Error>), Fail> {
-    let shown = endpoint.fire(Task::Nothing, rt)?;
-    Ok(thread::join(
+) -> (Seen, Option<Error>) {
+    let shown = expect_ok(rt, endpoint.fire(Task::Nothing, rt));
+    thread::join(
         rt,
         || look_on(rt, endpoint, drops),
         || perform(rt, manager, endpoint, &shown, job, act),
-    ))
+    )
 }
 
 /// What is seen while this act drops the value, and how the job is refused.
@@ -198,85 +198,72 @@ fn expect_seen_by<L: Ledger + Send + Sync, T: Ledger + Send + Sync, R: Host>(
     act: Act,
     tickets: Blank,
     taken: Blank,
-) -> std::result::Result<(), Fail>
+)
     requires tickets_name { tickets.name ≡ L.name }
     requires tickets_parts { (tickets.parts ≡ L.parts) × (tickets.parts ≡ 9223372036854775808) }
     requires taken_name { taken.name ≡ T.name }
     requires taken_parts { (taken.parts ≡ T.parts) × (taken.parts ≡ 1) }
 {
-    let drops = Arc::new(alloc, Drops::new())?;
-    let Holders { guest, poller, job } = Holders::new(act, Watched::new(&drops, *rt)?);
-    let Parts { event_fd, .. } = on_table(*rt, alloc, NEARLY_FULL)?;
-    let parts = Parts {
-        alloc,
-        poller,
-        event_fd,
-    };
-    let mut manager: Loop<L, T, R> = make(parts, tickets, taken)?;
-    manager.add_subscriber(guest)?;
-    let endpoint = manager.remote_endpoint()?;
-    let found = act_beside_looks(rt, manager, &endpoint, job, act, &drops)?;
+    let drops = expect_ok(rt, Arc::new(alloc, Drops::new()));
+    let value = expect_ok(rt, Watched::new(&drops, *rt));
+    let Holders { guest, poller, job } = Holders::new(act, value);
+    let Parts { event_fd, .. } = expect_ok(rt, on_table(*rt, alloc, NEARLY_FULL));
+    let parts = Parts::new(alloc, poller, event_fd);
+    let mut manager: Loop<L, T, R> = expect_ok(rt, make(parts, tickets, taken));
+    expect_ok(rt, manager.add_subscriber(guest));
+    let endpoint = expect_ok(rt, manager.remote_endpoint());
+    let found = act_beside_looks(rt, manager, &endpoint, job, act, &drops);
     expect_as(rt, found, expected(act));
     expect_same(rt, &drops.count(), &1);
-    Ok(())
 }
 
 /// As [`expect_seen_by`], with ledgers.
-fn expect_seen<R: Host>(rt: &R, alloc: Global, act: Act) -> std::result::Result<(), Fail> {
+fn expect_seen<R: Host>(rt: &R, alloc: Global, act: Act) {
     let tickets = Blank::new(9223372036854775808);
-    expect_seen_by::<Brand, Brand, R>(rt, alloc, act, tickets, Blank::new(1))
+    expect_seen_by::<Brand, Brand, R>(rt, alloc, act, tickets, Blank::new(1));
 }
 
 /// Expects it of each of these acts.
-fn expect_each_seen<R: Host>(rt: &R, alloc: Global, acts: &[Act]) -> std::result::Result<(), Fail> {
+fn expect_each_seen<R: Host>(rt: &R, alloc: Global, acts: &[Act]) {
     for act in acts {
-        expect_seen(rt, alloc, *act)?;
+        expect_seen(rt, alloc, *act);
     }
-    Ok(())
 }
 
 #[test]
-fn a_job_that_a_full_counter_refuses_is_dropped_unlocked(
-    rt: HostRuntime,
-) -> std::result::Result<(), Fail> {
+fn a_job_that_a_full_counter_refuses_is_dropped_unlocked(rt: HostRuntime) {
     let acts = [
         Act::SendToFull(Way::Fire),
         Act::SendToFull(Way::FireAfter),
         Act::SendToFull(Way::Call),
     ];
-    expect_each_seen(&rt, rt.alloc(), &acts)
+    expect_each_seen(&rt, rt.alloc(), &acts);
 }
 
 #[test]
-fn a_job_that_a_closed_queue_refuses_is_dropped_unlocked(
-    rt: HostRuntime,
-) -> std::result::Result<(), Fail> {
+fn a_job_that_a_closed_queue_refuses_is_dropped_unlocked(rt: HostRuntime) {
     let acts = [
         Act::SendToClosed(Way::Fire),
         Act::SendToClosed(Way::FireAfter),
         Act::SendToClosed(Way::Call),
     ];
-    expect_each_seen(&rt, rt.alloc(), &acts)
+    expect_each_seen(&rt, rt.alloc(), &acts);
 }
 
 #[test]
-fn a_reply_that_nobody_wants_is_dropped_unlocked(rt: HostRuntime) -> std::result::Result<(), Fail> {
+fn a_reply_that_nobody_wants_is_dropped_unlocked(rt: HostRuntime) {
     let acts = [Act::RunReply];
-    expect_each_seen(&rt, rt.alloc(), &acts)
+    expect_each_seen(&rt, rt.alloc(), &acts);
 }
 
 #[test]
-fn a_job_that_waits_at_a_close_is_dropped_behind_it(
-    rt: HostRuntime,
-) -> std::result::Result<(), Fail> {
+fn a_job_that_waits_at_a_close_is_dropped_behind_it(rt: HostRuntime) {
     let acts = [Act::CloseOnJob];
-    expect_each_seen(&rt, rt.alloc(), &acts)
+    expect_each_seen(&rt, rt.alloc(), &acts);
 }
 
 #[test]
-fn subscribers_and_poller_are_dropped_behind_a_close(
-    rt: HostRuntime,
-) -> std::result::Result<(), Fail> {
+fn subscribers_and_poller_are_dropped_behind_a_close(rt: HostRuntime) {
     let acts = [Act::CloseOnGuest, Act::CloseOnPoller];
-    expect_each_seen(&rt, rt.alloc(), &acts)
+    expect_each_seen(&rt, rt.alloc(), &acts);
 }

@@ -3,18 +3,18 @@
 ghost use Rattle.std.specs.Prelude.{◌≡◌};
 
 use crate::caller::start;
-use crate::expecting::{expect_run_within, expect_same};
-use crate::making::{OnTable, make, on_table};
+use crate::expecting::{expect_ok, expect_run_within, expect_same};
 use crate::threads::{Host, wait_until_pending};
 use event_manager::{
     EventManager, EventOps, EventPoller, Events, Job, MutEventSubscriber, PlainPoller, Registry,
     Result, SubscriberId, SubscriberOps,
 };
+use fixtures::making::make;
+use fixtures::parts::{OnTable, on_table};
 use std::alloc::Global;
 use std::marker::Brand;
 use std::sync::Wait;
 use std::sync::ledger::{Blank, Ledger};
-use std::test::Fail;
 use std::time::Clock;
 use vmm_sys::epoll::Epoll;
 
@@ -99,18 +99,18 @@ fn expect_answer<L, T, R>(
     manager: &mut Loop<L, T, R>,
     order: Order,
     value: u64,
-) -> std::result::Result<(), Fail>
+)
 where
     L: Ledger + Send + Sync + 'static,
     T: Ledger + Send + Sync + 'static,
     R: Host + 'static,
 {
-    let endpoint = manager.remote_endpoint()?;
-    let caller = start(rt, alloc, endpoint.try_clone()?, order)?;
+    let endpoint = expect_ok(&rt, manager.remote_endpoint());
+    let theirs = expect_ok(&rt, endpoint.try_clone());
+    let caller = start(rt, alloc, theirs, order);
     expect_same(&rt, &wait_until_pending(&rt, &endpoint, 1), &true);
     expect_run_within(&rt, manager, 0, Ok(1));
     expect_same(&rt, &caller.reply(&rt), &Ok(Ok(value)));
-    Ok(())
 }
 
 /// Whether the subscriber is stopped.
@@ -122,35 +122,26 @@ fn is_stopped<L: Ledger, T: Ledger, R: Host>(
 }
 
 /// Sets the value, reads it, and stops the subscriber, each by a job of a caller.
-fn call_thrice<L, T, R>(
-    rt: R,
-    alloc: Global,
-    manager: &mut Loop<L, T, R>,
-) -> std::result::Result<(), Fail>
+fn call_thrice<L, T, R>(rt: R, alloc: Global, manager: &mut Loop<L, T, R>)
 where
     L: Ledger + Send + Sync + 'static,
     T: Ledger + Send + Sync + 'static,
     R: Host + 'static,
 {
-    let id = manager.add_subscriber(Stoppable {
+    let subscriber = Stoppable {
         value: 0,
         is_stopped: false,
-    })?;
+    };
+    let id = expect_ok(&rt, manager.add_subscriber(subscriber));
     for (change, value) in [(Change::Set(7), 0), (Change::Read, 7), (Change::Stop, 7)] {
         expect_same(&rt, &is_stopped(manager, id), &Ok(false));
-        expect_answer(rt, alloc, manager, Order { id, change }, value)?;
+        expect_answer(rt, alloc, manager, Order { id, change }, value);
     }
     expect_same(&rt, &is_stopped(manager, id), &Ok(true));
-    Ok(())
 }
 
 /// Callers of a manager of these parts.
-fn call_and_close<L, T, R>(
-    rt: R,
-    parts: OnTable<R>,
-    tickets: Blank,
-    taken: Blank,
-) -> std::result::Result<(), Fail>
+fn call_and_close<L, T, R>(rt: R, parts: OnTable<R>, tickets: Blank, taken: Blank)
 where
     L: Ledger + Send + Sync + 'static,
     T: Ledger + Send + Sync + 'static,
@@ -161,18 +152,18 @@ where
     requires taken_parts { (taken.parts ≡ T.parts) × (taken.parts ≡ 1) }
 {
     let alloc = parts.alloc;
-    let mut manager = make::<Stoppable, Order, L, T, _>(parts, tickets, taken)?;
-    call_thrice(rt, alloc, &mut manager)?;
+    let mut manager = expect_ok(
+        &rt,
+        make::<Stoppable, Order, L, T, _>(parts, tickets, taken),
+    );
+    call_thrice(rt, alloc, &mut manager);
     let closed = manager.close(&rt);
     expect_same(&rt, &(closed.issued(), closed.taken()), &(3, 3));
-    Ok(())
 }
 
 #[test]
-fn a_caller_sets_and_reads_a_value_of_a_subscriber(
-    rt: HostRuntime,
-) -> std::result::Result<(), Fail> {
-    let parts = on_table(rt, rt.alloc(), 0)?;
+fn a_caller_sets_and_reads_a_value_of_a_subscriber(rt: HostRuntime) {
+    let parts = expect_ok(&rt, on_table(rt, rt.alloc(), 0));
     let tickets = Blank::new(9223372036854775808);
-    call_and_close::<Brand, Brand, HostRuntime>(rt, parts, tickets, Blank::new(1))
+    call_and_close::<Brand, Brand, HostRuntime>(rt, parts, tickets, Blank::new(1));
 }

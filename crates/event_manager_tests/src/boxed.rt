@@ -1,10 +1,13 @@
 //! Several kinds of subscribers in one manager.
 
+use crate::expecting::{expect, expect_ok};
 use crate::log::{SharedLog, got};
-use crate::runs::{run_over, silent_parts};
+use crate::runs::run_over;
 use event_manager::{BoxedPoller, BoxedSubscriber, Events, Request, StepInput, StepSubscriber};
+use fixtures::parts::silent_parts;
+use std::alloc::{AllocError, Global};
+use std::process::Abort;
 use std::sync::Wait;
-use std::test::Fail;
 use vmm_sys::epoll::{EpollEvent, EventSet};
 use vmm_sys::poller::Poller;
 use vmm_sys::script_poller::ScriptPoller;
@@ -63,19 +66,24 @@ impl<R: Wait + Copy> StepSubscriber for Single<R> {
 }
 
 /// The report 5 OUT 1, 4 IN 7, 6 IN 0, 3 IN 0.
-fn first_run(rt: HostRuntime) -> Result<BoxedPoller, Fail> {
-    let mut script = ScriptPoller::new(rt.alloc());
-    script.push_report(vec![in rt.alloc();
-        EpollEvent::new(EventSet::OUT, (1 << 32) + 5),
-        EpollEvent::new(EventSet::IN, (7 << 32) + 4),
-        EpollEvent::new(EventSet::IN, 6),
-        EpollEvent::new(EventSet::IN, 3),
-    ]?)?;
-    let poller: Box<dyn Poller + Send> = Box::new(rt.alloc(), script)?;
-    Ok(BoxedPoller(poller))
+fn first_run<R: Abort>(rt: &R, alloc: Global) -> BoxedPoller {
+    let mut script = ScriptPoller::new(alloc);
+    let report = expect_ok(
+        rt,
+        vec![in alloc;
+            EpollEvent::new(EventSet::OUT, (1 << 32) + 5),
+            EpollEvent::new(EventSet::IN, (7 << 32) + 4),
+            EpollEvent::new(EventSet::IN, 6),
+            EpollEvent::new(EventSet::IN, 3),
+        ],
+    );
+    expect_ok(rt, script.push_report(report));
+    let poller = expect_ok(rt, Box::new(alloc, script));
+    let poller: Box<dyn Poller + Send> = poller;
+    BoxedPoller(poller)
 }
 
-fn watching_two<R: Wait + Copy>(log: &SharedLog<R>) -> Result<Pair<R>, Fail> {
+fn watching_two<R: Wait + Copy>(log: &SharedLog<R>) -> Result<Pair<R>, AllocError> {
     Ok(Pair {
         number: 1,
         first: Some(Request::Add(Events::new_raw(3, EventSet::IN))),
@@ -84,7 +92,7 @@ fn watching_two<R: Wait + Copy>(log: &SharedLog<R>) -> Result<Pair<R>, Fail> {
     })
 }
 
-fn watching_one<R: Wait + Copy>(log: &SharedLog<R>) -> Result<Single<R>, Fail> {
+fn watching_one<R: Wait + Copy>(log: &SharedLog<R>) -> Result<Single<R>, AllocError> {
     Ok(Single {
         number: 2,
         own: Events::with_data_raw(5, 1, EventSet::OUT),
@@ -93,19 +101,25 @@ fn watching_one<R: Wait + Copy>(log: &SharedLog<R>) -> Result<Single<R>, Fail> {
 }
 
 #[test]
-fn boxes_of_two_kinds_get_the_first_run(rt: HostRuntime) -> Result<(), Fail> {
-    let log = SharedLog::new(rt.alloc(), rt)?;
-    let two: Box<dyn StepSubscriber + Send> = Box::new(rt.alloc(), watching_two(&log)?)?;
-    let one: Box<dyn StepSubscriber + Send> = Box::new(rt.alloc(), watching_one(&log)?)?;
-    let both = vec![in rt.alloc(); BoxedSubscriber(two), BoxedSubscriber(one)]?;
-    let parts = silent_parts(rt, rt.alloc(), first_run(rt)?)?;
-    run_over(&rt, parts, both, &[(None, Ok(4))])?;
-    assert!(rt;
+fn boxes_of_two_kinds_get_the_first_run(rt: HostRuntime) {
+    let log = expect_ok(&rt, SharedLog::new(rt.alloc(), rt));
+    let two = expect_ok(&rt, watching_two(&log));
+    let two = expect_ok(&rt, Box::new(rt.alloc(), two));
+    let two: Box<dyn StepSubscriber + Send> = two;
+    let one = expect_ok(&rt, watching_one(&log));
+    let one = expect_ok(&rt, Box::new(rt.alloc(), one));
+    let one: Box<dyn StepSubscriber + Send> = one;
+    let (two, one) = (BoxedSubscriber(two), BoxedSubscriber(one));
+    let both = expect_ok(&rt, vec![in rt.alloc(); two, one]);
+    let poller = first_run(&rt, rt.alloc());
+    let parts = expect_ok(&rt, silent_parts(rt, rt.alloc(), poller));
+    expect_ok(&rt, run_over(&rt, parts, both, &[(None, Ok(4))]));
+    expect(
+        &rt,
         log.were(&[
             got(2, 5, EventSet::OUT, 1),
             got(1, 4, EventSet::IN, 7),
-            got(1, 3, EventSet::IN, 0)
-        ])
+            got(1, 3, EventSet::IN, 0),
+        ]),
     );
-    Ok(())
 }

@@ -3,16 +3,17 @@
 use crate::counting::{
     Counting, SharedCounting, counting_on, served_twice, shared_counting, two_reports,
 };
-use crate::expecting::expect_same;
-use crate::runs::{Parts, WithManager, no_memory, run_alone, silent_parts, with_manager};
+use crate::expecting::{expect, expect_ok, expect_same};
+use crate::runs::run_alone;
 use event_manager::{EventManager, EventPoller, Locked, NoJob, PlainPoller, SubscriberOps};
+use fixtures::making::{WithManager, no_memory, with_manager};
+use fixtures::parts::{Parts, silent_parts};
 use std::cell::RefCell;
 use std::process::Abort;
 use std::rc::Rc;
 use std::sync::atomic::{AtomicU64, Ordering};
 use std::sync::ledger::Ledger;
 use std::sync::{Arc, Wait};
-use std::test::Fail;
 use std::thread;
 use std::time::{Clock, Duration};
 use vmm_sys::script_poller::ScriptPoller;
@@ -23,18 +24,17 @@ fn count_in(cell: &RefCell<Counting>) -> Option<u64> {
 }
 
 #[test]
-fn free_cell_is_called_and_left_free(rt: HostRuntime) -> Result<(), Fail> {
-    let cell = Rc::new(rt.alloc(), RefCell::new(counting_on(3)))?;
-    served_twice(rt, rt.alloc(), cell.clone()?)?;
+fn free_cell_is_called_and_left_free(rt: HostRuntime) {
+    let cell = expect_ok(&rt, Rc::new(rt.alloc(), RefCell::new(counting_on(3))));
+    let served = expect_ok(&rt, cell.clone());
+    served_twice(rt, rt.alloc(), served);
     expect_same(&rt, &count_in(&cell), &Some(2));
-    Ok(())
 }
 
 #[test]
-fn owned_cell_is_called(rt: HostRuntime) -> Result<(), Fail> {
-    let cell = served_twice(rt, rt.alloc(), RefCell::new(counting_on(3)))?;
+fn owned_cell_is_called(rt: HostRuntime) {
+    let cell = served_twice(rt, rt.alloc(), RefCell::new(counting_on(3)));
     expect_same(&rt, &count_in(&cell), &Some(2));
-    Ok(())
 }
 
 /// Runs while the cell is busy, and again when it is free.
@@ -57,7 +57,7 @@ impl<R: Wait + Clock + Abort> WithManager for BusyThenFree<'_, R> {
         manager.add_subscriber(cell.clone().map_err(no_memory)?)?;
         {
             let held = cell.try_borrow_mut();
-            assert!(rt; held.is_ok());
+            expect(rt, held.is_ok());
             expect_same(rt, &manager.run(rt), &Ok(1));
             expect_same(rt, &held.map(|counting| counting.count).ok(), &Some(0));
         }
@@ -67,16 +67,16 @@ impl<R: Wait + Clock + Abort> WithManager for BusyThenFree<'_, R> {
 }
 
 #[test]
-fn busy_cell_skips_the_call(rt: HostRuntime) -> Result<(), Fail> {
-    let cell = Rc::new(rt.alloc(), RefCell::new(counting_on(3)))?;
+fn busy_cell_skips_the_call(rt: HostRuntime) {
+    let cell = expect_ok(&rt, Rc::new(rt.alloc(), RefCell::new(counting_on(3))));
     let body = BusyThenFree {
         rt: &rt,
-        cell: cell.clone()?,
+        cell: expect_ok(&rt, cell.clone()),
     };
-    let poller = PlainPoller(two_reports(rt.alloc())?);
-    with_manager(silent_parts(rt, rt.alloc(), poller)?, body)?;
+    let poller = PlainPoller(expect_ok(&rt, two_reports(rt.alloc())));
+    let parts = expect_ok(&rt, silent_parts(rt, rt.alloc(), poller));
+    expect_ok(&rt, with_manager(parts, body));
     expect_same(&rt, &count_in(&cell), &Some(1));
-    Ok(())
 }
 
 // Ends the test unless the turn, or a later one, comes within 10,000 looks, a millisecond apart.
@@ -121,22 +121,26 @@ impl<R: Wait + Clock + Abort + Drop> WithManager for Turns<'_, R> {
 }
 
 #[test]
-fn lock_is_waited_for_and_left_free(rt: HostRuntime) -> Result<(), Fail> {
-    let locked = Arc::new(rt.alloc(), Locked::new(counting_on(3), rt))?;
-    let turn = Arc::new(rt.alloc(), AtomicU64::new(0))?;
-    let parts = silent_parts(rt, rt.alloc(), PlainPoller(two_reports(rt.alloc())?))?;
-    let (their_locked, their_turn) = (locked.clone()?, turn.clone()?);
-    let runner = thread::spawn(&rt, move || {
-        let body = Turns {
-            rt: &rt,
-            locked: their_locked,
-            turn: &their_turn,
-        };
-        let done = with_manager(parts, body);
-        // Also where a call was refused: then no turn is waited for.
-        their_turn.store(u64::MAX, Ordering::SeqCst);
-        done
-    })?;
+fn lock_is_waited_for_and_left_free(rt: HostRuntime) {
+    let locked = expect_ok(&rt, Arc::new(rt.alloc(), Locked::new(counting_on(3), rt)));
+    let turn = expect_ok(&rt, Arc::new(rt.alloc(), AtomicU64::new(0)));
+    let script = expect_ok(&rt, two_reports(rt.alloc()));
+    let parts = expect_ok(&rt, silent_parts(rt, rt.alloc(), PlainPoller(script)));
+    let (their_locked, their_turn) = (expect_ok(&rt, locked.clone()), expect_ok(&rt, turn.clone()));
+    let runner = expect_ok(
+        &rt,
+        thread::spawn(&rt, move || {
+            let body = Turns {
+                rt: &rt,
+                locked: their_locked,
+                turn: &their_turn,
+            };
+            let done = with_manager(parts, body);
+            // Also where a call was refused: then no turn is waited for.
+            their_turn.store(u64::MAX, Ordering::SeqCst);
+            done
+        }),
+    );
     for odd in [1, 3, 5] {
         let Some(held) = locked.mutex.try_lock() else {
             panic!(rt; "the lock is kept");
@@ -153,7 +157,6 @@ fn lock_is_waited_for_and_left_free(rt: HostRuntime) -> Result<(), Fail> {
         &locked.mutex.try_lock().map(|held| held.count),
         &Some(2),
     );
-    Ok(())
 }
 
 /// Serves a subscriber under a lock the two reports, and sets the flag when that is done.
@@ -170,15 +173,18 @@ fn serve_locked<R: Wait + Clock + Abort + Drop>(
 }
 
 #[test]
-fn subscriber_under_a_lock_counts_in_an_atomic(rt: HostRuntime) -> Result<(), Fail> {
-    let count = Arc::new(rt.alloc(), AtomicU64::new(0))?;
-    let locked = Locked::new(shared_counting(&count)?, rt);
-    let over = Arc::new(rt.alloc(), AtomicU64::new(0))?;
-    let theirs = over.clone()?;
-    let parts = silent_parts(rt, rt.alloc(), PlainPoller(two_reports(rt.alloc())?))?;
-    let runner = thread::spawn(&rt, move || serve_locked(rt, parts, locked, &theirs))?;
+fn subscriber_under_a_lock_counts_in_an_atomic(rt: HostRuntime) {
+    let count = expect_ok(&rt, Arc::new(rt.alloc(), AtomicU64::new(0)));
+    let locked = Locked::new(expect_ok(&rt, shared_counting(&count)), rt);
+    let over = expect_ok(&rt, Arc::new(rt.alloc(), AtomicU64::new(0)));
+    let theirs = expect_ok(&rt, over.clone());
+    let script = expect_ok(&rt, two_reports(rt.alloc()));
+    let parts = expect_ok(&rt, silent_parts(rt, rt.alloc(), PlainPoller(script)));
+    let runner = expect_ok(
+        &rt,
+        thread::spawn(&rt, move || serve_locked(rt, parts, locked, &theirs)),
+    );
     expect_turn(&rt, &over, 1);
     expect_same(&rt, &runner.join(&rt), &Ok(()));
     expect_same(&rt, &count.load(Ordering::SeqCst), &2);
-    Ok(())
 }

@@ -1,17 +1,19 @@
 //! Subscribers that count their events, and managers of them over a script.
 
-use crate::parts::script_of;
-use crate::runs::{run_alone, silent_parts};
+use crate::expecting::expect_ok;
+use crate::parts::{push_words, script_of};
+use crate::runs::run_alone;
 use event_manager::{
     EventOps, EventPoller, EventSubscriber, Events, MutEventSubscriber, PlainPoller,
 };
-use std::alloc::Global;
+use fixtures::parts::silent_parts;
+use std::alloc::{AllocError, Global};
 use std::process::Abort;
 use std::sync::atomic::{AtomicU64, Ordering};
 use std::sync::{Arc, Wait};
-use std::test::Fail;
 use std::time::Clock;
-use vmm_sys::epoll::{EpollEvent, EventSet};
+use vmm_sys::epoll::EventSet;
+use vmm_sys::errno::Errno;
 use vmm_sys::script_poller::ScriptPoller;
 
 /// Adds one descriptor in `init`, and counts its events.
@@ -83,22 +85,22 @@ impl MutEventSubscriber for SharedCounting {
 }
 
 /// Two reports of descriptor 3.
-pub fn two_reports(alloc: Global) -> Result<ScriptPoller, Fail> {
+pub fn two_reports(alloc: Global) -> Result<ScriptPoller, Errno> {
     let mut script = script_of(alloc, &[3])?;
-    script.push_report(vec![in alloc; EpollEvent::new(EventSet::IN, 3)]?)?;
+    push_words(&mut script, alloc, EventSet::IN, &[3])?;
     Ok(script)
 }
 
 /// The subscriber, after a manager has served it each of the two reports by a run of its own.
-pub fn served_twice<S, R>(rt: R, alloc: Global, subscriber: S) -> Result<S, Fail>
+pub fn served_twice<S, R>(rt: R, alloc: Global, subscriber: S) -> S
 where
     S: MutEventSubscriber + Drop,
-    R: Wait + Clock + Abort + Clone + Send + Drop,
+    R: Wait + Clock + Abort + Copy + Send + Drop,
 {
-    let handle = rt.clone()?;
-    let parts = silent_parts(handle, alloc, PlainPoller(two_reports(alloc)?))?;
+    let script = expect_ok(&rt, two_reports(alloc));
+    let parts = expect_ok(&rt, silent_parts(rt, alloc, PlainPoller(script)));
     let runs = [(None, Ok(1)), (None, Ok(1))];
-    Ok(run_alone(&rt, parts, subscriber, &runs)?)
+    expect_ok(&rt, run_alone(&rt, parts, subscriber, &runs))
 }
 
 pub fn counting_on(fd: u16) -> Counting {
@@ -108,7 +110,7 @@ pub fn counting_on(fd: u16) -> Counting {
     }
 }
 
-pub fn shared_counting(count: &Arc<AtomicU64>) -> Result<SharedCounting, Fail> {
+pub fn shared_counting(count: &Arc<AtomicU64>) -> Result<SharedCounting, AllocError> {
     Ok(SharedCounting {
         own: Events::new_raw(3, EventSet::IN),
         count: count.clone()?,

@@ -1,16 +1,16 @@
 //! When the endpoint's counter is read.
 
-use crate::expecting::expect_same;
+use crate::expecting::{expect, expect_ok, expect_same};
 use crate::log::Watcher;
 use crate::parts::{counter_at, script_of, script_of_words};
-use crate::runs::{Parts, Run, run_alone, run_over};
+use crate::runs::{Run, run_alone, run_over};
 use event_manager::{
     Error, EventOps, EventPoller, Events, MutEventSubscriber, PlainPoller, Result,
 };
+use fixtures::parts::Parts;
 use std::alloc::Global;
 use std::process::Abort;
 use std::sync::Wait;
-use std::test::Fail;
 use std::time::Clock;
 use vmm_sys::epoll::{AsRawFd, ControlOperation, Epoll, EpollEvent, EventSet};
 use vmm_sys::errno::Errno;
@@ -48,12 +48,7 @@ fn make_probed<R: Wait + Clock + Copy + Send + Drop>(
     let epoll = Epoll::new(*rt, alloc)?;
     let event_fd = counter_at(&epoll, endpoint, 3, rt)?;
     let probe = Probe::new(epoll, &event_fd)?;
-    let parts = Parts {
-        alloc,
-        poller: PlainPoller(script),
-        event_fd,
-        capacity: None,
-    };
+    let parts = Parts::new(alloc, PlainPoller(script), event_fd);
     Ok((parts, probe))
 }
 
@@ -64,10 +59,13 @@ fn is_read_by<R: Wait + Clock + Abort + Copy + Send + Drop>(
     script: ScriptPoller,
     endpoint: u8,
     run: Run,
-) -> std::result::Result<bool, Fail> {
-    let (parts, mut probe) = make_probed(rt, alloc, script, endpoint)?;
-    run_over::<Watcher, _, R>(rt, parts, Vec::new(alloc), &[run])?;
-    Ok(probe.is_read())
+) -> bool {
+    let (parts, mut probe) = expect_ok(rt, make_probed(rt, alloc, script, endpoint));
+    expect_ok(
+        rt,
+        run_over::<Watcher, _, R>(rt, parts, Vec::new(alloc), &[run]),
+    );
+    probe.is_read()
 }
 
 /// Notes at its event whether the endpoint was read by then.
@@ -96,73 +94,70 @@ impl<T: Poller> MutEventSubscriber for Looking<T> {
     }
 }
 
-/// Whether the endpoint of this descriptor is read by a run that reports these words, each with this set.
-fn is_read_after<R: Wait + Clock + Abort + Copy + Send + Drop>(
+/// Expects that the endpoint of this descriptor is read, or not, by a run that reports these words, each with this set.
+fn expect_read<R: Wait + Clock + Abort + Copy + Send + Drop>(
     rt: &R,
     alloc: Global,
     endpoint: u8,
     set: EventSet,
     words: &[u64],
-) -> std::result::Result<bool, Fail> {
-    let script = script_of_words(alloc, set, words)?;
-    is_read_by(rt, alloc, script, endpoint, (None, Ok(words.len())))
+    expected: bool,
+) {
+    let script = expect_ok(rt, script_of_words(alloc, set, words));
+    let is_read = is_read_by(rt, alloc, script, endpoint, (None, Ok(words.len())));
+    assert!(rt;
+        is_read == expected,
+        "{words:?} with {set:?} beside {endpoint}"
+    );
 }
 
 #[test]
-fn endpoint_is_read_after_a_batch_with_its_entry(rt: HostRuntime) -> std::result::Result<(), Fail> {
+fn endpoint_is_read_after_a_batch_with_its_entry(rt: HostRuntime) {
     let data = 7 << 32;
     let batches: [&[u64]; 6] = [&[2], &[2, 3], &[3, 2], &[3, 2, 4], &[2, 2], &[3, data + 2]];
     for set in [EventSet::IN, EventSet::OUT, EventSet::empty()] {
         for words in batches {
-            let is_read = is_read_after(&rt, rt.alloc(), 2, set, words)?;
-            assert!(rt; is_read, "{words:?} with {set:?}");
+            expect_read(&rt, rt.alloc(), 2, set, words, true);
         }
     }
-    Ok(())
 }
 
 #[test]
-fn endpoint_is_left_after_a_batch_without_its_entry(
-    rt: HostRuntime,
-) -> std::result::Result<(), Fail> {
+fn endpoint_is_left_after_a_batch_without_its_entry(rt: HostRuntime) {
     let data = 2 << 32;
     let batches: [&[u64]; 4] = [&[], &[3], &[3, 4], &[data + 3]];
     for endpoint in [0, 2] {
         for words in batches {
-            let is_read = is_read_after(&rt, rt.alloc(), endpoint, EventSet::IN, words)?;
-            assert!(rt; !is_read, "{words:?} beside {endpoint}");
+            expect_read(&rt, rt.alloc(), endpoint, EventSet::IN, words, false);
         }
     }
-    Ok(())
 }
 
 #[test]
-fn endpoint_is_left_where_the_wait_is_refused(rt: HostRuntime) -> std::result::Result<(), Fail> {
+fn endpoint_is_left_where_the_wait_is_refused(rt: HostRuntime) {
     let answers = [
         (Errno::EINTR, Ok(0)),
         (Errno::EBADF, Err(Error::Epoll(Errno::EBADF))),
     ];
     for (errno, answer) in answers {
         let mut script = ScriptPoller::new(rt.alloc());
-        script.push_fault(errno)?;
-        let is_read = is_read_by(&rt, rt.alloc(), script, 2, (None, answer))?;
-        assert!(rt; !is_read, "{errno}");
+        expect_ok(&rt, script.push_fault(errno));
+        let is_read = is_read_by(&rt, rt.alloc(), script, 2, (None, answer));
+        expect_same(&rt, &(errno, is_read), &(errno, false));
     }
-    Ok(())
 }
 
 #[test]
-fn endpoint_is_read_after_the_deliveries(rt: HostRuntime) -> std::result::Result<(), Fail> {
-    let script = script_of(rt.alloc(), &[2, 3, 2])?;
-    let (parts, probe) = make_probed(&rt, rt.alloc(), script, 2)?;
+fn endpoint_is_read_after_the_deliveries(rt: HostRuntime) {
+    let script = expect_ok(&rt, script_of(rt.alloc(), &[2, 3, 2]));
+    let (parts, probe) = expect_ok(&rt, make_probed(&rt, rt.alloc(), script, 2));
     let own = Events::new_raw(3, EventSet::IN);
     let looking = Looking {
         probe,
         own,
         was_read: None,
     };
-    let mut looking = run_alone(&rt, parts, looking, &[(None, Ok(3))])?;
+    let mut looking = expect_ok(&rt, run_alone(&rt, parts, looking, &[(None, Ok(3))]));
     expect_same(&rt, &looking.was_read, &Some(false));
-    assert!(rt; looking.probe.is_read());
-    Ok(())
+    expect(&rt, looking.probe.is_read());
 }

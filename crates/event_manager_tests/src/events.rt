@@ -1,9 +1,8 @@
 //! Events and their words.
 
-use crate::expecting::expect_same;
+use crate::expecting::{expect_ok, expect_same};
 use event_manager::events::are_equal;
 use event_manager::{Error, Events};
-use std::test::Fail;
 use vmm_sys::epoll::EventSet;
 use vmm_sys::errno::Errno;
 
@@ -20,7 +19,7 @@ fn word_has_the_data_above_the_descriptor(rt: HostRuntime) {
 }
 
 #[test]
-fn error_texts(rt: HostRuntime) -> Result<(), Fail> {
+fn error_texts(rt: HostRuntime) {
     let table = [
         (
             Error::ChannelSend,
@@ -52,8 +51,7 @@ fn error_texts(rt: HostRuntime) -> Result<(), Fail> {
         (Error::TicketsUsedUp, "event_manager: job tickets used up"),
     ];
     for (error, expected) in table {
-        let text = format!(in rt.alloc(); "{error}")?;
+        let text = expect_ok(&rt, format!(in rt.alloc(); "{error}"));
         expect_same(&rt, &text.as_str(), &expected);
     }
-    Ok(())
 }

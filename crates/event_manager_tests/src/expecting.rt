@@ -7,3 +7,16 @@ use std::process::Abort;
 pub fn expect_same<A: PartialEq + Debug, R: Abort>(rt: &R, found: &A, expected: &A) {
     assert_eq!(rt; found, expected);
 }
+
+/// Expects that this holds.
+pub fn expect<R: Abort>(rt: &R, holds: bool) {
+    assert!(rt; holds);
+}
+
+/// What a call answers that must succeed.
+pub fn expect_ok<A, E: Debug + Drop, R: Abort>(rt: &R, answer: Result<A, E>) -> A {
+    match answer {
+        Ok(value) => value,
+        Err(error) => panic!(rt; "{error:?}"),
+    }
+}

@@ -1,16 +1,17 @@
 //! A poller that refuses one of its calls, whichever it is.
 
+use crate::expecting::{expect_ok, expect_same};
 use crate::parts::script_of;
-use crate::runs::{Parts, WithManager, silent_parts, with_manager};
 use event_manager::{
     Error, EventManager, EventOps, EventPoller, Events, MutEventSubscriber, NoJob, PlainPoller,
     Request, SubscriberOps,
 };
+use fixtures::making::{WithManager, with_manager};
+use fixtures::parts::{Parts, silent_parts};
 use std::alloc::Global;
 use std::process::Abort;
 use std::sync::Wait;
 use std::sync::ledger::Ledger;
-use std::test::Fail;
 use std::time::Clock;
 use vmm_sys::epoll::EventSet;
 use vmm_sys::errno::Errno;
@@ -120,16 +121,16 @@ impl<R: Wait + Clock> WithManager for JoinRunAndLeave<'_, R> {
 }
 
 /// Over a script with one report, of 3 and 4, of which call number `at` is refused.
-fn seen_with<R: Wait + Clock + Clone + Send + Drop>(
+fn seen_with<R: Wait + Clock + Abort + Copy + Send + Drop>(
     rt: &R,
     alloc: Global,
     at: u64,
     errno: Errno,
-) -> Result<event_manager::Result<Seen>, Fail> {
-    let script = script_of(alloc, &[3, 4])?;
+) -> event_manager::Result<Seen> {
+    let script = expect_ok(rt, script_of(alloc, &[3, 4]));
     let poller = PlainPoller(FaultPoller::new(script, at, errno));
-    let parts: Parts<PlainPoller<FaultPoller>> = silent_parts(rt.clone()?, alloc, poller)?;
-    Ok(with_manager(parts, JoinRunAndLeave { rt }))
+    let parts: Parts<PlainPoller<FaultPoller>> = expect_ok(rt, silent_parts(*rt, alloc, poller));
+    with_manager(parts, JoinRunAndLeave { rt })
 }
 
 const AGREED: [Answer; 2] = [Some(Ok(())); 2];
@@ -148,64 +149,60 @@ fn seen_without() -> Seen {
 }
 
 /// Expects this where call number `at` is refused.
-fn expect_seen<R: Wait + Clock + Abort + Clone + Send + Drop>(
+fn expect_seen<R: Wait + Clock + Abort + Copy + Send + Drop>(
     rt: &R,
     alloc: Global,
     at: u64,
     errno: Errno,
     expected: event_manager::Result<Seen>,
-) -> Result<(), Fail> {
-    let seen = seen_with(rt, alloc, at, errno)?;
-    assert_eq!(rt; seen, expected);
-    Ok(())
+) {
+    expect_same(rt, &seen_with(rt, alloc, at, errno), &expected);
 }
 
 #[test]
-fn making_of_the_manager_is_refused(rt: HostRuntime) -> Result<(), Fail> {
-    expect_seen(&rt, rt.alloc(), 1, Errno(22), Err(FAULT))
+fn making_of_the_manager_is_refused(rt: HostRuntime) {
+    expect_seen(&rt, rt.alloc(), 1, Errno(22), Err(FAULT));
 }
 
 #[test]
-fn requests_of_a_join_are_refused(rt: HostRuntime) -> Result<(), Fail> {
+fn requests_of_a_join_are_refused(rt: HostRuntime) {
     let mut without_3 = seen_without();
     without_3.added = [Some(Err(FAULT)), Some(Ok(()))];
     without_3.threes = 0;
     without_3.fours = 1;
     without_3.asked = [None; 2];
-    expect_seen(&rt, rt.alloc(), 2, Errno(22), Ok(without_3))?;
+    expect_seen(&rt, rt.alloc(), 2, Errno(22), Ok(without_3));
     let mut without_4 = seen_without();
     without_4.added = [Some(Ok(())), Some(Err(FAULT))];
     without_4.asked = [Some(Err(Error::Epoll(Errno::ENOENT))), Some(Ok(()))];
-    expect_seen(&rt, rt.alloc(), 3, Errno(22), Ok(without_4))
+    expect_seen(&rt, rt.alloc(), 3, Errno(22), Ok(without_4));
 }
 
 #[test]
-fn a_refused_wait_loses_nothing(rt: HostRuntime) -> Result<(), Fail> {
+fn a_refused_wait_loses_nothing(rt: HostRuntime) {
     for (errno, answer) in [(Errno(22), Err(FAULT)), (Errno::EINTR, Ok(0))] {
         let mut seen = seen_without();
         seen.run = answer;
         seen.next_run = Some(Ok(2));
-        expect_seen(&rt, rt.alloc(), 4, errno, Ok(seen))?;
+        expect_seen(&rt, rt.alloc(), 4, errno, Ok(seen));
     }
-    Ok(())
 }
 
 #[test]
-fn requests_at_an_event_are_refused(rt: HostRuntime) -> Result<(), Fail> {
+fn requests_at_an_event_are_refused(rt: HostRuntime) {
     let mut with_4 = seen_without();
     with_4.asked = [Some(Err(FAULT)), Some(Ok(()))];
     with_4.fours = 1;
-    expect_seen(&rt, rt.alloc(), 5, Errno(22), Ok(with_4))?;
+    expect_seen(&rt, rt.alloc(), 5, Errno(22), Ok(with_4));
     let mut without_6 = seen_without();
     without_6.asked = [Some(Ok(())), Some(Err(FAULT))];
-    expect_seen(&rt, rt.alloc(), 6, Errno(22), Ok(without_6))
+    expect_seen(&rt, rt.alloc(), 6, Errno(22), Ok(without_6));
 }
 
 #[test]
-fn a_leave_frees_what_the_poller_refuses_to_delete(rt: HostRuntime) -> Result<(), Fail> {
+fn a_leave_frees_what_the_poller_refuses_to_delete(rt: HostRuntime) {
     // Call number 7 is a Delete of the leave; number 0 is no call.
     for at in [0, 7] {
-        expect_seen(&rt, rt.alloc(), at, Errno(22), Ok(seen_without()))?;
+        expect_seen(&rt, rt.alloc(), at, Errno(22), Ok(seen_without()));
     }
-    Ok(())
 }

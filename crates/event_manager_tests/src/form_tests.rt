@@ -1,17 +1,17 @@
 //! Subscribers of each form, over a script.
 
-use crate::expecting::expect_same;
+use crate::expecting::{expect_ok, expect_same};
 use crate::forms::{Boxable, Counting, Group, Leaving, Numbered, Renewing};
-use crate::parts::script_of_words;
-use crate::runs::{run_alone, silent_parts};
+use crate::parts::{push_words, script_of_words};
+use crate::runs::run_alone;
 use event_manager::{BoxedSubscriber, Events, MutEventSubscriber, PlainPoller, StepSubscriber};
+use fixtures::parts::silent_parts;
 use std::alloc::Global;
 use std::process::Abort;
 use std::sync::atomic::{AtomicU64, Ordering};
 use std::sync::{Arc, Wait};
-use std::test::Fail;
 use std::time::Clock;
-use vmm_sys::epoll::{EpollEvent, EventSet};
+use vmm_sys::epoll::EventSet;
 
 /// The descriptor of the reports.
 const FD: u64 = 3;
@@ -21,100 +21,73 @@ fn own() -> Events {
 }
 
 /// The subscriber, after a report of `first` and one of `IN`, both of descriptor 3 with this data, each in a run of its own.
-fn served<S, R>(
-    rt: R,
-    alloc: Global,
-    first: EventSet,
-    payload: u32,
-    subscriber: S,
-) -> Result<S, Fail>
+fn served<S, R>(rt: R, alloc: Global, first: EventSet, payload: u32, subscriber: S) -> S
 where
     S: MutEventSubscriber + Drop,
-    R: Wait + Clock + Abort + Clone + Send + Drop,
+    R: Wait + Clock + Abort + Copy + Send + Drop,
 {
     let word = (payload as u64) << 32 | FD;
-    let mut script = script_of_words(alloc, first, &[word])?;
-    script.push_report(vec![in alloc; EpollEvent::new(EventSet::IN, word)]?)?;
-    let parts = silent_parts(rt.clone()?, alloc, PlainPoller(script))?;
-    Ok(run_alone(&rt, parts, subscriber, &[(None, Ok(1)), (None, Ok(1))])?)
+    let mut script = expect_ok(&rt, script_of_words(alloc, first, &[word]));
+    expect_ok(&rt, push_words(&mut script, alloc, EventSet::IN, &[word]));
+    let parts = expect_ok(&rt, silent_parts(rt, alloc, PlainPoller(script)));
+    let runs = [(None, Ok(1)), (None, Ok(1))];
+    expect_ok(&rt, run_alone(&rt, parts, subscriber, &runs))
 }
 
 #[test]
-fn without_a_request_each_event_comes(rt: HostRuntime) -> Result<(), Fail> {
+fn without_a_request_each_event_comes(rt: HostRuntime) {
     let counting = Counting {
         own: own(),
         seen: 0,
     };
-    expect_same(
-        &rt,
-        &served(rt, rt.alloc(), EventSet::IN, 0, counting)?.seen,
-        &2,
-    );
-    Ok(())
+    let seen = served(rt, rt.alloc(), EventSet::IN, 0, counting).seen;
+    expect_same(&rt, &seen, &2);
 }
 
 #[test]
-fn a_request_may_depend_on_the_set(rt: HostRuntime) -> Result<(), Fail> {
+fn a_request_may_depend_on_the_set(rt: HostRuntime) {
     let leaving = Leaving {
         own: own(),
         seen: 0,
     };
-    expect_same(
-        &rt,
-        &served(rt, rt.alloc(), EventSet::HANG_UP, 0, leaving)?.seen,
-        &1,
-    );
+    let seen = served(rt, rt.alloc(), EventSet::HANG_UP, 0, leaving).seen;
+    expect_same(&rt, &seen, &1);
     let staying = Leaving {
         own: own(),
         seen: 0,
     };
-    expect_same(
-        &rt,
-        &served(rt, rt.alloc(), EventSet::OUT, 0, staying)?.seen,
-        &2,
-    );
-    Ok(())
+    let seen = served(rt, rt.alloc(), EventSet::OUT, 0, staying).seen;
+    expect_same(&rt, &seen, &2);
 }
 
 #[test]
-fn a_request_may_depend_on_the_data(rt: HostRuntime) -> Result<(), Fail> {
+fn a_request_may_depend_on_the_data(rt: HostRuntime) {
     let leaving = Numbered {
         own: own(),
         seen: 0,
     };
-    expect_same(
-        &rt,
-        &served(rt, rt.alloc(), EventSet::IN, 0, leaving)?.seen,
-        &1,
-    );
+    let seen = served(rt, rt.alloc(), EventSet::IN, 0, leaving).seen;
+    expect_same(&rt, &seen, &1);
     let staying = Numbered {
         own: own(),
         seen: 0,
     };
-    expect_same(
-        &rt,
-        &served(rt, rt.alloc(), EventSet::IN, 1, staying)?.seen,
-        &2,
-    );
-    Ok(())
+    let seen = served(rt, rt.alloc(), EventSet::IN, 1, staying).seen;
+    expect_same(&rt, &seen, &2);
 }
 
 #[test]
-fn two_requests_are_made_in_order(rt: HostRuntime) -> Result<(), Fail> {
+fn two_requests_are_made_in_order(rt: HostRuntime) {
     let renewing = Renewing {
         own: own(),
         seen: 0,
     };
-    expect_same(
-        &rt,
-        &served(rt, rt.alloc(), EventSet::IN, 0, renewing)?.seen,
-        &2,
-    );
-    Ok(())
+    let seen = served(rt, rt.alloc(), EventSet::IN, 0, renewing).seen;
+    expect_same(&rt, &seen, &2);
 }
 
 #[test]
-fn a_list_of_requests_is_made(rt: HostRuntime) -> Result<(), Fail> {
+fn a_list_of_requests_is_made(rt: HostRuntime) {
     let (second, third) = (
         Events::new_raw(4, EventSet::IN),
         Events::new_raw(5, EventSet::IN),
@@ -123,23 +96,19 @@ fn a_list_of_requests_is_made(rt: HostRuntime) -> Result<(), Fail> {
         own: [own(), second, third],
         seen: 0,
     };
-    expect_same(
-        &rt,
-        &served(rt, rt.alloc(), EventSet::IN, 0, group)?.seen,
-        &1,
-    );
-    Ok(())
+    let seen = served(rt, rt.alloc(), EventSet::IN, 0, group).seen;
+    expect_same(&rt, &seen, &1);
 }
 
 #[test]
-fn a_boxed_subscriber_says_one_request_at_a_time(rt: HostRuntime) -> Result<(), Fail> {
-    let seen = Arc::new(rt.alloc(), AtomicU64::new(0))?;
+fn a_boxed_subscriber_says_one_request_at_a_time(rt: HostRuntime) {
+    let seen = expect_ok(&rt, Arc::new(rt.alloc(), AtomicU64::new(0)));
     let boxable = Boxable {
         own: own(),
-        seen: seen.clone()?,
+        seen: expect_ok(&rt, seen.clone()),
     };
-    let boxed: Box<dyn StepSubscriber + Send> = Box::new(rt.alloc(), boxable)?;
-    served(rt, rt.alloc(), EventSet::HANG_UP, 0, BoxedSubscriber(boxed))?;
+    let boxed = expect_ok(&rt, Box::new(rt.alloc(), boxable));
+    let boxed: Box<dyn StepSubscriber + Send> = boxed;
+    served(rt, rt.alloc(), EventSet::HANG_UP, 0, BoxedSubscriber(boxed));
     expect_same(&rt, &seen.load(Ordering::SeqCst), &1);
-    Ok(())
 }

@@ -1,13 +1,13 @@
 //! Pollers that report what they like, and subscribers that ask for much in the middle of a batch.
 
-use crate::expecting::expect_same;
-use crate::parts::script_of;
-use crate::runs::{run_alone, silent_parts};
+use crate::expecting::{expect_ok, expect_same};
+use crate::parts::{push_words, script_of};
+use crate::runs::run_alone;
 use event_manager::{
     Error, EventOps, EventPoller, Events, MutEventSubscriber, PlainPoller, Request,
 };
-use std::alloc::Global;
-use std::test::Fail;
+use fixtures::parts::silent_parts;
+use std::alloc::{AllocError, Global};
 use vmm_sys::epoll::{ControlOperation, EpollEvent, EventSet, RawFd};
 use vmm_sys::errno::Errno;
 use vmm_sys::script_poller::ScriptPoller;
@@ -60,29 +60,29 @@ impl MutEventSubscriber for OwnerOf3 {
 }
 
 #[test]
-fn each_wait_reports_another_number(rt: HostRuntime) -> Result<(), Fail> {
-    let mut parts = silent_parts(rt, rt.alloc(), Rising { next: 0 })?;
+fn each_wait_reports_another_number(rt: HostRuntime) {
+    let mut parts = expect_ok(&rt, silent_parts(rt, rt.alloc(), Rising { next: 0 }));
     parts.capacity = Some(3);
     let owner = OwnerOf3 {
         leaves_it: false,
         count: 0,
     };
     let runs = [0, 1, 2, 3, 3].map(|count| (None, Ok(count)));
-    expect_same(&rt, &run_alone(&rt, parts, owner, &runs)?.count, &9);
-    Ok(())
+    let left = expect_ok(&rt, run_alone(&rt, parts, owner, &runs));
+    expect_same(&rt, &left.count, &9);
 }
 
 #[test]
-fn a_descriptor_left_at_its_first_of_256_events_has_no_other(rt: HostRuntime) -> Result<(), Fail> {
-    let script = script_of(rt.alloc(), &[3; 256])?;
-    let parts = silent_parts(rt, rt.alloc(), PlainPoller(script))?;
+fn a_descriptor_left_at_its_first_of_256_events_has_no_other(rt: HostRuntime) {
+    let script = expect_ok(&rt, script_of(rt.alloc(), &[3; 256]));
+    let parts = expect_ok(&rt, silent_parts(rt, rt.alloc(), PlainPoller(script)));
     let owner = OwnerOf3 {
         leaves_it: true,
         count: 0,
     };
     let runs = [(None, Ok(256)), (None, Ok(0))];
-    expect_same(&rt, &run_alone(&rt, parts, owner, &runs)?.count, &1);
-    Ok(())
+    let left = expect_ok(&rt, run_alone(&rt, parts, owner, &runs));
+    expect_same(&rt, &left.count, &1);
 }
 
 /// At each of its events makes 1000 requests: it asks twice for each of 500 descriptors, to add them, and at the next
@@ -96,7 +96,7 @@ struct Asking {
     count: usize,
 }
 
-fn make_asking(alloc: Global) -> Result<Asking, Fail> {
+fn make_asking(alloc: Global) -> Result<Asking, AllocError> {
     let mut adds = Vec::new(alloc);
     let mut removes = Vec::new(alloc);
     for fd in 10..510u16 {
@@ -138,26 +138,24 @@ impl MutEventSubscriber for Asking {
 }
 
 /// One report of each list of descriptors.
-fn reports_of(alloc: Global, reports: &[&[u64]]) -> Result<ScriptPoller, Fail> {
+fn reports_of(alloc: Global, reports: &[&[u64]]) -> Result<ScriptPoller, Errno> {
     let mut script = ScriptPoller::new(alloc);
     for fds in reports {
-        let mut report = Vec::new(alloc);
-        for fd in *fds {
-            report.push(EpollEvent::new(EventSet::IN, *fd))?;
-        }
-        script.push_report(report)?;
+        push_words(&mut script, alloc, EventSet::IN, fds)?;
     }
     Ok(script)
 }
 
 #[test]
-fn a_thousand_requests_at_each_event_half_of_them_refused(rt: HostRuntime) -> Result<(), Fail> {
+fn a_thousand_requests_at_each_event_half_of_them_refused(rt: HostRuntime) {
     let alloc = rt.alloc();
     // The first event of the second report cancels those behind it; so does 509 in the last, but for 3.
     let reports: [&[u64]; 4] = [&[3], &[10, 11, 12, 509, 10], &[3], &[509, 11, 3]];
-    let parts = silent_parts(rt, alloc, PlainPoller(reports_of(alloc, &reports)?))?;
+    let script = expect_ok(&rt, reports_of(alloc, &reports));
+    let parts = expect_ok(&rt, silent_parts(rt, alloc, PlainPoller(script)));
     let runs = [1, 5, 1, 3].map(|count| (None, Ok(count)));
-    let left = run_alone(&rt, parts, make_asking(alloc)?, &runs)?;
+    let asking = expect_ok(&rt, make_asking(alloc));
+    let left = expect_ok(&rt, run_alone(&rt, parts, asking, &runs));
     let owned = Some(Error::FdAlreadyRegistered);
     let not_owned = Some(Error::Epoll(Errno::ENOENT));
     expect_same(
@@ -166,5 +164,4 @@ fn a_thousand_requests_at_each_event_half_of_them_refused(rt: HostRuntime) -> Re
         &[owned, not_owned, owned, not_owned, owned],
     );
     expect_same(&rt, &left.count, &5);
-    Ok(())
 }

@@ -1,17 +1,17 @@
 //! Subscribers that come and go: their ids, and what becomes of an event of one that left.
 
 use crate::counting::{Counting, counting_on};
-use crate::expecting::expect_same;
+use crate::expecting::{expect, expect_ok, expect_same};
 use crate::parts::script_of;
-use crate::runs::{WithManager, no_memory, silent_parts, with_manager};
 use event_manager::{
     Error, EventManager, EventPoller, NoJob, PlainPoller, Result, SubscriberId, SubscriberOps,
 };
+use fixtures::making::{WithManager, no_memory, with_manager};
+use fixtures::parts::silent_parts;
 use std::alloc::Global;
 use std::process::Abort;
 use std::sync::Wait;
 use std::sync::ledger::Ledger;
-use std::test::Fail;
 use std::time::Clock;
 
 /// How many subscribers stay.
@@ -78,21 +78,20 @@ impl<R: Abort> WithManager for Comings<'_, R> {
 }
 
 #[test]
-fn five_thousand_joins_and_leaves(rt: HostRuntime) -> std::result::Result<(), Fail> {
-    let script = script_of(rt.alloc(), &[])?;
-    let parts = silent_parts(rt, rt.alloc(), PlainPoller(script))?;
+fn five_thousand_joins_and_leaves(rt: HostRuntime) {
+    let script = expect_ok(&rt, script_of(rt.alloc(), &[]));
+    let parts = expect_ok(&rt, silent_parts(rt, rt.alloc(), PlainPoller(script)));
     let body = Comings {
         rt: &rt,
         alloc: rt.alloc(),
     };
-    let staying = with_manager(parts, body)?;
+    let staying = expect_ok(&rt, with_manager(parts, body));
     expect_same(&rt, &staying.len(), &STAYING);
     let mut last = 0;
     for id in &staying {
-        assert!(rt; last < id.number());
+        expect(&rt, last < id.number());
         last = id.number();
     }
-    Ok(())
 }
 
 /// Three join on the descriptors 3, 4 and 5, the one on 4 leaves, and another joins; then one run. Answers the counts of
@@ -127,30 +126,25 @@ impl<R: Wait + Clock + Abort> WithManager for Replacing<'_, R> {
 }
 
 /// The counts after a report of 4, of 6 and of 3.
-fn counts_with<R>(
+fn counts_with<R: Wait + Clock + Abort + Copy + Send + Drop>(
     rt: R,
     alloc: Global,
     newcomer: Counting,
-) -> std::result::Result<(u64, u64, u64), Fail>
-where
-    R: Wait + Clock + Abort + Clone + Send + Drop,
-{
-    let handle = rt.clone()?;
-    let parts = silent_parts(handle, alloc, PlainPoller(script_of(alloc, &[4, 6, 3])?))?;
+) -> (u64, u64, u64) {
+    let script = expect_ok(&rt, script_of(alloc, &[4, 6, 3]));
+    let parts = expect_ok(&rt, silent_parts(rt, alloc, PlainPoller(script)));
     let body = Replacing { rt: &rt, newcomer };
-    Ok(with_manager(parts, body)?)
+    expect_ok(&rt, with_manager(parts, body))
 }
 
 #[test]
-fn event_of_one_that_left_goes_to_nobody(rt: HostRuntime) -> std::result::Result<(), Fail> {
-    let counts = counts_with(rt, rt.alloc(), counting_on(6))?;
+fn event_of_one_that_left_goes_to_nobody(rt: HostRuntime) {
+    let counts = counts_with(rt, rt.alloc(), counting_on(6));
     expect_same(&rt, &counts, &(1, 0, 1));
-    Ok(())
 }
 
 #[test]
-fn event_of_one_that_left_goes_to_the_next_owner(rt: HostRuntime) -> std::result::Result<(), Fail> {
-    let counts = counts_with(rt, rt.alloc(), counting_on(4))?;
+fn event_of_one_that_left_goes_to_the_next_owner(rt: HostRuntime) {
+    let counts = counts_with(rt, rt.alloc(), counting_on(4));
     expect_same(&rt, &counts, &(1, 0, 1));
-    Ok(())
 }

@@ -1,13 +1,13 @@
 //! How a manager is made: what its capacity may be.
 
 use crate::counting::{Counting, counting_on};
-use crate::expecting::expect_same;
+use crate::expecting::{expect, expect_ok, expect_same};
 use crate::parts::{Recorder, script_of};
-use crate::runs::{Parts, run_alone, run_over, silent_parts};
+use crate::runs::{run_alone, run_over};
 use event_manager::{Error, MAX_READY_EVENTS_CAPACITY, PlainPoller};
+use fixtures::parts::{Parts, silent_parts};
 use std::process::Abort;
 use std::sync::Wait;
-use std::test::Fail;
 use std::time::Clock;
 use vmm_sys::errno::Errno;
 
@@ -18,24 +18,26 @@ fn refusal<R: Wait + Clock + Abort>(rt: &R, parts: Parts<Recorder>) -> Option<Er
 }
 
 #[test]
-fn capacity_above_the_limit_asks_the_poller_for_nothing(rt: HostRuntime) -> Result<(), Fail> {
-    let recorder = Recorder::new(rt.alloc())?;
+fn capacity_above_the_limit_asks_the_poller_for_nothing(rt: HostRuntime) {
+    let recorder = expect_ok(&rt, Recorder::new(rt.alloc()));
     for capacity in [MAX_READY_EVENTS_CAPACITY + 1, usize::MAX] {
-        let mut parts = silent_parts(rt, rt.alloc(), recorder.try_clone()?)?;
+        let poller = expect_ok(&rt, recorder.try_clone());
+        let mut parts = expect_ok(&rt, silent_parts(rt, rt.alloc(), poller));
         parts.capacity = Some(capacity);
         expect_same(&rt, &refusal(&rt, parts), &Some(Error::InvalidCapacity));
     }
-    assert!(rt; recorder.was_asked(&[]));
-    Ok(())
+    expect(&rt, recorder.was_asked(&[]));
 }
 
 #[test]
-fn capacity_0_is_left_to_the_wait(rt: HostRuntime) -> Result<(), Fail> {
-    let script = script_of(rt.alloc(), &[3])?;
-    let mut parts = silent_parts(rt, rt.alloc(), PlainPoller(script))?;
+fn capacity_0_is_left_to_the_wait(rt: HostRuntime) {
+    let script = expect_ok(&rt, script_of(rt.alloc(), &[3]));
+    let mut parts = expect_ok(&rt, silent_parts(rt, rt.alloc(), PlainPoller(script)));
     parts.capacity = Some(0);
     let refused = Err(Error::Epoll(Errno::EINVAL));
-    let left = run_alone(&rt, parts, counting_on(3), &[(None, refused)])?;
+    let left = expect_ok(
+        &rt,
+        run_alone(&rt, parts, counting_on(3), &[(None, refused)]),
+    );
     expect_same(&rt, &left.count, &0);
-    Ok(())
 }

@@ -11,16 +11,26 @@ use vmm_sys::errno::Errno;
 use vmm_sys::eventfd::EventFd;
 use vmm_sys::script_poller::ScriptPoller;
 
-/// A script of one report: of these words, each with this set.
-pub fn script_of_words(alloc: Global, set: EventSet, words: &[u64]) -> Result<ScriptPoller, Errno> {
-    let mut script = ScriptPoller::new(alloc);
+/// Appends a report of these words, each with this set.
+pub fn push_words(
+    script: &mut ScriptPoller,
+    alloc: Global,
+    set: EventSet,
+    words: &[u64],
+) -> Result<(), Errno> {
     let mut report = Vec::new(alloc);
     for &word in words {
         if report.push(EpollEvent::new(set, word)).is_err() {
             return Err(Errno::ENOMEM);
         }
     }
-    script.push_report(report)?;
+    script.push_report(report)
+}
+
+/// A script of one report: of these words, each with this set.
+pub fn script_of_words(alloc: Global, set: EventSet, words: &[u64]) -> Result<ScriptPoller, Errno> {
+    let mut script = ScriptPoller::new(alloc);
+    push_words(&mut script, alloc, set, words)?;
     Ok(script)
 }
 
@@ -40,18 +50,6 @@ pub fn counter_at<R: Wait + Clock + Clone + Send + Drop>(
         EventFd::new(epoll, 0, rt)?;
     }
     EventFd::new(epoll, value, rt)
-}
-
-/// A counter with descriptor 0 and value 0, in a table that nobody else has: an endpoint that stays silent.
-pub fn silent_endpoint<R: Wait + Clock + Clone + Send + Drop>(
-    rt: R,
-    alloc: Global,
-) -> Result<EventFd, Errno> {
-    let Ok(handle) = rt.clone() else {
-        return Err(Errno::ENOMEM);
-    };
-    let epoll = Epoll::new(handle, alloc)?;
-    EventFd::new(&epoll, 0, &rt)
 }
 
 /// A call of `control`.

@@ -1,9 +1,10 @@
 //! A manager over the in-process table.
 
+use crate::expecting::{expect, expect_ok};
 use crate::log::{Log, got};
-use crate::runs::{Parts, run_alone, run_over};
-use event_manager::{BoxedPoller, EventOps, EventPoller, Events, MutEventSubscriber, PlainPoller};
-use std::test::Fail;
+use crate::runs::{run_alone, run_over};
+use event_manager::{BoxedPoller, EventOps, EventPoller, Events, MutEventSubscriber};
+use fixtures::parts::{Parts, on_table};
 use vmm_sys::epoll::{Epoll, EventSet};
 use vmm_sys::eventfd::EventFd;
 use vmm_sys::poller::Poller;
@@ -35,42 +36,38 @@ impl MutEventSubscriber for Growing {
     }
 }
 
-/// The parts of a manager without a capacity.
-fn parts_of<P>(rt: HostRuntime, poller: P, event_fd: EventFd) -> Parts<P> {
-    Parts {
-        alloc: rt.alloc(),
-        poller,
-        event_fd,
-        capacity: None,
-    }
-}
-
 #[test]
-fn descriptor_added_in_process_is_served_by_the_next_run(rt: HostRuntime) -> Result<(), Fail> {
-    let log = Log::new(rt.alloc())?;
-    let epoll = Epoll::new(rt, rt.alloc())?;
-    let endpoint = EventFd::new(&epoll, 0, &rt)?;
-    let first = EventFd::new(&epoll, 0, &rt)?;
-    let second = EventFd::new(&epoll, 0, &rt)?;
-    let poller: Box<dyn Poller + Send> = Box::new(rt.alloc(), epoll)?;
+fn descriptor_added_in_process_is_served_by_the_next_run(rt: HostRuntime) {
+    let log = expect_ok(&rt, Log::new(rt.alloc()));
+    let epoll = expect_ok(&rt, Epoll::new(rt, rt.alloc()));
+    let endpoint = expect_ok(&rt, EventFd::new(&epoll, 0, &rt));
+    let first = expect_ok(&rt, EventFd::new(&epoll, 0, &rt));
+    let second = expect_ok(&rt, EventFd::new(&epoll, 0, &rt));
+    let poller = expect_ok(&rt, Box::new(rt.alloc(), epoll));
+    let poller: Box<dyn Poller + Send> = poller;
     let growing = Growing {
         first: Events::new(&first, EventSet::OUT),
         second: Events::new(&second, EventSet::OUT),
-        log: log.try_clone()?,
+        log: expect_ok(&rt, log.try_clone()),
     };
-    let parts = parts_of(rt, BoxedPoller(poller), endpoint);
-    run_alone(&rt, parts, growing, &[(None, Ok(1)), (None, Ok(2))])?;
+    let parts = Parts::new(rt.alloc(), BoxedPoller(poller), endpoint);
+    expect_ok(
+        &rt,
+        run_alone(&rt, parts, growing, &[(None, Ok(1)), (None, Ok(2))]),
+    );
     let of_first = got(1, 1, EventSet::OUT, 0);
-    assert!(rt; log.were(&[of_first, of_first, got(1, 2, EventSet::OUT, 0)]));
-    Ok(())
+    expect(
+        &rt,
+        log.were(&[of_first, of_first, got(1, 2, EventSet::OUT, 0)]),
+    );
 }
 
 #[test]
-fn endpoint_is_read_once_after_its_event(rt: HostRuntime) -> Result<(), Fail> {
-    let epoll = Epoll::new(rt, rt.alloc())?;
-    let endpoint = EventFd::new(&epoll, 3, &rt)?;
-    let parts = parts_of(rt, PlainPoller(epoll), endpoint);
+fn endpoint_is_read_once_after_its_event(rt: HostRuntime) {
+    let parts = expect_ok(&rt, on_table(rt, rt.alloc(), 3));
     let runs = [(None, Ok(1)), (Some(0), Ok(0))];
-    run_over::<Growing, _, _>(&rt, parts, Vec::new(rt.alloc()), &runs)?;
-    Ok(())
+    expect_ok(
+        &rt,
+        run_over::<Growing, _, _>(&rt, parts, Vec::new(rt.alloc()), &runs),
+    );
 }

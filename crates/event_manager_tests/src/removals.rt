@@ -1,14 +1,15 @@
 //! Many removals at one event, and descriptors at the ends of what a table by descriptor holds.
 
-use crate::expecting::expect_same;
-use crate::parts::counter_at;
-use crate::runs::{Parts, run_alone};
+use crate::expecting::{expect, expect_ok, expect_same};
+use crate::parts::{counter_at, push_words};
+use crate::runs::run_alone;
 use event_manager::{EventOps, EventPoller, Events, MutEventSubscriber, PlainPoller, Request};
-use std::alloc::Global;
+use fixtures::parts::Parts;
+use std::alloc::{AllocError, Global};
 use std::sync::Wait;
-use std::test::Fail;
 use std::time::Clock;
-use vmm_sys::epoll::{Epoll, EpollEvent, EventSet, RawFd};
+use vmm_sys::epoll::{Epoll, EventSet, RawFd};
+use vmm_sys::errno::Errno;
 use vmm_sys::script_poller::ScriptPoller;
 
 /// Makes requests in `init`, and others at one of its events, which it counts.
@@ -47,7 +48,7 @@ fn make_requesting(
     fds: &[RawFd],
     turning_point: u64,
     again: bool,
-) -> Result<Requesting, Fail> {
+) -> Result<Requesting, AllocError> {
     let mut first = Vec::new(alloc);
     let mut later = Vec::new(alloc);
     for fd in fds {
@@ -68,59 +69,55 @@ fn make_requesting(
 }
 
 /// So many reports of each of the descriptors.
-fn reports_of(alloc: Global, fds: &[RawFd], reports: u32) -> Result<ScriptPoller, Fail> {
+fn reports_of(alloc: Global, fds: &[RawFd], reports: u32) -> Result<ScriptPoller, Errno> {
+    let mut words = Vec::new(alloc);
+    for fd in fds {
+        if words.push((*fd).max(0) as u64).is_err() {
+            return Err(Errno::ENOMEM);
+        }
+    }
     let mut script = ScriptPoller::new(alloc);
     for _ in 0..reports {
-        let mut report = Vec::new(alloc);
-        for fd in fds {
-            report.push(EpollEvent::new(EventSet::IN, (*fd).max(0) as u64))?;
-        }
-        script.push_report(report)?;
+        push_words(&mut script, alloc, EventSet::IN, &words)?;
     }
     Ok(script)
 }
 
 /// Parts over a script, with a silent endpoint on descriptor 201.
-fn parts_beside<R: Wait + Clock + Clone + Send + Drop>(
+fn parts_beside<R: Wait + Clock + Copy + Send + Drop>(
     rt: R,
     alloc: Global,
     script: ScriptPoller,
-) -> Result<Parts<PlainPoller<ScriptPoller>>, Fail> {
-    let epoll = Epoll::new(rt.clone()?, alloc)?;
-    Ok(Parts {
-        alloc,
-        poller: PlainPoller(script),
-        event_fd: counter_at(&epoll, 201, 0, &rt)?,
-        capacity: None,
-    })
+) -> Result<Parts<PlainPoller<ScriptPoller>>, Errno> {
+    let epoll = Epoll::new(rt, alloc)?;
+    let event_fd = counter_at(&epoll, 201, 0, &rt)?;
+    Ok(Parts::new(alloc, PlainPoller(script), event_fd))
 }
 
 #[test]
-fn descriptors_at_the_ends_are_removed_and_added_again(rt: HostRuntime) -> Result<(), Fail> {
+fn descriptors_at_the_ends_are_removed_and_added_again(rt: HostRuntime) {
     let fds = [0, 65535, 65536, 2147483647];
-    let script = reports_of(rt.alloc(), &fds, 3)?;
-    let parts = parts_beside(rt, rt.alloc(), script)?;
-    let subscriber = make_requesting(rt.alloc(), &fds, 5, true)?;
+    let script = expect_ok(&rt, reports_of(rt.alloc(), &fds, 3));
+    let parts = expect_ok(&rt, parts_beside(rt, rt.alloc(), script));
+    let subscriber = expect_ok(&rt, make_requesting(rt.alloc(), &fds, 5, true));
     // The first event of the second report cancels the three behind it.
     let runs = [(None, Ok(4)), (None, Ok(4)), (None, Ok(4))];
-    let left = run_alone(&rt, parts, subscriber, &runs)?;
+    let left = expect_ok(&rt, run_alone(&rt, parts, subscriber, &runs));
     expect_same(&rt, &left.count, &9);
-    assert!(rt; left.all_agreed);
-    Ok(())
+    expect(&rt, left.all_agreed);
 }
 
 #[test]
-fn two_hundred_removals_at_one_event(rt: HostRuntime) -> Result<(), Fail> {
+fn two_hundred_removals_at_one_event(rt: HostRuntime) {
     let mut fds = Vec::new(rt.alloc());
     for fd in 0..200 {
-        fds.push(fd)?;
+        expect_ok(&rt, fds.push(fd));
     }
-    let script = reports_of(rt.alloc(), &fds, 2)?;
-    let parts = parts_beside(rt, rt.alloc(), script)?;
-    let subscriber = make_requesting(rt.alloc(), &fds, 1, false)?;
+    let script = expect_ok(&rt, reports_of(rt.alloc(), &fds, 2));
+    let parts = expect_ok(&rt, parts_beside(rt, rt.alloc(), script));
+    let subscriber = expect_ok(&rt, make_requesting(rt.alloc(), &fds, 1, false));
     let runs = [(None, Ok(200)), (None, Ok(200))];
-    let left = run_alone(&rt, parts, subscriber, &runs)?;
+    let left = expect_ok(&rt, run_alone(&rt, parts, subscriber, &runs));
     expect_same(&rt, &left.count, &1);
-    assert!(rt; left.all_agreed);
-    Ok(())
+    expect(&rt, left.all_agreed);
 }

@@ -4,16 +4,17 @@ ghost use Rattle.std.specs.Prelude.{◌≡◌};
 ghost use Rattle.event_manager.specs.Registry.{Step};
 ghost use Rattle.event_manager.specs.LoopState.{HasStepped, IsRequest};
 
-use crate::expecting::expect_same;
+use crate::expecting::{expect, expect_ok, expect_same};
 use crate::parts::{Control, Recorder};
-use crate::runs::{Parts, Runs, silent_parts, with_manager};
+use crate::runs::Runs;
 use event_manager::{
     Error, EventOps, EventPoller, Events, MutEventSubscriber, PlainPoller, Request, Result,
     SubscriberId, SubscriberOps,
 };
+use fixtures::making::with_manager;
+use fixtures::parts::{Parts, silent_parts};
 use std::process::Abort;
 use std::sync::Wait;
-use std::test::Fail;
 use std::time::Clock;
 use vmm_sys::epoll::{ControlOperation, EventSet};
 use vmm_sys::errno::Errno;
@@ -78,29 +79,30 @@ fn request_and_leave<P: EventPoller + Drop, R: Wait + Clock + Abort>(
     rt: &R,
     parts: Parts<P>,
     requests: &[(Request, Result<()>)],
-) -> std::result::Result<(), Fail> {
+) {
     let alloc = parts.alloc;
+    let subscribers = expect_ok(rt, vec![in alloc; pair_of(3, 4), pair_of(5, 6)]);
     let body = Runs {
         rt,
         alloc,
-        subscribers: vec![in alloc; pair_of(3, 4), pair_of(5, 6)]?,
+        subscribers,
         requests,
         runs: &[(None, Ok(0))],
     };
-    with_manager(parts, body)?;
-    Ok(())
+    expect_ok(rt, with_manager(parts, body));
 }
 
 #[test]
-fn one_delete_each_in_ascending_order(rt: HostRuntime) -> std::result::Result<(), Fail> {
-    let recorder = Recorder::new(rt.alloc())?;
-    let parts = silent_parts(rt, rt.alloc(), recorder.try_clone()?)?;
+fn one_delete_each_in_ascending_order(rt: HostRuntime) {
+    let recorder = expect_ok(&rt, Recorder::new(rt.alloc()));
+    let poller = expect_ok(&rt, recorder.try_clone());
+    let parts = expect_ok(&rt, silent_parts(rt, rt.alloc(), poller));
     let requests = [
         (Request::Remove(wanted(3)), Ok(())),
         (Request::Add(wanted(7)), Ok(())),
         (Request::Add(wanted(3)), Ok(())),
     ];
-    request_and_leave(&rt, parts, &requests)?;
+    request_and_leave(&rt, parts, &requests);
     let event = Events::empty_raw(0);
     let delete = |fd: u32| Control {
         op: ControlOperation::Delete,
@@ -108,8 +110,7 @@ fn one_delete_each_in_ascending_order(rt: HostRuntime) -> std::result::Result<()
         event,
     };
     let deletes = [delete(3), delete(4), delete(7), delete(5), delete(6)];
-    assert!(rt; recorder.was_asked(&deletes));
-    Ok(())
+    expect(&rt, recorder.was_asked(&deletes));
 }
 
 /// The requests of a subscriber that owns 3 and 4 beside one that owns 5 and 6, and their answers from a poller that
@@ -135,11 +136,17 @@ fn requests_and_answers() -> [(Request, Result<()>); 14] {
 }
 
 #[test]
-fn a_request_is_answered_by_the_table(rt: HostRuntime) -> std::result::Result<(), Fail> {
+fn a_request_is_answered_by_the_table(rt: HostRuntime) {
     let mut script = ScriptPoller::new(rt.alloc());
-    script.push_refusal(ControlOperation::Add, 7, Errno(1))?;
-    script.push_refusal(ControlOperation::Modify, 3, Errno(5))?;
-    script.push_refusal(ControlOperation::Delete, 4, Errno(22))?;
-    let parts = silent_parts(rt, rt.alloc(), PlainPoller(script))?;
-    request_and_leave(&rt, parts, &requests_and_answers())
+    expect_ok(&rt, script.push_refusal(ControlOperation::Add, 7, Errno(1)));
+    expect_ok(
+        &rt,
+        script.push_refusal(ControlOperation::Modify, 3, Errno(5)),
+    );
+    expect_ok(
+        &rt,
+        script.push_refusal(ControlOperation::Delete, 4, Errno(22)),
+    );
+    let parts = expect_ok(&rt, silent_parts(rt, rt.alloc(), PlainPoller(script)));
+    request_and_leave(&rt, parts, &requests_and_answers());
 }

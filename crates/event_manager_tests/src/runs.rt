@@ -1,96 +1,17 @@
-//! Managers for one test each, and the runs that most tests make.
+//! The runs that most tests make.
 
 use crate::expecting::expect_same;
-use crate::parts::silent_endpoint;
 use crate::requests::expect_answers;
 use event_manager::{
-    Error, EventManager, EventPoller, MutEventSubscriber, NoJob, Request, Result, SubscriberId,
-    SubscriberOps, WithLedgers, with_ledgers,
+    Error, EventManager, EventPoller, MutEventSubscriber, NoJob, Request, Result, SubscriberOps,
 };
+use fixtures::making::{WithManager, no_memory, with_manager};
+use fixtures::parts::Parts;
 use std::alloc::Global;
 use std::process::Abort;
 use std::sync::Wait;
-use std::sync::ledger::{Blank, Ledger};
+use std::sync::ledger::Ledger;
 use std::time::Clock;
-use vmm_sys::errno::Errno;
-use vmm_sys::eventfd::EventFd;
-
-/// What a test does with a manager, whatever its ledgers and its poller.
-pub trait WithManager: Drop {
-    /// The type of the manager's subscribers.
-    type Subscriber: MutEventSubscriber + Drop;
-
-    /// What the test then looks at.
-    type Output;
-
-    /// Does it.
-    fn run<L: Ledger, T: Ledger, P: EventPoller>(
-        self,
-        manager: &mut EventManager<Self::Subscriber, NoJob, L, T, P>,
-    ) -> Result<Self::Output>;
-}
-
-/// What a manager is made of. Without a capacity it is the one that `new` takes.
-#[derive(Drop)]
-pub struct Parts<P> {
-    pub alloc: Global,
-    pub poller: P,
-    pub event_fd: EventFd,
-    pub capacity: Option<usize>,
-}
-
-/// Parts with a silent endpoint, and no capacity.
-pub fn silent_parts<P: Drop, R: Wait + Clock + Clone + Send + Drop>(
-    rt: R,
-    alloc: Global,
-    poller: P,
-) -> std::result::Result<Parts<P>, Errno> {
-    Ok(Parts {
-        alloc,
-        poller,
-        event_fd: silent_endpoint(rt, alloc)?,
-        capacity: None,
-    })
-}
-
-/// A body, and the parts of its manager.
-struct Made<B, P> {
-    parts: Parts<P>,
-    body: B,
-}
-
-impl<B: WithManager, P: EventPoller + Drop> WithLedgers for Made<B, P> {
-    type Output = Result<B::Output>;
-
-    fn run<L: Ledger + Send + Sync, T: Ledger + Send + Sync>(
-        self,
-        tickets: Blank,
-        taken: Blank,
-    ) -> Result<B::Output> {
-        let Made { parts, body } = self;
-        let Parts {
-            alloc,
-            poller,
-            event_fd,
-            capacity,
-        } = parts;
-        let mut manager = match capacity {
-            Some(capacity) => EventManager::<B::Subscriber, NoJob, L, T, P>::new_with_capacity(
-                alloc, poller, event_fd, capacity, tickets, taken,
-            )?,
-            None => EventManager::new(alloc, poller, event_fd, tickets, taken)?,
-        };
-        body.run(&mut manager)
-    }
-}
-
-/// Runs the body over a manager of these parts, which is then dropped.
-pub fn with_manager<B: WithManager, P: EventPoller + Drop>(
-    parts: Parts<P>,
-    body: B,
-) -> Result<B::Output> {
-    with_ledgers(Made { parts, body })
-}
 
 /// The limit of a run in milliseconds, or none, and the answer.
 pub type Run = (Option<i32>, Result<usize>);
@@ -183,9 +104,4 @@ where
         Some(subscriber) => Ok(subscriber),
         None => Err(Error::InvalidId),
     }
-}
-
-/// The error of a manager for want of memory.
-pub fn no_memory<E: Drop>(_error: E) -> Error {
-    Error::OutOfMemory
 }

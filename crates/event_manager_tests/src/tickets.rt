@@ -1,11 +1,11 @@
 //! Tickets and counts over ledgers that a body is given.
 
+use crate::expecting::expect_same;
 use job_tickets::ledgers::{WithLedgers, with_ledgers};
 use job_tickets::taken::open;
 use job_tickets::tickets::{Register, Ticket};
 use std::alloc::Global;
 use std::sync::ledger::{Blank, Ledger};
-use std::test::Fail;
 
 /// Issues three tickets and gathers two of them, then all.
 #[derive(Drop)]
@@ -46,7 +46,7 @@ impl WithLedgers for Gathering {
 #[test]
 fn all_tickets_are_gathered_and_sorted(rt: HostRuntime) {
     let gathered = with_ledgers(Gathering { alloc: rt.alloc() });
-    assert_eq!(rt; gathered, Some((false, true, [1, 2, 3])));
+    expect_same(&rt, &gathered, &Some((false, true, [1, 2, 3])));
 }
 
 /// Counts five jobs, and then two.
@@ -69,7 +69,6 @@ impl WithLedgers for Counting {
 }
 
 #[test]
-fn taken_jobs_add_up(rt: HostRuntime) -> Result<(), Fail> {
-    assert_eq!(rt; with_ledgers(Counting), 7);
-    Ok(())
+fn taken_jobs_add_up(rt: HostRuntime) {
+    expect_same(&rt, &with_ledgers(Counting), &7);
 }

@@ -3,6 +3,8 @@
 #![tactic(auto)]
 
 pub mod calls;
+#[cfg(test)]
+mod expecting;
 pub mod output;
 pub mod requests;
 pub mod run;

@@ -171,8 +171,8 @@ impl<O: Out> Printer<O> {
 #[cfg(test)]
 mod tests {
     use super::*;
+    use crate::expecting::{expect_ok, expect_same};
     use std::io;
-    use std::test::Fail;
     use vmm_sys::epoll::EventSet;
     use vmm_sys::errno::Errno;
 
@@ -197,27 +197,28 @@ mod tests {
     }
 
     #[test]
-    fn the_longest_lines_take_no_memory(rt: HostRuntime) -> Result<(), Fail> {
-        let mut printer = Printer::new(rt.alloc(), Sink)?;
+    fn the_longest_lines_take_no_memory(rt: HostRuntime) {
+        let mut printer = expect_ok(&rt, Printer::new(rt.alloc(), Sink));
         let room = printer.line.capacity();
         let name = "abcdefghijklmnopqrstuvwxyz012345";
         let events = Events::with_data_raw(2147483647, 4294967295, EventSet::all());
         let request = Request::Modify(events);
         let answer = Err(Error::Epoll(Errno(4095)));
-        printer.print(&OutputLine::Deliver { name, events })?;
-        assert_eq!(rt; printer.line.capacity(), room);
-        printer.print(&OutputLine::Reply {
+        let delivered = OutputLine::Deliver { name, events };
+        expect_ok(&rt, printer.print(&delivered));
+        expect_same(&rt, &printer.line.capacity(), &room);
+        let replied = OutputLine::Reply {
             name,
             request,
             answer,
-        })?;
-        assert_eq!(rt; printer.line.capacity(), room);
-        Ok(())
+        };
+        expect_ok(&rt, printer.print(&replied));
+        expect_same(&rt, &printer.line.capacity(), &room);
     }
 
     // What no script can bring about.
     #[test]
-    fn refused_joins_and_runs_have_their_texts(rt: HostRuntime) -> Result<(), Fail> {
+    fn refused_joins_and_runs_have_their_texts(rt: HostRuntime) {
         let joined = OutputLine::Joined {
             name: "a",
             answer: Err(Error::IdsUsedUp),
@@ -225,14 +226,11 @@ mod tests {
         let ran = OutputLine::Ran {
             answer: Err(Error::Epoll(Errno(9))),
         };
-        assert_eq!(rt;
-            joined.to_string(rt.alloc())?.as_str(),
-            "sub a: event_manager: subscriber ids used up"
-        );
-        assert_eq!(rt;
-            ran.to_string(rt.alloc())?.as_str(),
-            "run: event_manager: failed to manage epoll file descriptor: os error 9"
-        );
-        Ok(())
+        let text = expect_ok(&rt, joined.to_string(rt.alloc()));
+        let want = "sub a: event_manager: subscriber ids used up";
+        expect_same(&rt, &text.as_str(), &want);
+        let text = expect_ok(&rt, ran.to_string(rt.alloc()));
+        let want = "run: event_manager: failed to manage epoll file descriptor: os error 9";
+        expect_same(&rt, &text.as_str(), &want);
     }
 }

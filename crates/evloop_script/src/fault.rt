@@ -62,12 +62,12 @@ impl From<AllocError> for Fault {
 #[cfg(test)]
 mod tests {
     use super::*;
+    use crate::expecting::{expect_ok, expect_same};
     use event_loop::Error;
-    use std::test::Fail;
     use vmm_sys::errno::Errno;
 
     #[test]
-    fn faults_have_their_texts(rt: HostRuntime) -> Result<(), Fail> {
+    fn faults_have_their_texts(rt: HostRuntime) {
         let table = [
             (Fault::BadScript(1), "line 1: bad script"),
             (Fault::BadScript(20001), "line 20001: bad script"),
@@ -80,8 +80,8 @@ mod tests {
             ),
         ];
         for (fault, want) in table {
-            assert_eq!(rt; fault.to_string(rt.alloc())?.as_str(), want);
+            let text = expect_ok(&rt, fault.to_string(rt.alloc()));
+            expect_same(&rt, &text.as_str(), &want);
         }
-        Ok(())
     }
 }

@@ -29,8 +29,8 @@ pub fn read_text<I: Read>(alloc: Global, input: &mut I) -> Result<String, Fault>
 #[cfg(test)]
 mod tests {
     use super::*;
+    use crate::expecting::{expect_ok, expect_same};
     use std::io;
-    use std::test::Fail;
 
     /// Gives its bytes one at a time, and then fails or ends.
     #[derive(Drop)]
@@ -66,27 +66,26 @@ mod tests {
     }
 
     #[test]
-    fn all_bytes_are_read(rt: HostRuntime) -> Result<(), Fail> {
-        let text = read_text(rt.alloc(), &mut make_trickle(None))?;
-        assert_eq!(rt; text.as_str(), "run\n");
+    fn all_bytes_are_read(rt: HostRuntime) {
+        let text = expect_ok(&rt, read_text(rt.alloc(), &mut make_trickle(None)));
+        expect_same(&rt, &text.as_str(), &"run\n");
         let mut bytes = "# \u{4e16}\n".as_bytes();
-        let text = read_text(rt.alloc(), &mut bytes)?;
-        assert_eq!(rt; text.as_str(), "# \u{4e16}\n");
-        Ok(())
+        let text = expect_ok(&rt, read_text(rt.alloc(), &mut bytes));
+        expect_same(&rt, &text.as_str(), &"# \u{4e16}\n");
     }
 
     #[test]
     fn a_failing_read_is_told(rt: HostRuntime) {
         let mut input = make_trickle(Some(ErrorKind::ConnectionReset));
         let read = read_text(rt.alloc(), &mut input);
-        assert_eq!(rt; read.err(), Some(Fault::CannotRead));
+        expect_same(&rt, &read.err(), &Some(Fault::CannotRead));
     }
 
     #[test]
     fn want_of_memory_while_reading_is_told(rt: HostRuntime) {
         let mut input = make_trickle(Some(ErrorKind::OutOfMemory));
         let read = read_text(rt.alloc(), &mut input);
-        assert_eq!(rt; read.err(), Some(Fault::OutOfMemory));
+        expect_same(&rt, &read.err(), &Some(Fault::OutOfMemory));
     }
 
     #[test]
@@ -99,7 +98,7 @@ mod tests {
         for bytes in inputs {
             let mut input = bytes;
             let read = read_text(rt.alloc(), &mut input);
-            assert_eq!(rt; read.err(), Some(Fault::CannotRead));
+            expect_same(&rt, &read.err(), &Some(Fault::CannotRead));
         }
     }
 }

@@ -42,7 +42,7 @@ impl fmt::Display for SetNames {
 #[cfg(test)]
 mod tests {
     use super::*;
-    use std::test::Fail;
+    use crate::expecting::{expect_ok, expect_same, expect_same_for};
 
     const ALL: &str =
         "IN+PRIORITY+OUT+ERROR+HANG_UP+READ_HANG_UP+EXCLUSIVE+WAKE_UP+ONE_SHOT+EDGE_TRIGGERED";
@@ -73,7 +73,7 @@ mod tests {
         ];
         for (word, bits) in table {
             let set = event_set(word);
-            assert_eq!(rt; set.map(|set| set.bits()), Some(bits), "{word}");
+            expect_same_for(&rt, &set.map(|set| set.bits()), &Some(bits), &word);
         }
     }
 
@@ -84,12 +84,12 @@ mod tests {
             "IN,OUT", "RDHUP", "ALL", "0x1", "1", "IN+NONE",
         ];
         for word in words {
-            assert_eq!(rt; event_set(word), None, "{word:?}");
+            expect_same_for(&rt, &event_set(word), &None, &word);
         }
     }
 
     #[test]
-    fn sets_are_printed_in_the_order_of_bits(rt: HostRuntime) -> Result<(), Fail> {
+    fn sets_are_printed_in_the_order_of_bits(rt: HostRuntime) {
         let table = [
             (0, "-"),
             (0x40, "-"),
@@ -101,9 +101,9 @@ mod tests {
             (0xF000_201F, ALL),
         ];
         for (bits, want) in table {
-            let text = SetNames(EventSet::from_bits_retain(bits)).to_string(rt.alloc())?;
-            assert_eq!(rt; text.as_str(), want);
+            let names = SetNames(EventSet::from_bits_retain(bits));
+            let text = expect_ok(&rt, names.to_string(rt.alloc()));
+            expect_same(&rt, &text.as_str(), &want);
         }
-        Ok(())
     }
 }

@@ -78,6 +78,7 @@ pub fn errno(word: &str) -> Option<Errno>
 #[cfg(test)]
 mod tests {
     use super::*;
+    use crate::expecting::{expect_same, expect_same_for};
 
     // The long words are one hundred zeros and seven, and a number of forty digits.
     const LONG_SEVEN: &str =
@@ -108,26 +109,26 @@ mod tests {
             ("\u{0663}", None),
         ];
         for (word, want) in table {
-            assert_eq!(rt; number(word, 4095), want, "{word:?}");
+            expect_same_for(&rt, &number(word, 4095), &want, &word);
         }
     }
 
     #[test]
     fn limits_hold_from_both_sides(rt: HostRuntime) {
-        assert_eq!(rt; descriptor("0"), Some(0));
-        assert_eq!(rt; descriptor("2147483647"), Some(2147483647));
-        assert_eq!(rt; descriptor("2147483648"), None);
-        assert_eq!(rt; descriptor("-1"), None);
-        assert_eq!(rt; payload("0"), Some(0));
-        assert_eq!(rt; payload("4294967295"), Some(4294967295));
-        assert_eq!(rt; payload("4294967296"), None);
-        assert_eq!(rt; priority("0"), Some(Priority::Lowest));
-        assert_eq!(rt; priority("003"), Some(Priority::Highest));
-        assert_eq!(rt; priority("4"), None);
-        assert_eq!(rt; errno("0"), None);
-        assert_eq!(rt; errno("1"), Some(Errno(1)));
-        assert_eq!(rt; errno("4095"), Some(Errno(4095)));
-        assert_eq!(rt; errno("4096"), None);
+        expect_same(&rt, &descriptor("0"), &Some(0));
+        expect_same(&rt, &descriptor("2147483647"), &Some(2147483647));
+        expect_same(&rt, &descriptor("2147483648"), &None);
+        expect_same(&rt, &descriptor("-1"), &None);
+        expect_same(&rt, &payload("0"), &Some(0));
+        expect_same(&rt, &payload("4294967295"), &Some(4294967295));
+        expect_same(&rt, &payload("4294967296"), &None);
+        expect_same(&rt, &priority("0"), &Some(Priority::Lowest));
+        expect_same(&rt, &priority("003"), &Some(Priority::Highest));
+        expect_same(&rt, &priority("4"), &None);
+        expect_same(&rt, &errno("0"), &None);
+        expect_same(&rt, &errno("1"), &Some(Errno(1)));
+        expect_same(&rt, &errno("4095"), &Some(Errno(4095)));
+        expect_same(&rt, &errno("4096"), &None);
     }
 
     #[test]
@@ -151,7 +152,7 @@ mod tests {
             ("", None),
         ];
         for (word, want) in table {
-            assert_eq!(rt; signed_descriptor(word), want, "{word:?}");
+            expect_same_for(&rt, &signed_descriptor(word), &want, &word);
         }
     }
 }

@@ -2,11 +2,13 @@
 
 ghost use Rattle.std.specs.Prelude.{◌≡◌};
 
+use crate::expecting::{expect_ok, expect_same};
 use crate::fixture::{Loop, Progress, Sender, Task, make, spin};
 use crate::host::{Host, Rounds};
 use event_manager::{Error, Result};
 use std::alloc::Global;
 use std::marker::Brand;
+use std::process::Abort;
 use std::sync::atomic::{AtomicBool, Ordering};
 use std::sync::ledger::{Blank, Ledger};
 use std::sync::{Arc, Wait};
@@ -48,6 +50,12 @@ fn close<L: Ledger, T: Ledger, R: Wait + Clock + Clone + Send + Drop>(
     manager.close(rt);
 }
 
+/// Expects of a call's reply that it was refused.
+fn expect_refused<R: Abort>(rt: &R, reply: Result<u64>) {
+    let is_refused = reply == Err(Error::ChannelRecv) || reply == Err(Error::ChannelSend);
+    assert!(rt; is_refused, "{reply:?}");
+}
+
 /// A caller beside a close of a new manager, for which a job without a caller waits.
 fn close_beside_call<L: Ledger + Send + Sync, T: Ledger + Send + Sync, R: Host>(
     rt: &R,
@@ -55,57 +63,49 @@ fn close_beside_call<L: Ledger + Send + Sync, T: Ledger + Send + Sync, R: Host>(
     turns: u64,
     tickets: Blank,
     taken: Blank,
-) -> Result<()>
+)
     requires tickets_name { tickets.name ≡ L.name }
     requires tickets_parts { (tickets.parts ≡ L.parts) × (tickets.parts ≡ 9223372036854775808) }
     requires taken_name { taken.name ≡ T.name }
     requires taken_parts { (taken.parts ≡ T.parts) × (taken.parts ≡ 1) }
 {
-    let progress = Arc::new(alloc, Progress::new())?;
-    let (manager, _epoll) = make::<L, T, R>(*rt, alloc, tickets, taken)?;
-    let endpoint = manager.remote_endpoint()?;
-    let (first, second) = (
-        Task::Count(progress.clone()?),
-        Task::Count(progress.clone()?),
-    );
-    endpoint.fire(first, rt)?;
+    let progress = expect_ok(rt, Arc::new(alloc, Progress::new()));
+    let (manager, _epoll) = make::<L, T, R>(*rt, alloc, tickets, taken);
+    let endpoint = expect_ok(rt, manager.remote_endpoint());
+    let (first, second) = (Task::count(rt, &progress), Task::count(rt, &progress));
+    expect_ok(rt, endpoint.fire(first, rt));
     let started = AtomicBool::new(false);
     let (reply, ()) = thread::join(
         rt,
         || call(rt, &endpoint, second, &started),
         || close(rt, manager, turns, &started),
     );
-    let is_refused = reply == Err(Error::ChannelRecv) || reply == Err(Error::ChannelSend);
-    assert!(rt; is_refused, "{reply:?}");
-    assert_eq!(rt; Arc::strong_count(&progress), 1);
-    Ok(())
+    expect_refused(rt, reply);
+    expect_same(rt, &Arc::strong_count(&progress), &1);
 }
 
 /// Closes a new manager in each round.
-fn close_all<R: Host>(rt: &R, alloc: Global, rounds: &Rounds) -> Result<()> {
+fn close_all<R: Host>(rt: &R, alloc: Global, rounds: &Rounds) {
     for round in 0..ROUNDS {
         if !rounds.has_time() {
             break;
         }
         let (tickets, taken) = (Blank::new(9223372036854775808), Blank::new(1));
-        close_beside_call::<Brand, Brand, R>(rt, alloc, round % MOST_TURNS, tickets, taken)?;
+        close_beside_call::<Brand, Brand, R>(rt, alloc, round % MOST_TURNS, tickets, taken);
         rounds.count();
     }
-    Ok(())
 }
 
 #[test]
 fn a_call_beside_a_close_is_answered(rt: HostRuntime) {
     let rounds = Rounds::new();
     let alloc = rt.alloc();
-    let (_, closed) = thread::join(
+    thread::join(
         &rt,
         || rounds.look_on(&rt),
         || {
-            let closed = close_all(&rt, alloc, &rounds);
+            close_all(&rt, alloc, &rounds);
             rounds.end();
-            closed
         },
     );
-    assert_eq!(rt; closed, Ok(()));
 }

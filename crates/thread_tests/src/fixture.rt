@@ -2,34 +2,20 @@
 
 ghost use Rattle.std.specs.Prelude.{◌≡◌};
 
+use crate::expecting::expect_ok;
 use event_manager::{
-    Error, EventManager, EventOps, EventPoller, Events, Job, MutEventSubscriber, PlainPoller,
-    Registry, RemoteEndpoint, Result,
+    EventManager, EventPoller, Job, MutEventSubscriber, PlainPoller, Registry, RemoteEndpoint,
 };
+use fixtures::making;
+use fixtures::parts::{Idle, on_table};
 use std::alloc::Global;
 use std::hint;
+use std::process::Abort;
 use std::sync::atomic::{AtomicBool, AtomicU64, Ordering};
 use std::sync::ledger::{Blank, Ledger};
 use std::sync::{Arc, Wait};
 use std::time::Clock;
 use vmm_sys::epoll::Epoll;
-use vmm_sys::eventfd::EventFd;
-
-/// Asks for nothing.
-#[derive(Drop)]
-pub struct Idle;
-
-impl MutEventSubscriber for Idle {
-    ghost use Rattle.std.specs.Prelude.{◌≡◌, []};
-
-    ghost begins = { λ v exchanges w. exchanges ≡ [] };
-
-    ghost serves = { λ v event exchanges w. exchanges ≡ [] };
-
-    fn process<P: EventPoller>(&mut self, _events: Events, _ops: &mut EventOps<P>) {}
-
-    fn init<P: EventPoller>(&mut self, _ops: &mut EventOps<P>) {}
-}
 
 /// What a sender, the jobs and who looks on share.
 #[derive(Drop)]
@@ -83,27 +69,36 @@ impl<S: MutEventSubscriber> Job<S> for Task {
     }
 }
 
+impl Task {
+    /// A job that does no more than count itself.
+    pub fn count<R: Abort>(rt: &R, progress: &Arc<Progress, Global>) -> Task {
+        Task::Count(expect_ok(rt, progress.clone()))
+    }
+}
+
 pub type Loop<L, T, R> = EventManager<Idle, Task, L, T, PlainPoller<Epoll<R>>>;
 
 pub type Sender<L, T> = RemoteEndpoint<Idle, Task, L, T>;
 
 /// A manager over a new table, and that table.
-pub fn make<L: Ledger, T: Ledger, R: Wait + Clock + Copy + Send + Drop>(
+pub fn make<L: Ledger, T: Ledger, R: Wait + Clock + Abort + Copy + Send + Drop>(
     rt: R,
     alloc: Global,
     tickets: Blank,
     taken: Blank,
-) -> Result<(Loop<L, T, R>, Epoll<R>)>
+) -> (Loop<L, T, R>, Epoll<R>)
     requires tickets_name { tickets.name ≡ L.name }
     requires tickets_parts { (tickets.parts ≡ L.parts) × (tickets.parts ≡ 9223372036854775808) }
     requires taken_name { taken.name ≡ T.name }
     requires taken_parts { (taken.parts ≡ T.parts) × (taken.parts ≡ 1) }
 {
-    let epoll = Epoll::new(rt, alloc).map_err(Error::Epoll)?;
-    let event_fd = EventFd::new(&epoll, 0, &rt).map_err(Error::EventFd)?;
-    let poller = PlainPoller(epoll.try_clone().map_err(Error::Epoll)?);
-    let manager = EventManager::new(alloc, poller, event_fd, tickets, taken)?;
-    Ok((manager, epoll))
+    let parts = expect_ok(&rt, on_table(rt, alloc, 0));
+    let epoll = expect_ok(&rt, parts.poller.0.try_clone());
+    let manager = expect_ok(
+        &rt,
+        making::make::<Idle, Task, L, T, _>(parts, tickets, taken),
+    );
+    (manager, epoll)
 }
 
 /// Spends so many turns.

@@ -2,16 +2,15 @@
 
 ghost use Rattle.std.specs.Prelude.{◌≡◌};
 
+use crate::expecting::{expect_ok, expect_same};
 use crate::fixture::{Loop, Progress, Sender, Task, make};
 use crate::host::{Host, Rounds};
-use event_manager::Result;
 use std::alloc::Global;
 use std::marker::Brand;
 use std::process::Abort;
 use std::sync::atomic::Ordering;
 use std::sync::ledger::{Blank, Ledger};
 use std::sync::{Arc, Wait};
-use std::test::Fail;
 use std::thread;
 use std::time::Clock;
 use vmm_sys::epoll::{Epoll, EpollEvent, EventSet};
@@ -29,59 +28,52 @@ const LOOKS: u32 = 100_000;
 type Shared = Arc<Progress, Global>;
 
 /// Sends a job, and goes on once it runs; while it does, sends another one, and calls for the reply of a third.
-fn call_beside_job<L: Ledger, T: Ledger, R: Wait + Clock>(
+fn call_beside_job<L: Ledger, T: Ledger, R: Wait + Clock + Abort>(
     rt: &R,
     endpoint: &Sender<L, T>,
     progress: &Shared,
     round: u64,
-) -> Result<()> {
-    let (second, third) = (
-        Task::Count(progress.clone()?),
-        Task::Count(progress.clone()?),
-    );
-    endpoint.fire(Task::Begin(progress.clone()?, round % MOST_TURNS), rt)?;
+) {
+    let (second, third) = (Task::count(rt, progress), Task::count(rt, progress));
+    let first = Task::Begin(expect_ok(rt, progress.clone()), round % MOST_TURNS);
+    expect_ok(rt, endpoint.fire(first, rt));
     for _look in 0..LOOKS {
         if progress.begun.load(Ordering::SeqCst) > round {
             break;
         }
     }
-    endpoint.fire(second, rt)?;
-    endpoint.call_blocking(third, rt)?;
-    Ok(())
+    expect_ok(rt, endpoint.fire(second, rt));
+    expect_ok(rt, endpoint.call_blocking(third, rt));
 }
 
 /// Sends a job, and another one as soon as the first is taken. Goes on once both were run.
-fn fire_behind_take<L: Ledger, T: Ledger, R: Wait + Clock>(
+fn fire_behind_take<L: Ledger, T: Ledger, R: Wait + Clock + Abort>(
     rt: &R,
     endpoint: &Sender<L, T>,
     progress: &Shared,
-) -> Result<()> {
-    let (first, second) = (
-        Task::Count(progress.clone()?),
-        Task::Count(progress.clone()?),
-    );
-    endpoint.fire(first, rt)?;
+) {
+    let (first, second) = (Task::count(rt, progress), Task::count(rt, progress));
+    expect_ok(rt, endpoint.fire(first, rt));
     for _look in 0..LOOKS {
         if endpoint.pending() == Some(0) {
             break;
         }
     }
-    endpoint.fire(second, rt)?;
+    expect_ok(rt, endpoint.fire(second, rt));
     for _look in rt.forever() {
         if Arc::strong_count(progress) == 1 {
             break;
         }
     }
-    Ok(())
 }
 
 /// Sends two or three jobs, the last while the loop is on its way round.
-fn send_round<L: Ledger, T: Ledger, R: Wait + Clock>(
+fn send_round<L: Ledger, T: Ledger, R: Wait + Clock + Abort>(
     rt: &R,
     endpoint: &Sender<L, T>,
     progress: &Shared,
     round: u64,
-) -> Result<()> {
+) {
     if round % 2 == 0 {
         call_beside_job(rt, endpoint, progress, round / 2)
     } else {
@@ -100,11 +92,11 @@ fn send_all<L: Ledger, T: Ledger, R: Wait + Clock + Abort>(
         if !rounds.has_time() {
             break;
         }
-        assert_eq!(rt; send_round(rt, endpoint, progress, round), Ok(()));
+        send_round(rt, endpoint, progress, round);
         rounds.count();
     }
     progress.all_sent.store(true, Ordering::SeqCst);
-    assert_eq!(rt; endpoint.kick(rt), Ok(()));
+    expect_same(rt, &endpoint.kick(rt), &Ok(()));
 }
 
 /// Runs without a limit until all was sent. What it then leaves to be read ends the wait beside it.
@@ -115,12 +107,12 @@ fn run_all<L: Ledger, T: Ledger, R: Wait + Clock + Clone + Send + Drop + Abort>(
     progress: &Progress,
 ) {
     for _turn in rt.forever() {
-        assert_eq!(rt; manager.run_with_timeout(-1, rt), Ok(1));
+        expect_same(rt, &manager.run_with_timeout(-1, rt), &Ok(1));
         if progress.all_sent.load(Ordering::SeqCst) {
             break;
         }
     }
-    assert_eq!(rt; endpoint.kick(rt), Ok(()));
+    expect_same(rt, &endpoint.kick(rt), &Ok(()));
 }
 
 /// Waits on the loop's table until all was sent, again as long as something is there: so the loop mostly finds somebody at
@@ -178,26 +170,25 @@ fn send_rounds<L: Ledger + Send + Sync, T: Ledger + Send + Sync, R: Host>(
     alloc: Global,
     tickets: Blank,
     taken: Blank,
-) -> std::result::Result<(), Fail>
+)
     requires tickets_name { tickets.name ≡ L.name }
     requires tickets_parts { (tickets.parts ≡ L.parts) × (tickets.parts ≡ 9223372036854775808) }
     requires taken_name { taken.name ≡ T.name }
     requires taken_parts { (taken.parts ≡ T.parts) × (taken.parts ≡ 1) }
 {
-    let (mut manager, epoll) = make::<L, T, R>(*rt, alloc, tickets, taken)?;
-    let endpoint = manager.remote_endpoint()?;
-    let progress = Arc::new(alloc, Progress::new())?;
+    let (mut manager, epoll) = make::<L, T, R>(*rt, alloc, tickets, taken);
+    let endpoint = expect_ok(rt, manager.remote_endpoint());
+    let progress = expect_ok(rt, Arc::new(alloc, Progress::new()));
     let rounds = Rounds::new();
     thread::join(
         rt,
         || rounds.look_on(rt),
         || send_beside_loop(rt, &mut manager, &endpoint, epoll, &progress, &rounds),
     );
-    Ok(())
 }
 
 #[test]
-fn no_wake_up_of_the_loop_is_lost(rt: HostRuntime) -> std::result::Result<(), Fail> {
+fn no_wake_up_of_the_loop_is_lost(rt: HostRuntime) {
     let tickets = Blank::new(9223372036854775808);
-    send_rounds::<Brand, Brand, HostRuntime>(&rt, rt.alloc(), tickets, Blank::new(1))
+    send_rounds::<Brand, Brand, HostRuntime>(&rt, rt.alloc(), tickets, Blank::new(1));
 }

@@ -1,7 +1,8 @@
 //! The poller that refuses one of its calls.
 
+use crate::expecting::{expect_ok, expect_same};
 use std::alloc::Global;
-use std::test::Fail;
+use std::process::Abort;
 use vmm_sys::epoll::{ControlOperation, EpollEvent, EventSet};
 use vmm_sys::errno::Errno;
 use vmm_sys::fault_poller::FaultPoller;
@@ -15,11 +16,17 @@ fn event() -> EpollEvent {
 }
 
 /// Over a script with a report of one event and a refusal of a Delete.
-fn refusing(at: u64, alloc: Global) -> Result<Box<dyn Poller + Send>, Fail> {
+fn refusing<R: Abort>(rt: &R, at: u64, alloc: Global) -> Box<dyn Poller + Send> {
     let mut script = ScriptPoller::new(alloc);
-    script.push_report(vec![in alloc; event()]?)?;
-    script.push_refusal(ControlOperation::Delete, 3, Errno(5))?;
-    Ok(Box::new(alloc, FaultPoller::new(script, at, FAULT))?)
+    let report = expect_ok(rt, vec![in alloc; event()]);
+    expect_ok(rt, script.push_report(report));
+    expect_ok(
+        rt,
+        script.push_refusal(ControlOperation::Delete, 3, Errno(5)),
+    );
+    let poller = FaultPoller::new(script, at, FAULT);
+    let boxed = expect_ok(rt, Box::new(alloc, poller));
+    boxed
 }
 
 fn delete(poller: &mut Box<dyn Poller + Send>) -> Result<usize, Errno> {
@@ -32,18 +39,18 @@ fn wait(poller: &mut Box<dyn Poller + Send>) -> Result<usize, Errno> {
 }
 
 /// What a Delete, a wait and a Delete again answer, then another wait.
-fn four_answers(at: u64, alloc: Global) -> Result<[Result<usize, Errno>; 4], Fail> {
-    let mut poller = refusing(at, alloc)?;
-    Ok([
+fn four_answers<R: Abort>(rt: &R, at: u64, alloc: Global) -> [Result<usize, Errno>; 4] {
+    let mut poller = refusing(rt, at, alloc);
+    [
         delete(&mut poller),
         wait(&mut poller),
         delete(&mut poller),
         wait(&mut poller),
-    ])
+    ]
 }
 
 #[test]
-fn one_call_is_refused_and_takes_nothing_from_the_script(rt: HostRuntime) -> Result<(), Fail> {
+fn one_call_is_refused_and_takes_nothing_from_the_script(rt: HostRuntime) {
     let refused = Err(Errno(5));
     let table = [
         (0, [refused, Ok(1), Ok(0), Ok(0)]),
@@ -54,16 +61,14 @@ fn one_call_is_refused_and_takes_nothing_from_the_script(rt: HostRuntime) -> Res
         (5, [refused, Ok(1), Ok(0), Ok(0)]),
     ];
     for (at, answers) in table {
-        assert_eq!(rt; four_answers(at, rt.alloc())?, answers);
+        expect_same(&rt, &four_answers(&rt, at, rt.alloc()), &answers);
     }
-    Ok(())
 }
 
 #[test]
-fn a_wait_without_room_counts(rt: HostRuntime) -> Result<(), Fail> {
-    let mut poller = refusing(2, rt.alloc())?;
-    assert_eq!(rt; poller.wait(0, &mut []), Err(Errno::EINVAL));
-    assert_eq!(rt; poller.wait(0, &mut []), Err(FAULT));
-    assert_eq!(rt; wait(&mut poller), Ok(1));
-    Ok(())
+fn a_wait_without_room_counts(rt: HostRuntime) {
+    let mut poller = refusing(&rt, 2, rt.alloc());
+    expect_same(&rt, &poller.wait(0, &mut []), &Err(Errno::EINVAL));
+    expect_same(&rt, &poller.wait(0, &mut []), &Err(FAULT));
+    expect_same(&rt, &wait(&mut poller), &Ok(1));
 }

@@ -1,5 +1,6 @@
 //! A shared table for tests of what ends a wait.
 
+use crate::expecting::expect_ok;
 use crate::host::Host;
 use std::alloc::Global;
 use vmm_sys::epoll::{AsRawFd, ControlOperation, Epoll, EpollEvent, EventSet};
@@ -33,31 +34,31 @@ pub(crate) struct Fixture<R> {
 }
 
 impl<R: Host> Fixture<R> {
-    pub(crate) fn new(rt: R, alloc: Global) -> Result<Fixture<R>, Errno> {
-        let mut epoll = Epoll::new(rt, alloc)?;
-        let empty = EventFd::new(&epoll, 0, &rt)?;
-        let full = EventFd::new(&epoll, HIGHEST, &rt)?;
-        let line = Line::new(&epoll, &rt)?;
-        let unwanted = EventFd::new(&epoll, 1, &rt)?;
-        want(&mut epoll, &empty, EventSet::IN)?;
-        want(&mut epoll, &full, EventSet::OUT)?;
-        want(&mut epoll, &line, EventSet::IN)?;
-        Ok(Fixture {
+    pub(crate) fn new(rt: R, alloc: Global) -> Fixture<R> {
+        let mut epoll = expect_ok(&rt, Epoll::new(rt, alloc));
+        let empty = expect_ok(&rt, EventFd::new(&epoll, 0, &rt));
+        let full = expect_ok(&rt, EventFd::new(&epoll, HIGHEST, &rt));
+        let line = expect_ok(&rt, Line::new(&epoll, &rt));
+        let unwanted = expect_ok(&rt, EventFd::new(&epoll, 1, &rt));
+        want(&rt, &mut epoll, &empty, EventSet::IN);
+        want(&rt, &mut epoll, &full, EventSet::OUT);
+        want(&rt, &mut epoll, &line, EventSet::IN);
+        Fixture {
             epoll,
             empty,
             full,
             line,
             unwanted,
-        })
+        }
     }
 
     /// Makes the call; the answer is the one entry that a wait then reports.
-    pub(crate) fn make(&mut self, change: Change, rt: &R) -> Result<EpollEvent, Errno> {
+    pub(crate) fn make(&mut self, change: Change, rt: &R) -> EpollEvent {
         match change {
             Change::Add(set) => {
                 let (fd, event) = (self.unwanted.as_raw_fd(), EpollEvent::new(set, 7));
-                self.epoll.ctl(ControlOperation::Add, fd, event)?;
-                Ok(event)
+                expect_ok(rt, self.epoll.ctl(ControlOperation::Add, fd, event));
+                event
             }
             Change::Modify(set) => {
                 let counter = if set == EventSet::IN {
@@ -66,28 +67,28 @@ impl<R: Host> Fixture<R> {
                     &self.empty
                 };
                 let (fd, event) = (counter.as_raw_fd(), EpollEvent::new(set, 7));
-                self.epoll.ctl(ControlOperation::Modify, fd, event)?;
-                Ok(event)
+                expect_ok(rt, self.epoll.ctl(ControlOperation::Modify, fd, event));
+                event
             }
             Change::Write => {
-                self.empty.write(1, rt)?;
-                Ok(entry(&self.empty, EventSet::IN))
+                expect_ok(rt, self.empty.write(1, rt));
+                entry(&self.empty, EventSet::IN)
             }
             Change::Read => {
-                self.full.read(rt)?;
-                Ok(entry(&self.full, EventSet::OUT))
+                expect_ok(rt, self.full.read(rt));
+                entry(&self.full, EventSet::OUT)
             }
             Change::Set(set) => {
-                self.line.set(set, rt)?;
-                Ok(entry(&self.line, set))
+                expect_ok(rt, self.line.set(set, rt));
+                entry(&self.line, set)
             }
         }
     }
 
     /// Changes the line twice, of which nothing is ready.
-    pub(crate) fn change_in_vain(&self, rt: &R) -> Result<(), Errno> {
-        self.line.set(EventSet::OUT, rt)?;
-        self.line.set(EventSet::empty(), rt)
+    pub(crate) fn change_in_vain(&self, rt: &R) {
+        expect_ok(rt, self.line.set(EventSet::OUT, rt));
+        expect_ok(rt, self.line.set(EventSet::empty(), rt));
     }
 
     /// Makes calls of each kind that may be refused, and answers what they did.
@@ -115,10 +116,14 @@ pub(crate) fn entry<D: AsRawFd>(descriptor: &D, set: EventSet) -> EpollEvent {
 
 /// Adds an interest in a descriptor.
 pub(crate) fn want<R: Host, D: AsRawFd>(
+    rt: &R,
     epoll: &mut Epoll<R>,
     descriptor: &D,
     set: EventSet,
-) -> Result<(), Errno> {
+) {
     let event = entry(descriptor, set);
-    epoll.ctl(ControlOperation::Add, descriptor.as_raw_fd(), event)
+    expect_ok(
+        rt,
+        epoll.ctl(ControlOperation::Add, descriptor.as_raw_fd(), event),
+    );
 }

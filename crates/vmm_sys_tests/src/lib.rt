@@ -5,6 +5,8 @@
 #[cfg(test)]
 mod copies;
 #[cfg(test)]
+mod expecting;
+#[cfg(test)]
 mod fault_poller;
 #[cfg(test)]
 mod fixture;

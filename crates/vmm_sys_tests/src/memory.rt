@@ -1,7 +1,7 @@
 //! Each call of a shared table that requests memory. With one request refused (`rt try --test --fail-alloc N`) the
 //! same call made again answers what a first one would have; a `ctl` requests none.
 
-use std::test::Fail;
+use crate::expecting::{expect_ok, expect_same};
 use vmm_sys::epoll::{AsRawFd, ControlOperation, Epoll, EpollEvent, EventSet};
 use vmm_sys::errno::Errno;
 use vmm_sys::eventfd::EventFd;
@@ -22,17 +22,16 @@ fn event(word: u64) -> EpollEvent {
 }
 
 #[test]
-fn requests_of_a_shared_table(rt: HostRuntime) -> Result<(), Fail> {
-    let mut epoll = with_memory!(Epoll::new(rt, rt.alloc()))?;
-    let mut other = with_memory!(epoll.try_clone())?;
-    let counter = with_memory!(EventFd::new(&epoll, 1, &rt))?;
-    assert_eq!(rt; counter.as_raw_fd(), 0);
-    let line = with_memory!(Line::new(&epoll, &rt))?;
-    assert_eq!(rt; line.as_raw_fd(), 1);
+fn requests_of_a_shared_table(rt: HostRuntime) {
+    let mut epoll = expect_ok(&rt, with_memory!(Epoll::new(rt, rt.alloc())));
+    let mut other = expect_ok(&rt, with_memory!(epoll.try_clone()));
+    let counter = expect_ok(&rt, with_memory!(EventFd::new(&epoll, 1, &rt)));
+    expect_same(&rt, &counter.as_raw_fd(), &0);
+    let line = expect_ok(&rt, with_memory!(Line::new(&epoll, &rt)));
+    expect_same(&rt, &line.as_raw_fd(), &1);
     let added = epoll.ctl(ControlOperation::Add, 0, event(4));
-    assert_eq!(rt; added, Ok(()));
+    expect_same(&rt, &added, &Ok(()));
     let mut buffer = [event(0)];
-    assert_eq!(rt; other.wait(0, &mut buffer), Ok(1));
-    assert_eq!(rt; buffer, [event(4)]);
-    Ok(())
+    expect_same(&rt, &other.wait(0, &mut buffer), &Ok(1));
+    expect_same(&rt, &buffer, &[event(4)]);
 }

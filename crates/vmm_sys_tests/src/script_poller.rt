@@ -1,6 +1,6 @@
 //! The poller that follows a script.
 
-use std::test::Fail;
+use crate::expecting::{expect_ok, expect_same};
 use vmm_sys::epoll::{ControlOperation, EpollEvent, EventSet};
 use vmm_sys::errno::Errno;
 use vmm_sys::poller::Poller;
@@ -17,12 +17,14 @@ fn event(word: u64) -> EpollEvent {
 }
 
 #[test]
-fn reports_and_faults(rt: HostRuntime) -> Result<(), Fail> {
+fn reports_and_faults(rt: HostRuntime) {
     let mut script = ScriptPoller::new(rt.alloc());
-    script.push_report(vec![in rt.alloc(); event(1), event(2), event(3)]?)?;
-    script.push_fault(Errno::EINTR)?;
-    script.push_report(Vec::new(rt.alloc()))?;
-    let mut poller: Box<dyn Poller + Send> = Box::new(rt.alloc(), script)?;
+    let report = expect_ok(&rt, vec![in rt.alloc(); event(1), event(2), event(3)]);
+    expect_ok(&rt, script.push_report(report));
+    expect_ok(&rt, script.push_fault(Errno::EINTR));
+    expect_ok(&rt, script.push_report(Vec::new(rt.alloc())));
+    let boxed = expect_ok(&rt, Box::new(rt.alloc(), script));
+    let mut poller: Box<dyn Poller + Send> = boxed;
     let table = [
         (Ok(2), [event(1), event(2)]),
         (Ok(1), [event(3), event(0)]),
@@ -32,20 +34,20 @@ fn reports_and_faults(rt: HostRuntime) -> Result<(), Fail> {
     ];
     for (answer, entries) in table {
         let mut buffer = [event(0); 2];
-        assert_eq!(rt; poller.wait(-1, &mut []), Err(Errno::EINVAL));
-        assert_eq!(rt; poller.wait(-1, &mut buffer), answer);
-        assert_eq!(rt; buffer, entries);
+        expect_same(&rt, &poller.wait(-1, &mut []), &Err(Errno::EINVAL));
+        expect_same(&rt, &poller.wait(-1, &mut buffer), &answer);
+        expect_same(&rt, &buffer, &entries);
     }
-    Ok(())
 }
 
 #[test]
-fn refusals_in_the_order_of_pushing(rt: HostRuntime) -> Result<(), Fail> {
+fn refusals_in_the_order_of_pushing(rt: HostRuntime) {
     let mut script = ScriptPoller::new(rt.alloc());
-    script.push_refusal(ADD, 3, Errno(22))?;
-    script.push_refusal(DELETE, 3, Errno(5))?;
-    script.push_refusal(ADD, 3, Errno(23))?;
-    let mut poller: Box<dyn Poller + Send> = Box::new(rt.alloc(), script)?;
+    expect_ok(&rt, script.push_refusal(ADD, 3, Errno(22)));
+    expect_ok(&rt, script.push_refusal(DELETE, 3, Errno(5)));
+    expect_ok(&rt, script.push_refusal(ADD, 3, Errno(23)));
+    let boxed = expect_ok(&rt, Box::new(rt.alloc(), script));
+    let mut poller: Box<dyn Poller + Send> = boxed;
     let table = [
         (MODIFY, 3, Ok(())),
         (ADD, 4, Ok(())),
@@ -56,7 +58,6 @@ fn refusals_in_the_order_of_pushing(rt: HostRuntime) -> Result<(), Fail> {
         (DELETE, 3, Ok(())),
     ];
     for (op, fd, answer) in table {
-        assert_eq!(rt; poller.ctl(op, fd, event(0)), answer);
+        expect_same(&rt, &poller.ctl(op, fd, event(0)), &answer);
     }
-    Ok(())
 }

@@ -1,7 +1,7 @@
 //! Each call is one step of the shared table, whatever the other threads do.
 
+use crate::expecting::{expect_ok, expect_same};
 use crate::host::Host;
-use std::test::Fail;
 use std::thread;
 use vmm_sys::epoll::Epoll;
 use vmm_sys::eventfd::EventFd;
@@ -9,10 +9,10 @@ use vmm_sys::eventfd::EventFd;
 const ROUNDS: u64 = 20_000;
 
 #[test]
-fn what_is_written_is_read_or_left(rt: HostRuntime) -> Result<(), Fail> {
-    let epoll = Epoll::new(rt, rt.alloc())?;
-    let counter = EventFd::new(&epoll, 0, &rt)?;
-    let read = thread::map_indices(
+fn what_is_written_is_read_or_left(rt: HostRuntime) {
+    let epoll = expect_ok(&rt, Epoll::new(rt, rt.alloc()));
+    let counter = expect_ok(&rt, EventFd::new(&epoll, 0, &rt));
+    let sums = thread::map_indices(
         &rt,
         rt.alloc(),
         4,
@@ -23,17 +23,17 @@ fn what_is_written_is_read_or_left(rt: HostRuntime) -> Result<(), Fail> {
                 read_often(&rt, &counter)
             }
         },
-    )?;
+    );
+    let read = expect_ok(&rt, sums);
     let taken = read.iter().fold(0u64, |sum, part| sum.wrapping_add(*part));
     let left = counter.read(&rt).unwrap_or(0);
-    assert_eq!(rt; taken.wrapping_add(left), 2 * ROUNDS);
-    Ok(())
+    expect_same(&rt, &taken.wrapping_add(left), &(2 * ROUNDS));
 }
 
 // Writes 1 many times, and reads nothing.
 fn write_often<R: Host>(rt: &R, counter: &EventFd) -> u64 {
     for _ in 0..ROUNDS {
-        assert_eq!(rt; counter.write(1, rt), Ok(()));
+        expect_same(rt, &counter.write(1, rt), &Ok(()));
     }
     0
 }

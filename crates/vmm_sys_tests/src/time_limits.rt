@@ -1,69 +1,64 @@
 //! What a wait's limit means.
 
+use crate::expecting::expect_same;
 use crate::fixture::{Change, Fixture};
 use crate::host::pause;
 use crate::waiter::{Waiter, no_event};
-use std::test::Fail;
 use std::time::Duration;
 
 #[test]
-fn a_timed_wait_ends_by_the_clock(rt: HostRuntime) -> Result<(), Fail> {
-    let fixture = Fixture::new(rt, rt.alloc())?;
+fn a_timed_wait_ends_by_the_clock(rt: HostRuntime) {
+    let fixture = Fixture::new(rt, rt.alloc());
     for ms in [1, 100] {
-        let report = Waiter::start(rt, rt.alloc(), &fixture.epoll, ms)?.report(&rt);
-        assert_eq!(rt; report.answer, Ok(0));
+        let report = Waiter::start(rt, rt.alloc(), &fixture.epoll, ms).report(&rt);
+        expect_same(&rt, &report.answer, &Ok(0));
         assert!(rt; report.took >= Duration::from_millis(ms as u64));
     }
-    Ok(())
 }
 
 #[test]
-fn a_wait_with_limit_0_does_not_sleep(rt: HostRuntime) -> Result<(), Fail> {
-    let fixture = Fixture::new(rt, rt.alloc())?;
-    let report = Waiter::start(rt, rt.alloc(), &fixture.epoll, 0)?.report(&rt);
-    assert_eq!(rt; report.answer, Ok(0));
-    Ok(())
+fn a_wait_with_limit_0_does_not_sleep(rt: HostRuntime) {
+    let fixture = Fixture::new(rt, rt.alloc());
+    let report = Waiter::start(rt, rt.alloc(), &fixture.epoll, 0).report(&rt);
+    expect_same(&rt, &report.answer, &Ok(0));
 }
 
 #[test]
-fn a_wait_does_not_sleep_where_something_is_ready(rt: HostRuntime) -> Result<(), Fail> {
-    let mut fixture = Fixture::new(rt, rt.alloc())?;
-    let event = fixture.make(Change::Write, &rt)?;
+fn a_wait_does_not_sleep_where_something_is_ready(rt: HostRuntime) {
+    let mut fixture = Fixture::new(rt, rt.alloc());
+    let event = fixture.make(Change::Write, &rt);
     for ms in [-1, 0, 60_000] {
-        let report = Waiter::start(rt, rt.alloc(), &fixture.epoll, ms)?.report(&rt);
-        assert_eq!(rt; report.answer, Ok(1));
-        assert_eq!(rt; report.buffer, [event, no_event()]);
+        let report = Waiter::start(rt, rt.alloc(), &fixture.epoll, ms).report(&rt);
+        expect_same(&rt, &report.answer, &Ok(1));
+        expect_same(&rt, &report.buffer, &[event, no_event()]);
     }
-    Ok(())
 }
 
 #[test]
-fn changes_do_not_put_a_limit_off(rt: HostRuntime) -> Result<(), Fail> {
-    let fixture = Fixture::new(rt, rt.alloc())?;
-    let waiter = Waiter::start(rt, rt.alloc(), &fixture.epoll, 200)?;
+fn changes_do_not_put_a_limit_off(rt: HostRuntime) {
+    let fixture = Fixture::new(rt, rt.alloc());
+    let waiter = Waiter::start(rt, rt.alloc(), &fixture.epoll, 200);
     // Five seconds, in which the changes never stop for as long as the limit.
     for _ in 0..1000 {
         if waiter.is_over() {
             break;
         }
-        fixture.change_in_vain(&rt)?;
+        fixture.change_in_vain(&rt);
         pause(&rt, 5);
     }
     assert!(rt; waiter.is_over());
-    assert_eq!(rt; waiter.report(&rt).answer, Ok(0));
-    Ok(())
+    expect_same(&rt, &waiter.report(&rt).answer, &Ok(0));
 }
 
 #[test]
-fn limits_of_hours_are_not_cut(rt: HostRuntime) -> Result<(), Fail> {
-    let mut fixture = Fixture::new(rt, rt.alloc())?;
-    let hour = Waiter::start(rt, rt.alloc(), &fixture.epoll, 3_600_000)?;
-    let longest = Waiter::start(rt, rt.alloc(), &fixture.epoll, i32::MAX)?;
+fn limits_of_hours_are_not_cut(rt: HostRuntime) {
+    let mut fixture = Fixture::new(rt, rt.alloc());
+    let hour = Waiter::start(rt, rt.alloc(), &fixture.epoll, 3_600_000);
+    let longest = Waiter::start(rt, rt.alloc(), &fixture.epoll, i32::MAX);
     pause(&rt, 300);
     assert!(rt; !hour.is_over());
     assert!(rt; !longest.is_over());
-    fixture.make(Change::Write, &rt)?;
-    assert_eq!(rt; hour.report(&rt).answer, Ok(1));
-    assert_eq!(rt; longest.report(&rt).answer, Ok(1));
-    Ok(())
+    fixture.make(Change::Write, &rt);
+    expect_same(&rt, &hour.report(&rt).answer, &Ok(1));
+    expect_same(&rt, &longest.report(&rt).answer, &Ok(1));
 }

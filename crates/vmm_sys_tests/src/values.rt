@@ -1,6 +1,6 @@
 //! Event sets and error numbers.
 
-use std::test::Fail;
+use crate::expecting::{expect_ok, expect_same};
 use vmm_sys::epoll::EventSet;
 use vmm_sys::errno::Errno;
 
@@ -24,12 +24,12 @@ fn sets_by_their_operators(rt: HostRuntime) {
         (!others, 0xF000_2016),
     ];
     for (set, bits) in table {
-        assert_eq!(rt; set.bits(), bits);
+        expect_same(&rt, &set.bits(), &bits);
     }
 }
 
 #[test]
-fn numbers_and_texts(rt: HostRuntime) -> Result<(), Fail> {
+fn numbers_and_texts(rt: HostRuntime) {
     let table = [
         (Errno::ENOENT, 2, "os error 2"),
         (Errno::EINTR, 4, "os error 4"),
@@ -42,9 +42,8 @@ fn numbers_and_texts(rt: HostRuntime) -> Result<(), Fail> {
         (Errno(-5), -5, "os error -5"),
     ];
     for (errno, number, text) in table {
-        assert_eq!(rt; errno.0, number);
-        let printed = format!(in rt.alloc(); "{errno}")?;
-        assert_eq!(rt; printed.as_str(), text);
+        expect_same(&rt, &errno.0, &number);
+        let printed = expect_ok(&rt, format!(in rt.alloc(); "{errno}"));
+        expect_same(&rt, &printed.as_str(), &text);
     }
-    Ok(())
 }

@@ -1,10 +1,10 @@
 //! A thread that waits on a table, looked at from outside with a bound.
 
+use crate::expecting::expect_ok;
 use crate::host::{Host, pause};
 use std::alloc::Global;
 use std::sync::Arc;
 use std::sync::atomic::{AtomicBool, Ordering};
-use std::test::Fail;
 use std::thread;
 use std::thread::JoinHandle;
 use std::time::{Duration, Instant};
@@ -31,12 +31,7 @@ pub(crate) struct Waiter {
 }
 
 impl Waiter {
-    pub(crate) fn start<R: Host>(
-        rt: R,
-        alloc: Global,
-        epoll: &Epoll<R>,
-        ms: i32,
-    ) -> Result<Waiter, Fail> {
+    pub(crate) fn start<R: Host>(rt: R, alloc: Global, epoll: &Epoll<R>, ms: i32) -> Waiter {
         Waiter::start_with_room(rt, alloc, epoll, ms, 2)
     }
 
@@ -47,16 +42,17 @@ impl Waiter {
         epoll: &Epoll<R>,
         ms: i32,
         room: usize,
-    ) -> Result<Waiter, Fail> {
-        let epoll = epoll.try_clone()?;
-        let over = Arc::new(alloc, AtomicBool::new(false))?;
-        let theirs = Arc::try_clone(&over)?;
-        let thread = thread::spawn(&rt, move || {
+    ) -> Waiter {
+        let epoll = expect_ok(&rt, epoll.try_clone());
+        let over = expect_ok(&rt, Arc::new(alloc, AtomicBool::new(false)));
+        let theirs = expect_ok(&rt, Arc::try_clone(&over));
+        let started = thread::spawn(&rt, move || {
             let report = wait_once(&rt, epoll, ms, room);
             theirs.store(true, Ordering::SeqCst);
             report
-        })?;
-        Ok(Waiter { over, thread })
+        });
+        let thread = expect_ok(&rt, started);
+        Waiter { over, thread }
     }
 
     pub(crate) fn is_over(&self) -> bool {

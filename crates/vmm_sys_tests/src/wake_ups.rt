@@ -1,12 +1,12 @@
 //! What ends a wait on another thread.
 
+use crate::expecting::{expect_ok, expect_same};
 use crate::fixture::{Change, Fixture, want};
 use crate::host::{Host, pause};
 use crate::waiter::{Waiter, no_event};
 use std::alloc::Global;
 use std::sync::Arc;
 use std::sync::atomic::{AtomicU64, Ordering};
-use std::test::Fail;
 use std::thread;
 use std::time::Duration;
 use vmm_sys::epoll::{Epoll, EventSet};
@@ -23,85 +23,85 @@ const LONG: i32 = 60_000;
 const ROUNDS: u64 = 10_000;
 
 #[test]
-fn an_add_ends_waits(rt: HostRuntime) -> Result<(), Fail> {
-    expect_to_end_waits(rt, rt.alloc(), Change::Add(EventSet::IN))?;
-    expect_to_end_waits(rt, rt.alloc(), Change::Add(EventSet::OUT))
+fn an_add_ends_waits(rt: HostRuntime) {
+    expect_to_end_waits(rt, rt.alloc(), Change::Add(EventSet::IN));
+    expect_to_end_waits(rt, rt.alloc(), Change::Add(EventSet::OUT));
 }
 
 #[test]
-fn a_modify_ends_waits(rt: HostRuntime) -> Result<(), Fail> {
-    expect_to_end_waits(rt, rt.alloc(), Change::Modify(EventSet::IN))?;
-    expect_to_end_waits(rt, rt.alloc(), Change::Modify(EventSet::OUT))
+fn a_modify_ends_waits(rt: HostRuntime) {
+    expect_to_end_waits(rt, rt.alloc(), Change::Modify(EventSet::IN));
+    expect_to_end_waits(rt, rt.alloc(), Change::Modify(EventSet::OUT));
 }
 
 #[test]
-fn a_write_ends_waits(rt: HostRuntime) -> Result<(), Fail> {
-    expect_to_end_waits(rt, rt.alloc(), Change::Write)
+fn a_write_ends_waits(rt: HostRuntime) {
+    expect_to_end_waits(rt, rt.alloc(), Change::Write);
 }
 
 #[test]
-fn a_read_ends_waits(rt: HostRuntime) -> Result<(), Fail> {
-    expect_to_end_waits(rt, rt.alloc(), Change::Read)
+fn a_read_ends_waits(rt: HostRuntime) {
+    expect_to_end_waits(rt, rt.alloc(), Change::Read);
 }
 
 #[test]
-fn a_set_ends_waits(rt: HostRuntime) -> Result<(), Fail> {
-    expect_to_end_waits(rt, rt.alloc(), Change::Set(EventSet::IN))?;
-    expect_to_end_waits(rt, rt.alloc(), Change::Set(EventSet::HANG_UP))
+fn a_set_ends_waits(rt: HostRuntime) {
+    expect_to_end_waits(rt, rt.alloc(), Change::Set(EventSet::IN));
+    expect_to_end_waits(rt, rt.alloc(), Change::Set(EventSet::HANG_UP));
 }
 
 // The change ends three waits, without a limit and with a long one, which answer what is ready.
-fn expect_to_end_waits<R: Host>(rt: R, alloc: Global, change: Change) -> Result<(), Fail> {
-    let mut fixture = Fixture::new(rt, alloc)?;
+fn expect_to_end_waits<R: Host>(rt: R, alloc: Global, change: Change) {
+    let mut fixture = Fixture::new(rt, alloc);
     let mut waiters = Vec::new(alloc);
     for ms in [-1, LONG, -1] {
-        waiters.push(Waiter::start(rt, alloc, &fixture.epoll, ms)?)?;
+        let waiter = Waiter::start(rt, alloc, &fixture.epoll, ms);
+        expect_ok(&rt, waiters.push(waiter));
     }
     pause(&rt, TO_SLEEP);
     assert!(rt; !waiters.iter().any(|waiter| waiter.is_over()));
-    let event = fixture.make(change, &rt)?;
+    let event = fixture.make(change, &rt);
     for waiter in waiters {
         let report = waiter.report(&rt);
-        assert_eq!(rt; report.answer, Ok(1));
-        assert_eq!(rt; report.buffer, [event, no_event()]);
+        expect_same(&rt, &report.answer, &Ok(1));
+        expect_same(&rt, &report.buffer, &[event, no_event()]);
     }
-    Ok(())
 }
 
 #[test]
-fn refused_calls_end_no_wait(rt: HostRuntime) -> Result<(), Fail> {
-    let mut fixture = Fixture::new(rt, rt.alloc())?;
-    let waiter = Waiter::start(rt, rt.alloc(), &fixture.epoll, 400)?;
+fn refused_calls_end_no_wait(rt: HostRuntime) {
+    let mut fixture = Fixture::new(rt, rt.alloc());
+    let waiter = Waiter::start(rt, rt.alloc(), &fixture.epoll, 400);
     for _ in 0..15 {
         pause(&rt, 20);
         let refusals = fixture.make_refused(&rt);
-        assert_eq!(rt;
-            refusals,
-            [
+        expect_same(
+            &rt,
+            &refusals,
+            &[
                 Some(Errno::EINVAL),
                 Some(Errno::EAGAIN),
                 Some(Errno::EAGAIN),
                 Some(Errno::EEXIST),
                 Some(Errno::ENOENT),
                 Some(Errno::EBADF),
-                Some(Errno::EINVAL)
-            ]
+                Some(Errno::EINVAL),
+            ],
         );
     }
     let report = waiter.report(&rt);
-    assert_eq!(rt; report.answer, Ok(0));
+    expect_same(&rt, &report.answer, &Ok(0));
     assert!(rt; report.took >= Duration::from_millis(400));
-    Ok(())
 }
 
 #[test]
-fn no_write_is_missed_by_a_wait_without_limit(rt: HostRuntime) -> Result<(), Fail> {
-    expect_no_write_to_be_missed(rt, rt.alloc(), -1)
+fn no_write_is_missed_by_a_wait_without_limit(rt: HostRuntime) {
+    expect_no_write_to_be_missed(rt, rt.alloc(), -1);
 }
 
 #[test]
-fn no_write_is_missed_by_a_wait_with_a_limit(rt: HostRuntime) -> Result<(), Fail> {
-    expect_no_write_to_be_missed(rt, rt.alloc(), LONG)
+fn no_write_is_missed_by_a_wait_with_a_limit(rt: HostRuntime) {
+    expect_no_write_to_be_missed(rt, rt.alloc(), LONG);
 }
 
 // A counter, and how often it was read.
@@ -112,20 +112,22 @@ struct Mailbox {
 }
 
 // Each write comes as soon as the one before was read, so just as the reader goes to sleep.
-fn expect_no_write_to_be_missed<R: Host>(rt: R, alloc: Global, ms: i32) -> Result<(), Fail> {
-    let mut epoll = Epoll::new(rt, alloc)?;
-    let counter = EventFd::new(&epoll, 0, &rt)?;
-    want(&mut epoll, &counter, EventSet::IN)?;
+fn expect_no_write_to_be_missed<R: Host>(rt: R, alloc: Global, ms: i32) {
+    let mut epoll = expect_ok(&rt, Epoll::new(rt, alloc));
+    let counter = expect_ok(&rt, EventFd::new(&epoll, 0, &rt));
+    want(&rt, &mut epoll, &counter, EventSet::IN);
     let reads = AtomicU64::new(0);
-    let ours = Arc::new(alloc, Mailbox { counter, reads })?;
-    let theirs = Arc::try_clone(&ours)?;
-    let reader = thread::spawn(&rt, move || read_each(&rt, epoll, ms, &theirs))?;
+    let ours = expect_ok(&rt, Arc::new(alloc, Mailbox { counter, reads }));
+    let theirs = expect_ok(&rt, Arc::try_clone(&ours));
+    let reader = expect_ok(
+        &rt,
+        thread::spawn(&rt, move || read_each(&rt, epoll, ms, &theirs)),
+    );
     for round in 0..ROUNDS {
-        ours.counter.write(1, &rt)?;
+        expect_ok(&rt, ours.counter.write(1, &rt));
         expect_more_than(&rt, &ours.reads, round);
     }
-    assert_eq!(rt; reader.join(&rt), ROUNDS);
-    Ok(())
+    expect_same(&rt, &reader.join(&rt), &ROUNDS);
 }
 
 // Waits and reads so many times; answers the sum of what was read.
@@ -133,7 +135,7 @@ fn read_each<R: Host>(rt: &R, epoll: Epoll<R>, ms: i32, mailbox: &Mailbox) -> u6
     let mut epoll = epoll;
     let mut sum = 0u64;
     for round in 0..ROUNDS {
-        assert_eq!(rt; wait_for_one(&mut epoll, ms), Ok(1));
+        expect_same(rt, &wait_for_one(&mut epoll, ms), &Ok(1));
         sum = sum.wrapping_add(mailbox.counter.read(rt).unwrap_or(0));
         mailbox.reads.store(round + 1, Ordering::SeqCst);
     }

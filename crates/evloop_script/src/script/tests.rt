@@ -1,10 +1,10 @@
 //! The grammar as a whole: which scripts are taken, what they say, and which line is named where one is not.
 
 use super::*;
+use crate::expecting::{expect_ok, expect_same, expect_same_for};
 use event_loop::Events;
 use std::fmt::Write;
 use std::process::Abort;
-use std::test::Fail;
 
 const EVERY_LINE: &str = "# a comment\n\
     sub a add 3 IN 0 add 4 IN+OUT 7\n\
@@ -38,64 +38,64 @@ const ITS_LISTS: &str = "join a add 3 1 0 add 4 5 7\n\
     Modify 2147483647 4095\n";
 
 #[test]
-fn a_script_is_sorted_into_its_lists(rt: HostRuntime) -> Result<(), Fail> {
-    let script = parse(rt.alloc(), EVERY_LINE)?;
-    assert_eq!(rt; lists_of(rt.alloc(), &script)?.as_str(), ITS_LISTS);
-    Ok(())
+fn a_script_is_sorted_into_its_lists(rt: HostRuntime) {
+    let script = expect_ok(&rt, parse(rt.alloc(), EVERY_LINE));
+    let lists = lists_of(&rt, &script);
+    expect_same(&rt, &lists.as_str(), &ITS_LISTS);
 }
 
-fn lists_of(alloc: Global, script: &Script) -> Result<String, Fail> {
-    let mut text = String::new(alloc);
+fn lists_of<R: Abort + AllocGlobal>(rt: &R, script: &Script) -> String {
+    let mut text = String::new(rt.alloc());
     for call in &script.calls {
-        push_call(&mut text, call)?;
+        push_call(rt, &mut text, call);
     }
     for wait in &script.waits {
-        push_wait(&mut text, wait)?;
+        push_wait(rt, &mut text, wait);
     }
     for refusal in &script.refusals {
         let Errno(errno) = refusal.errno;
         let fd = refusal.fd;
-        writeln!(text, "{:?} {fd} {errno}", refusal.operation)?;
+        expect_ok(rt, writeln!(text, "{:?} {fd} {errno}", refusal.operation));
     }
-    Ok(text)
+    text
 }
 
-fn push_call(text: &mut String, call: &Call) -> Result<(), Fail> {
+fn push_call<R: Abort>(rt: &R, text: &mut String, call: &Call) {
     match call {
         Call::Join { name, requests } => {
-            write!(text, "join {name}")?;
-            push_requests(text, requests)?;
+            expect_ok(rt, write!(text, "join {name}"));
+            push_requests(rt, text, requests);
         }
         Call::Ask {
             name,
             join,
             requests,
         } => {
-            write!(text, "ask {name} {join}")?;
-            push_requests(text, requests)?;
+            expect_ok(rt, write!(text, "ask {name} {join}"));
+            push_requests(rt, text, requests);
         }
-        Call::Leave { name, join } => write!(text, "leave {name} {join}")?,
-        Call::Run => text.push_str("run")?,
+        Call::Leave { name, join } => expect_ok(rt, write!(text, "leave {name} {join}")),
+        Call::Run => expect_ok(rt, text.push_str("run")),
     }
-    Ok(text.push('\n')?)
+    expect_ok(rt, text.push('\n'));
 }
 
-fn push_wait(text: &mut String, wait: &Wait) -> Result<(), Fail> {
+fn push_wait<R: Abort>(rt: &R, text: &mut String, wait: &Wait) {
     match wait {
         Wait::Report(events) => {
-            text.push_str("report")?;
+            expect_ok(rt, text.push_str("report"));
             for event in events {
                 let bits = event.events();
                 let word = event.data();
-                write!(text, " {bits}:{word}")?;
+                expect_ok(rt, write!(text, " {bits}:{word}"));
             }
         }
-        Wait::Interrupted => text.push_str("interrupted")?,
+        Wait::Interrupted => expect_ok(rt, text.push_str("interrupted")),
     }
-    Ok(text.push('\n')?)
+    expect_ok(rt, text.push('\n'));
 }
 
-fn push_requests(text: &mut String, requests: &[Request]) -> Result<(), Fail> {
+fn push_requests<R: Abort>(rt: &R, text: &mut String, requests: &[Request]) {
     for request in requests {
         let (operation, events) = match request {
             Request::Add(events) => ("add", events),
@@ -106,13 +106,12 @@ fn push_requests(text: &mut String, requests: &[Request]) -> Result<(), Fail> {
         let fd = events.fd();
         let bits = events.event_set().bits();
         let data = events.data();
-        write!(text, " {operation} {fd} {bits} {data}")?;
+        expect_ok(rt, write!(text, " {operation} {fd} {bits} {data}"));
     }
-    Ok(())
 }
 
 #[test]
-fn words_of_reported_events(rt: HostRuntime) -> Result<(), Fail> {
+fn words_of_reported_events(rt: HostRuntime) {
     let table = [
         ("batch 5:IN:42", "report 1:180388626437\n"),
         ("batch 5:OUT:43", "report 4:184683593733\n"),
@@ -126,10 +125,10 @@ fn words_of_reported_events(rt: HostRuntime) -> Result<(), Fail> {
         ("batch 0005:IN:0042", "report 1:180388626437\n"),
     ];
     for (text, want) in table {
-        let script = parse(rt.alloc(), text)?;
-        assert_eq!(rt; lists_of(rt.alloc(), &script)?.as_str(), want);
+        let script = expect_ok(&rt, parse(rt.alloc(), text));
+        let lists = lists_of(&rt, &script);
+        expect_same(&rt, &lists.as_str(), &want);
     }
-    Ok(())
 }
 
 #[test]
@@ -165,7 +164,7 @@ fn scripts_that_are_taken(rt: HostRuntime) {
         "refuse add 0 1\nrefuse modify 2147483647 4095\nrefuse delete 0007 0022\n",
     ];
     for text in texts {
-        assert_eq!(rt; parse(rt.alloc(), text).err(), None, "{text:?}");
+        expect_same_for(&rt, &parse(rt.alloc(), text).err(), &None, &text);
     }
 }
 
@@ -308,7 +307,7 @@ fn bad_refusals(rt: HostRuntime) {
 // Each is bad as the fourth line, behind a comment, an empty line and a join of `a`.
 fn are_bad<R: Abort + AllocGlobal>(rt: &R, lines: &[&str]) {
     for line in lines {
-        assert_eq!(rt; refused(rt, line), Some(Fault::BadScript(4)), "{line:?}");
+        expect_same_for(rt, &refused(rt, line), &Some(Fault::BadScript(4)), line);
     }
 }
 
@@ -345,19 +344,16 @@ fn the_first_bad_line_is_named(rt: HostRuntime) {
         ),
     ];
     for (text, line) in table {
-        assert_eq!(rt;
-            parse(rt.alloc(), text).err(),
-            Some(Fault::BadScript(line)),
-            "{text:?}"
-        );
+        let fault = parse(rt.alloc(), text).err();
+        expect_same_for(&rt, &fault, &Some(Fault::BadScript(line)), &text);
     }
 }
 
 #[test]
-fn reactions_stand_by_name_and_descriptor(rt: HostRuntime) -> Result<(), Fail> {
+fn reactions_stand_by_name_and_descriptor(rt: HostRuntime) {
     let text =
         "on a 3 remove 4\nsub a\non b 3 remove 5\nsub b\non a 4 remove 6\non a 3 remove 7 remove 8\n";
-    let mut script = parse(rt.alloc(), text)?;
+    let mut script = expect_ok(&rt, parse(rt.alloc(), text));
     let table = [
         (0, 3, " remove 4 0 0"),
         (0, 4, " remove 6 0 0"),
@@ -368,18 +364,22 @@ fn reactions_stand_by_name_and_descriptor(rt: HostRuntime) -> Result<(), Fail> {
         (1, 3, " remove 5 0 0"),
     ];
     for (join, fd, want) in table {
-        let next = next_reaction(rt.alloc(), &mut script, join, fd)?;
-        assert_eq!(rt; next.as_str(), want);
+        let next = next_reaction(&rt, &mut script, join, fd);
+        expect_same(&rt, &next.as_str(), &want);
     }
-    Ok(())
 }
 
 // The requests of the next event of the descriptor.
-fn next_reaction(alloc: Global, script: &mut Script, join: usize, fd: u8) -> Result<String, Fail> {
-    let mut text = String::new(alloc);
-    let reactions = script.reactions.get_mut(join).ok_or("no such join")?;
+fn next_reaction<R: Abort + AllocGlobal>(
+    rt: &R,
+    script: &mut Script,
+    join: usize,
+    fd: u8,
+) -> String {
+    let mut text = String::new(rt.alloc());
+    let reactions = expect_ok(rt, script.reactions.get_mut(join).ok_or("no such join"));
     if let Some(requests) = reactions.next(Events::empty_raw(RawFd::from(fd))) {
-        push_requests(&mut text, &requests)?;
+        push_requests(rt, &mut text, &requests);
     }
-    Ok(text)
+    text
 }
