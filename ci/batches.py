@@ -14,7 +14,7 @@ import tries
 from command import ROOT
 
 # How many wrong bodies are tried in one run.
-MOST = 12
+MOST = 16
 BATCH = "batch"
 AS_IT_IS = "as_it_is"
 # As `rt fmt` lays it out. A module of a library has none.

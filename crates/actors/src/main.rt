@@ -7,13 +7,12 @@ pub mod mailbox;
 pub mod system;
 
 use event_manager::{
-    BoxedSubscriber, Error, EventManager, MutEventSubscriber, PlainPoller, Result, StepSubscriber,
-    WithLedgers, with_ledgers,
+    BoxedSubscriber, Error, EventManager, Ledgers, MutEventSubscriber, Naming, PlainPoller, Result,
+    StepSubscriber, WithLedgers, with_ledgers,
 };
 use kinds::{Greeter, Tally};
 use mailbox::{Deliver, Mailbox};
 use std::sync::Wait;
-use std::sync::ledger::{Blank, Ledger};
 use std::time::Clock;
 use system::ActorSystem;
 use vmm_sys::epoll::Epoll;
@@ -40,11 +39,7 @@ where
     type Output = Result<()>;
 
     /// Sends the rounds, with a run after each, and prints how many events that run had.
-    fn run<L: Ledger + Send + Sync, T: Ledger + Send + Sync>(
-        self,
-        tickets: Blank,
-        taken: Blank,
-    ) -> Result<()> {
+    fn run<N: Naming + Send + Sync>(self, ledgers: Ledgers<N>) -> Result<()> {
         let Program {
             rt,
             epoll,
@@ -53,13 +48,7 @@ where
             greeter,
         } = self;
         let poller = PlainPoller(epoll);
-        let manager = EventManager::<S, Deliver, L, T, _>::new(
-            rt.alloc(),
-            poller,
-            endpoint,
-            tickets,
-            taken,
-        )?;
+        let manager = EventManager::<S, Deliver, N, _>::new(rt.alloc(), poller, endpoint, ledgers)?;
         let mut system = ActorSystem::new(manager)?;
         for actor in actors {
             system.spawn(actor)?;

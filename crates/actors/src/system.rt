@@ -2,11 +2,10 @@
 
 use crate::mailbox::{Deliver, Mailbox};
 use event_manager::{
-    EventManager, EventPoller, MutEventSubscriber, RemoteEndpoint, Result, SubscriberId,
+    EventManager, EventPoller, MutEventSubscriber, Naming, RemoteEndpoint, Result, SubscriberId,
     SubscriberOps, Ticket,
 };
 use std::sync::Wait;
-use std::sync::ledger::Ledger;
 use std::time::Clock;
 
 /// How many waits one run makes at most.
@@ -16,15 +15,15 @@ const MOST_WAITS: usize = 100;
 ///
 /// It is generic over the actors' type, since a struct that names `BoxedSubscriber` there can't be stated.
 #[derive(Drop)]
-pub struct ActorSystem<S: MutEventSubscriber, L: Ledger, T: Ledger, P> {
-    manager: EventManager<S, Deliver, L, T, P>,
-    endpoint: RemoteEndpoint<S, Deliver, L, T>,
-    last: Option<Ticket<L>>,
+pub struct ActorSystem<S: MutEventSubscriber, N: Naming, P> {
+    manager: EventManager<S, Deliver, N, P>,
+    endpoint: RemoteEndpoint<S, Deliver, N>,
+    last: Option<Ticket<N>>,
 }
 
-impl<S: MutEventSubscriber + Drop, L: Ledger, T: Ledger, P: EventPoller> ActorSystem<S, L, T, P> {
+impl<S: MutEventSubscriber + Drop, N: Naming, P: EventPoller> ActorSystem<S, N, P> {
     /// No actor, on this manager. `OutOfMemory`.
-    pub fn new(manager: EventManager<S, Deliver, L, T, P>) -> Result<Self>
+    pub fn new(manager: EventManager<S, Deliver, N, P>) -> Result<Self>
     where
         P: Drop,
     {

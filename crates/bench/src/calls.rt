@@ -12,11 +12,13 @@ use crate::jobs::CountOne;
 use crate::progress::Progress;
 use crate::subscribers::{Counter, FIRST};
 use crate::timing::{REPEATS, Times};
-use event_manager::{EventManager, PlainPoller, RemoteEndpoint, SubscriberId, SubscriberOps};
+use event_manager::{
+    EventManager, Ledgers, Naming, PlainPoller, RemoteEndpoint, SubscriberId, SubscriberOps,
+};
 use std::alloc::Global;
 use std::marker::Brand;
 use std::sync::atomic::{AtomicBool, Ordering};
-use std::sync::ledger::{Blank, Ledger};
+use std::sync::ledger::Blank;
 use std::sync::{Arc, Wait};
 use std::thread;
 use std::time::Clock;
@@ -24,7 +26,7 @@ use vmm_sys::epoll::Epoll;
 use vmm_sys::eventfd::EventFd;
 
 /// A loop with one counter, over the in-process table.
-type Loop<L, T, R> = EventManager<Counter, CountOne, L, T, PlainPoller<Epoll<R>>>;
+type Loop<N, R> = EventManager<Counter, CountOne, N, PlainPoller<Epoll<R>>>;
 
 /// How many parts the ledger of a manager's tickets has.
 const TICKET_PARTS: u64 = 9223372036854775808;
@@ -36,8 +38,8 @@ const JOBS: u32 = 2000;
 const MAX_WAITS: u32 = 1000000;
 
 /// Runs the loop until the flag is set, or it has waited `MAX_WAITS` times.
-fn run_until<L: Ledger, T: Ledger, R: Wait + Clock + Clone + Send + Drop>(
-    manager: &mut Loop<L, T, R>,
+fn run_until<N: Naming, R: Wait + Clock + Clone + Send + Drop>(
+    manager: &mut Loop<N, R>,
     stopped: &AtomicBool,
     rt: &R,
 ) -> Result<(), Fault> {
@@ -51,8 +53,8 @@ fn run_until<L: Ledger, T: Ledger, R: Wait + Clock + Clone + Send + Drop>(
 }
 
 /// Sends so many jobs, and waits for the reply of each.
-fn call_often<L: Ledger, T: Ledger, R: Wait + Clock>(
-    endpoint: &RemoteEndpoint<Counter, CountOne, L, T>,
+fn call_often<N: Naming, R: Wait + Clock>(
+    endpoint: &RemoteEndpoint<Counter, CountOne, N>,
     id: SubscriberId,
     rounds: u32,
     progress: &Progress,
@@ -66,8 +68,8 @@ fn call_often<L: Ledger, T: Ledger, R: Wait + Clock>(
 }
 
 /// Sends the jobs of all repeats, and then stops the loop.
-fn call_and_stop<L: Ledger, T: Ledger, R: Wait + Clock>(
-    endpoint: &RemoteEndpoint<Counter, CountOne, L, T>,
+fn call_and_stop<N: Naming, R: Wait + Clock>(
+    endpoint: &RemoteEndpoint<Counter, CountOne, N>,
     id: SubscriberId,
     rounds: u32,
     stopped: &AtomicBool,
@@ -82,8 +84,8 @@ fn call_and_stop<L: Ledger, T: Ledger, R: Wait + Clock>(
 
 /// Sends the jobs of all repeats beside the loop's thread. Whatever ends the loop, it is closed, so that nobody waits for a
 /// reply any more. Answers the times, and how many jobs were taken.
-fn call_beside<L: Ledger + Send + Sync, T: Ledger + Send + Sync, R: Host>(
-    mut manager: Loop<L, T, R>,
+fn call_beside<N: Naming + Send + Sync, R: Host>(
+    mut manager: Loop<N, R>,
     id: SubscriberId,
     rounds: u32,
     progress: &Progress,
@@ -104,7 +106,7 @@ fn call_beside<L: Ledger + Send + Sync, T: Ledger + Send + Sync, R: Host>(
 }
 
 /// Makes the loop, and measures a call over it.
-fn measure<L: Ledger + Send + Sync, T: Ledger + Send + Sync, R: Host>(
+fn measure<N: Naming + Send + Sync, R: Host>(
     rt: R,
     alloc: Global,
     rounds: u32,
@@ -112,15 +114,14 @@ fn measure<L: Ledger + Send + Sync, T: Ledger + Send + Sync, R: Host>(
     tickets: Blank,
     taken: Blank,
 ) -> Result<Measured, Fault>
-    requires tickets_name { tickets.name ≡ L.name }
-    requires tickets_parts { (tickets.parts ≡ L.parts) × (tickets.parts ≡ 9223372036854775808) }
-    requires taken_name { taken.name ≡ T.name }
-    requires taken_parts { (taken.parts ≡ T.parts) × (taken.parts ≡ 1) }
+    requires tickets { (tickets.name ≡ N.tickets) × (tickets.parts ≡ 9223372036854775808) }
+    requires taken { (taken.name ≡ N.taken) × (taken.parts ≡ 1) }
 {
+    let ledgers = Ledgers::<N>::new(tickets, taken);
     let epoll = Epoll::new(rt, alloc)?;
     let event_fd = EventFd::new(&epoll, 0, &rt)?;
     let poller = PlainPoller(epoll);
-    let mut manager = Loop::<L, T, R>::new(alloc, poller, event_fd, tickets, taken)?;
+    let mut manager = Loop::<N, R>::new(alloc, poller, event_fd, ledgers)?;
     let id = manager.add_subscriber(Counter::new(FIRST as i32, 0))?;
     let (times, jobs) = call_beside(manager, id, rounds, progress, &rt)?;
     Ok(Measured {
@@ -138,7 +139,7 @@ fn measure_to_end<R: Host>(
     progress: &Progress,
 ) -> Result<Measured, Fault> {
     let (tickets, taken) = (Blank::new(TICKET_PARTS), Blank::new(1));
-    let measured = measure::<Brand, Brand, R>(rt, alloc, rounds, progress, tickets, taken);
+    let measured = measure::<Brand, R>(rt, alloc, rounds, progress, tickets, taken);
     progress.end(&rt);
     measured
 }

@@ -7,10 +7,9 @@ use crate::fixed::{BATCH, Fixed};
 use crate::over_fixed::{Manager, ManagerMeasure, measure};
 use crate::subscribers::{Counter, FIRST};
 use crate::timing::{REPEATS, Times};
-use event_manager::{EventPoller, SubscriberOps};
+use event_manager::{EventPoller, Naming, SubscriberOps};
 use std::alloc::Global;
 use std::sync::Wait;
-use std::sync::ledger::Ledger;
 use std::time::Clock;
 
 /// The lowest descriptor of the subscriber that joins and leaves.
@@ -40,9 +39,9 @@ impl ManagerMeasure for JoinAndLeave {
         BATCH as usize
     }
 
-    fn take<L: Ledger, T: Ledger, P: EventPoller, R: Wait + Clock>(
+    fn take<N: Naming, P: EventPoller, R: Wait + Clock>(
         &self,
-        manager: &mut Manager<Counter, L, T, P>,
+        manager: &mut Manager<Counter, N, P>,
         _alloc: Global,
         rt: &R,
     ) -> Result<Measured, Fault> {
@@ -68,8 +67,8 @@ impl ManagerMeasure for JoinAndLeave {
 }
 
 // Answers how many left; each must have counted nothing.
-fn join_and_leave<L: Ledger, T: Ledger, P: EventPoller>(
-    manager: &mut Manager<Counter, L, T, P>,
+fn join_and_leave<N: Naming, P: EventPoller>(
+    manager: &mut Manager<Counter, N, P>,
     descriptors: u16,
     rounds: u32,
 ) -> Result<u64, Fault> {

@@ -6,10 +6,11 @@ use crate::fault::{Fault, expect};
 use crate::over_fixed::Manager;
 use crate::subscribers::Reader;
 use crate::timing::{REPEATS, Times};
-use event_manager::{EventPoller, PlainPoller, SubscriberOps, WithLedgers, with_ledgers};
+use event_manager::{
+    EventPoller, Ledgers, Naming, PlainPoller, SubscriberOps, WithLedgers, with_ledgers,
+};
 use std::alloc::Global;
 use std::sync::Wait;
-use std::sync::ledger::{Blank, Ledger};
 use std::time::Clock;
 use vmm_sys::epoll::Epoll;
 use vmm_sys::eventfd::EventFd;
@@ -30,11 +31,7 @@ struct WrittenCounters<'a, R> {
 impl<R: Wait + Clock + Copy + Send + Drop> WithLedgers for WrittenCounters<'_, R> {
     type Output = Result<Measured, Fault>;
 
-    fn run<L: Ledger + Send + Sync, T: Ledger + Send + Sync>(
-        self,
-        tickets: Blank,
-        taken: Blank,
-    ) -> Result<Measured, Fault> {
+    fn run<N: Naming + Send + Sync>(self, ledgers: Ledgers<N>) -> Result<Measured, Fault> {
         let WrittenCounters {
             epoll,
             endpoint,
@@ -44,9 +41,7 @@ impl<R: Wait + Clock + Copy + Send + Drop> WithLedgers for WrittenCounters<'_, R
             rt,
         } = self;
         let poller = PlainPoller(epoll);
-        let mut manager = Manager::<Reader<R>, L, T, _>::new(
-            alloc, poller, endpoint, tickets, taken,
-        )?;
+        let mut manager = Manager::<Reader<R>, N, _>::new(alloc, poller, endpoint, ledgers)?;
         let mut ids = Vec::new(alloc);
         for counter in &counters {
             let reader = Reader {
@@ -73,8 +68,8 @@ impl<R: Wait + Clock + Copy + Send + Drop> WithLedgers for WrittenCounters<'_, R
 }
 
 // Writes 1 to one counter after the other, so often in all, and runs the manager each time.
-fn write_and_run<L: Ledger, T: Ledger, P: EventPoller, R: Wait + Clock>(
-    manager: &mut Manager<Reader<R>, L, T, P>,
+fn write_and_run<N: Naming, P: EventPoller, R: Wait + Clock>(
+    manager: &mut Manager<Reader<R>, N, P>,
     counters: &[EventFd],
     rounds: u32,
     rt: &R,

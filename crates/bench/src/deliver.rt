@@ -9,10 +9,9 @@ use crate::fixed::{BATCH, Fixed};
 use crate::over_fixed::{Manager, ManagerMeasure, measure, run_rounds};
 use crate::subscribers::{Counter, FIRST};
 use crate::timing::{REPEATS, Times};
-use event_manager::{EventPoller, EventSet, Events, Priority, SubscriberId, SubscriberOps};
+use event_manager::{EventPoller, EventSet, Events, Naming, Priority, SubscriberId, SubscriberOps};
 use std::alloc::Global;
 use std::sync::Wait;
-use std::sync::ledger::Ledger;
 use std::time::Clock;
 
 /// A descriptor that no wait reports.
@@ -60,9 +59,9 @@ impl ManagerMeasure for Deliver {
         BATCH as usize
     }
 
-    fn take<L: Ledger, T: Ledger, P: EventPoller, R: Wait + Clock>(
+    fn take<N: Naming, P: EventPoller, R: Wait + Clock>(
         &self,
-        manager: &mut Manager<Counter, L, T, P>,
+        manager: &mut Manager<Counter, N, P>,
         alloc: Global,
         rt: &R,
     ) -> Result<Measured, Fault> {
@@ -91,9 +90,9 @@ impl ManagerMeasure for Deliver {
 
 impl Deliver {
     /// Gives the subscriber's descriptor its priority. `Manager`.
-    fn give_priority<L: Ledger, T: Ledger, P: EventPoller>(
+    fn give_priority<N: Naming, P: EventPoller>(
         &self,
-        manager: &mut Manager<Counter, L, T, P>,
+        manager: &mut Manager<Counter, N, P>,
         id: SubscriberId,
         fd: i32,
     ) -> Result<(), Fault>

@@ -7,12 +7,11 @@ use crate::jobs::CountOne;
 use crate::subscribers::{Counter, FIRST};
 use crate::timing::{REPEATS, Times};
 use event_manager::{
-    EventManager, EventPoller, PlainPoller, RemoteEndpoint, SubscriberId, SubscriberOps,
-    WithLedgers, with_ledgers,
+    EventManager, EventPoller, Ledgers, Naming, PlainPoller, RemoteEndpoint, SubscriberId,
+    SubscriberOps, WithLedgers, with_ledgers,
 };
 use std::alloc::Global;
 use std::sync::Wait;
-use std::sync::ledger::{Blank, Ledger};
 use std::time::Clock;
 use vmm_sys::epoll::Epoll;
 use vmm_sys::eventfd::EventFd;
@@ -32,11 +31,7 @@ struct FiredJobs<'a, R> {
 impl<R: Wait + Clock + Copy + Send + Drop> WithLedgers for FiredJobs<'_, R> {
     type Output = Result<Measured, Fault>;
 
-    fn run<L: Ledger + Send + Sync, T: Ledger + Send + Sync>(
-        self,
-        tickets: Blank,
-        taken: Blank,
-    ) -> Result<Measured, Fault> {
+    fn run<N: Naming + Send + Sync>(self, ledgers: Ledgers<N>) -> Result<Measured, Fault> {
         let FiredJobs {
             epoll,
             endpoint,
@@ -45,8 +40,8 @@ impl<R: Wait + Clock + Copy + Send + Drop> WithLedgers for FiredJobs<'_, R> {
             rt,
         } = self;
         let poller = PlainPoller(epoll);
-        let mut manager = EventManager::<Counter, CountOne, L, T, _>::new(
-            alloc, poller, endpoint, tickets, taken,
+        let mut manager = EventManager::<Counter, CountOne, N, _>::new(
+            alloc, poller, endpoint, ledgers,
         )?;
         let endpoint = manager.remote_endpoint()?;
         let id = manager.add_subscriber(Counter::new(FIRST as i32, 0))?;
@@ -61,9 +56,9 @@ impl<R: Wait + Clock + Copy + Send + Drop> WithLedgers for FiredJobs<'_, R> {
 }
 
 // Sends a job and runs the manager, so often.
-fn fire_and_run<L: Ledger, T: Ledger, P: EventPoller, R: Wait + Clock>(
-    manager: &mut EventManager<Counter, CountOne, L, T, P>,
-    endpoint: &RemoteEndpoint<Counter, CountOne, L, T>,
+fn fire_and_run<N: Naming, P: EventPoller, R: Wait + Clock>(
+    manager: &mut EventManager<Counter, CountOne, N, P>,
+    endpoint: &RemoteEndpoint<Counter, CountOne, N>,
     id: SubscriberId,
     rounds: u32,
     rt: &R,

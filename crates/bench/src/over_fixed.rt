@@ -4,18 +4,17 @@ use crate::bench::{Bench, Host, Measured};
 use crate::fault::{Fault, expect};
 use crate::fixed::Fixed;
 use event_manager::{
-    BoxedPoller, EventManager, EventPoller, MutEventSubscriber, NoJob, PlainPoller, WithLedgers,
-    with_ledgers,
+    BoxedPoller, EventManager, EventPoller, Ledgers, MutEventSubscriber, Naming, NoJob,
+    PlainPoller, WithLedgers, with_ledgers,
 };
 use std::alloc::Global;
 use std::sync::Wait;
-use std::sync::ledger::{Blank, Ledger};
 use std::time::Clock;
 use vmm_sys::eventfd::EventFd;
 use vmm_sys::poller::Poller;
 
 /// A manager without jobs.
-pub type Manager<S, L, T, P> = EventManager<S, NoJob, L, T, P>;
+pub type Manager<S, N, P> = EventManager<S, NoJob, N, P>;
 
 /// A measure of a manager over the fixed poller.
 pub trait ManagerMeasure: Drop {
@@ -32,9 +31,9 @@ pub trait ManagerMeasure: Drop {
     fn capacity(&self) -> usize;
 
     /// Does the work on a new manager. `Manager`, `Answer`, `System` or `Memory`.
-    fn take<L: Ledger, T: Ledger, P: EventPoller, R: Wait + Clock>(
+    fn take<N: Naming, P: EventPoller, R: Wait + Clock>(
         &self,
-        manager: &mut Manager<Self::Subscriber, L, T, P>,
+        manager: &mut Manager<Self::Subscriber, N, P>,
         alloc: Global,
         rt: &R,
     ) -> Result<Measured, Fault>;
@@ -52,11 +51,7 @@ struct Ready<'a, M, P, R> {
 impl<M: ManagerMeasure, P: EventPoller + Drop, R: Wait + Clock> WithLedgers for Ready<'_, M, P, R> {
     type Output = Result<Measured, Fault>;
 
-    fn run<L: Ledger + Send + Sync, T: Ledger + Send + Sync>(
-        self,
-        tickets: Blank,
-        taken: Blank,
-    ) -> Result<Measured, Fault> {
+    fn run<N: Naming + Send + Sync>(self, ledgers: Ledgers<N>) -> Result<Measured, Fault> {
         let Ready {
             measure,
             poller,
@@ -64,13 +59,12 @@ impl<M: ManagerMeasure, P: EventPoller + Drop, R: Wait + Clock> WithLedgers for 
             alloc,
             rt,
         } = self;
-        let mut manager = Manager::<M::Subscriber, L, T, P>::new_with_capacity(
+        let mut manager = Manager::<M::Subscriber, N, P>::new_with_capacity(
             alloc,
             poller,
             endpoint,
             measure.capacity(),
-            tickets,
-            taken,
+            ledgers,
         )?;
         measure.take(&mut manager, alloc, rt)
     }
@@ -104,16 +98,15 @@ pub fn measure<M: ManagerMeasure, R: Host>(bench: &Bench<R>, measure: &M) -> Res
 }
 
 /// Runs the manager so often; each run must answer `count`. `Manager`, `Answer`.
-pub fn run_rounds<S, L, T, P, R>(
-    manager: &mut Manager<S, L, T, P>,
+pub fn run_rounds<S, N, P, R>(
+    manager: &mut Manager<S, N, P>,
     rounds: u32,
     count: u64,
     rt: &R,
 ) -> Result<(), Fault>
 where
     S: MutEventSubscriber,
-    L: Ledger,
-    T: Ledger,
+    N: Naming,
     P: EventPoller,
     R: Wait + Clock,
 {

@@ -7,10 +7,9 @@ use crate::fixed::{BATCH, Fixed};
 use crate::over_fixed::{Manager, ManagerMeasure, measure, run_rounds};
 use crate::subscribers::Toggler;
 use crate::timing::{REPEATS, Times};
-use event_manager::{EventPoller, SubscriberOps};
+use event_manager::{EventPoller, Naming, SubscriberOps};
 use std::alloc::Global;
 use std::sync::Wait;
-use std::sync::ledger::Ledger;
 use std::time::Clock;
 
 /// Batches of so many events of one subscriber, which at each removes a descriptor that isn't in the batch, and adds it
@@ -44,9 +43,9 @@ impl ManagerMeasure for Toggle {
         self.capacity
     }
 
-    fn take<L: Ledger, T: Ledger, P: EventPoller, R: Wait + Clock>(
+    fn take<N: Naming, P: EventPoller, R: Wait + Clock>(
         &self,
-        manager: &mut Manager<Toggler, L, T, P>,
+        manager: &mut Manager<Toggler, N, P>,
         _alloc: Global,
         rt: &R,
     ) -> Result<Measured, Fault> {

@@ -3,12 +3,12 @@
 use crate::reacting::Reacting;
 use event_manager::utilities::subscribers::CounterSubscriberWithData;
 use event_manager::{
-    EventManager, EventPoller, Events, MutEventSubscriber, NoJob, SubscriberId, SubscriberOps,
+    EventManager, EventPoller, Events, MutEventSubscriber, Naming, NoJob, SubscriberId,
+    SubscriberOps,
 };
 use std::fmt::Debug;
 use std::process::Abort;
 use std::sync::Wait;
-use std::sync::ledger::Ledger;
 use std::time::Clock;
 
 /// Expects that the two are equal.
@@ -22,15 +22,10 @@ pub fn expect_ok<A, E: Debug + Drop, R: Abort>(rt: &R, answer: Result<A, E>) -> 
 }
 
 /// Expects that a run without a limit reports so many events.
-pub fn expect_run<S, L, T, P, R>(
-    rt: &R,
-    manager: &mut EventManager<S, NoJob, L, T, P>,
-    count: usize,
-)
+pub fn expect_run<S, N, P, R>(rt: &R, manager: &mut EventManager<S, NoJob, N, P>, count: usize)
 where
     S: MutEventSubscriber,
-    L: Ledger,
-    T: Ledger,
+    N: Naming,
     P: EventPoller,
     R: Wait + Clock + Abort,
 {
@@ -38,16 +33,15 @@ where
 }
 
 /// Expects that a run of at most so many milliseconds reports so many events.
-pub fn expect_run_within<S, L, T, P, R>(
+pub fn expect_run_within<S, N, P, R>(
     rt: &R,
-    manager: &mut EventManager<S, NoJob, L, T, P>,
+    manager: &mut EventManager<S, NoJob, N, P>,
     ms: i32,
     count: usize,
 )
 where
     S: MutEventSubscriber,
-    L: Ledger,
-    T: Ledger,
+    N: Naming,
     P: EventPoller,
     R: Wait + Clock + Abort,
 {
@@ -55,8 +49,8 @@ where
 }
 
 /// Whether these were the subscriber's events since it was last asked, in order.
-fn saw<L: Ledger, T: Ledger, P: EventPoller>(
-    manager: &mut EventManager<Reacting, NoJob, L, T, P>,
+fn saw<N: Naming, P: EventPoller>(
+    manager: &mut EventManager<Reacting, NoJob, N, P>,
     id: SubscriberId,
     expected: &[Events],
 ) -> event_manager::Result<bool> {
@@ -64,9 +58,9 @@ fn saw<L: Ledger, T: Ledger, P: EventPoller>(
 }
 
 /// Expects that these were the subscriber's events since it was last asked, in order.
-pub fn expect_saw<L: Ledger, T: Ledger, P: EventPoller, R: Abort>(
+pub fn expect_saw<N: Naming, P: EventPoller, R: Abort>(
     rt: &R,
-    manager: &mut EventManager<Reacting, NoJob, L, T, P>,
+    manager: &mut EventManager<Reacting, NoJob, N, P>,
     id: SubscriberId,
     expected: &[Events],
 ) {

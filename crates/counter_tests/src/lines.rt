@@ -3,13 +3,12 @@
 use crate::expecting::{expect_ok, expect_run, expect_saw};
 use crate::making::Host;
 use crate::reacting::{Reacting, add};
-use event_manager::{EventManager, EventPoller, Events, NoJob, Request};
+use event_manager::{EventManager, EventPoller, Events, Naming, NoJob, Request};
 use fixtures::making::{WithManager, with_manager};
 use fixtures::parts::{OnTable, on_table};
 use std::alloc::Global;
 use std::process::Abort;
 use std::sync::Wait;
-use std::sync::ledger::Ledger;
 use std::time::Clock;
 use vmm_sys::epoll::EventSet;
 use vmm_sys::line::Line;
@@ -45,9 +44,9 @@ impl<R: Wait + Clock + Abort> WithManager for HangingUp<'_, R> {
 
     type Output = ();
 
-    fn run<L: Ledger, T: Ledger, P: EventPoller>(
+    fn run<N: Naming, P: EventPoller>(
         self,
-        manager: &mut EventManager<Reacting, NoJob, L, T, P>,
+        manager: &mut EventManager<Reacting, NoJob, N, P>,
     ) -> event_manager::Result<()> {
         let first = add(self.rt, self.alloc, manager, self.kept.wanted, None);
         for _ in 0..3 {

@@ -4,12 +4,11 @@ ghost use Rattle.std.specs.Prelude.{◌≡◌, [], ◌∷◌, MatchOption};
 
 use crate::expecting::expect_ok;
 use event_manager::{
-    EventManager, EventOps, EventPoller, Events, MutEventSubscriber, NoJob, Request, SubscriberId,
-    SubscriberOps,
+    EventManager, EventOps, EventPoller, Events, MutEventSubscriber, Naming, NoJob, Request,
+    SubscriberId, SubscriberOps,
 };
 use std::alloc::Global;
 use std::process::Abort;
-use std::sync::ledger::Ledger;
 
 /// Adds one descriptor in `init`, notes its events, and makes its request, if any, at the first of them.
 #[derive(Drop)]
@@ -57,10 +56,10 @@ impl MutEventSubscriber for Reacting {
 }
 
 /// Takes in a subscriber of this descriptor, with this reaction: its id.
-pub fn add<L: Ledger, T: Ledger, P: EventPoller, R: Abort>(
+pub fn add<N: Naming, P: EventPoller, R: Abort>(
     rt: &R,
     alloc: Global,
-    manager: &mut EventManager<Reacting, NoJob, L, T, P>,
+    manager: &mut EventManager<Reacting, NoJob, N, P>,
     own: Events,
     reaction: Option<Request>,
 ) -> SubscriberId {

@@ -5,14 +5,13 @@ use crate::making::{Host, counter_of};
 use crate::reacting::{Reacting, add};
 use event_manager::utilities::subscribers::CounterSubscriber;
 use event_manager::{
-    Error, EventManager, EventPoller, Events, NoJob, Request, SubscriberId, SubscriberOps,
+    Error, EventManager, EventPoller, Events, Naming, NoJob, Request, SubscriberId, SubscriberOps,
 };
 use fixtures::making::{WithManager, with_manager};
 use fixtures::parts::{OnTable, on_table};
 use std::alloc::Global;
 use std::process::Abort;
 use std::sync::Wait;
-use std::sync::ledger::Ledger;
 use std::time::Clock;
 use vmm_sys::epoll::EventSet;
 use vmm_sys::eventfd::EventFd;
@@ -35,9 +34,9 @@ impl<R: Wait + Clock + Abort> WithManager for Runs<'_, R> {
 
     type Output = ();
 
-    fn run<L: Ledger, T: Ledger, P: EventPoller>(
+    fn run<N: Naming, P: EventPoller>(
         self,
-        manager: &mut EventManager<Reacting, NoJob, L, T, P>,
+        manager: &mut EventManager<Reacting, NoJob, N, P>,
     ) -> event_manager::Result<()> {
         let id = add(self.rt, self.alloc, manager, self.own, self.reaction);
         for (limit, delivered) in self.runs {
@@ -110,9 +109,9 @@ struct Removing<'a, R> {
 }
 
 /// Lets the subscriber leave: it must have had these events.
-fn expect_leave<L: Ledger, T: Ledger, P: EventPoller, R: Abort>(
+fn expect_leave<N: Naming, P: EventPoller, R: Abort>(
     rt: &R,
-    manager: &mut EventManager<Reacting, NoJob, L, T, P>,
+    manager: &mut EventManager<Reacting, NoJob, N, P>,
     id: SubscriberId,
     events: &[Events],
 ) {
@@ -125,9 +124,9 @@ impl<R: Wait + Clock + Abort> WithManager for Removing<'_, R> {
 
     type Output = ();
 
-    fn run<L: Ledger, T: Ledger, P: EventPoller>(
+    fn run<N: Naming, P: EventPoller>(
         self,
-        manager: &mut EventManager<Reacting, NoJob, L, T, P>,
+        manager: &mut EventManager<Reacting, NoJob, N, P>,
     ) -> event_manager::Result<()> {
         let id = add(self.rt, self.alloc, manager, self.own, None);
         expect_run(self.rt, manager, 1);
@@ -151,17 +150,17 @@ fn test_remove_subscriber(rt: HostRuntime) {
 }
 
 /// The subscriber's fault.
-fn fault_of<L: Ledger, T: Ledger, P: EventPoller>(
-    manager: &mut EventManager<CounterSubscriber, NoJob, L, T, P>,
+fn fault_of<N: Naming, P: EventPoller>(
+    manager: &mut EventManager<CounterSubscriber, NoJob, N, P>,
     id: SubscriberId,
 ) -> event_manager::Result<Option<Error>> {
     Ok(manager.subscriber_mut(id)?.fault())
 }
 
 /// Takes in a subscriber of this counter, which must then have this fault.
-fn expect_joined<L: Ledger, T: Ledger, P: EventPoller, R: Abort>(
+fn expect_joined<N: Naming, P: EventPoller, R: Abort>(
     rt: &R,
-    manager: &mut EventManager<CounterSubscriber, NoJob, L, T, P>,
+    manager: &mut EventManager<CounterSubscriber, NoJob, N, P>,
     event_fd: &EventFd,
     fault: Option<Error>,
 ) -> SubscriberId {
@@ -183,9 +182,9 @@ impl<R: Abort> WithManager for JoiningTwice<'_, R> {
 
     type Output = ();
 
-    fn run<L: Ledger, T: Ledger, P: EventPoller>(
+    fn run<N: Naming, P: EventPoller>(
         self,
-        manager: &mut EventManager<CounterSubscriber, NoJob, L, T, P>,
+        manager: &mut EventManager<CounterSubscriber, NoJob, N, P>,
     ) -> event_manager::Result<()> {
         let one = expect_joined(self.rt, manager, self.event_fd, None);
         let refusal = Some(Error::FdAlreadyRegistered);
@@ -215,9 +214,9 @@ impl WithManager for Nothing {
 
     type Output = ();
 
-    fn run<L: Ledger, T: Ledger, P: EventPoller>(
+    fn run<N: Naming, P: EventPoller>(
         self,
-        _manager: &mut EventManager<CounterSubscriber, NoJob, L, T, P>,
+        _manager: &mut EventManager<CounterSubscriber, NoJob, N, P>,
     ) -> event_manager::Result<()> {
         Ok(())
     }

@@ -3,12 +3,13 @@
 use crate::expecting::{expect_ok, expect_run, expect_same};
 use crate::making::Host;
 use event_manager::utilities::subscribers::CounterInnerMutSubscriber;
-use event_manager::{Error, EventManager, EventPoller, Events, NoJob, PlainPoller, SubscriberOps};
+use event_manager::{
+    Error, EventManager, EventPoller, Events, Naming, NoJob, PlainPoller, SubscriberOps,
+};
 use fixtures::making::{WithManager, with_manager};
 use fixtures::parts::Parts;
 use std::alloc::Global;
 use std::process::Abort;
-use std::sync::ledger::Ledger;
 use std::sync::{Arc, Wait};
 use std::time::Clock;
 use vmm_sys::epoll::{ControlOperation, Epoll, EpollEvent, EventSet};
@@ -67,9 +68,9 @@ impl<R: Wait + Clock + Abort> WithManager for Serving<'_, R> {
 
     type Output = ();
 
-    fn run<L: Ledger, T: Ledger, P: EventPoller>(
+    fn run<N: Naming, P: EventPoller>(
         self,
-        manager: &mut EventManager<Arc<CounterInnerMutSubscriber>, NoJob, L, T, P>,
+        manager: &mut EventManager<Arc<CounterInnerMutSubscriber>, NoJob, N, P>,
     ) -> event_manager::Result<()> {
         let subscriber = expect_ok(self.rt, self.subscriber.clone());
         expect_ok(self.rt, manager.add_subscriber(subscriber));

@@ -5,20 +5,21 @@ use crate::making::{Host, counter_of, three_counters_of};
 use event_manager::utilities::subscribers::{
     CounterInnerMutSubscriber, CounterSubscriber, CounterSubscriberWithData,
 };
-use event_manager::{EventManager, EventPoller, NoJob, Result, SubscriberId, SubscriberOps};
+use event_manager::{
+    EventManager, EventPoller, Naming, NoJob, Result, SubscriberId, SubscriberOps,
+};
 use fixtures::making::{WithManager, with_manager};
 use fixtures::parts::{OnTable, on_table};
 use std::alloc::Global;
 use std::process::Abort;
-use std::sync::ledger::Ledger;
 use std::sync::{Arc, Wait};
 use std::time::Clock;
 use vmm_sys::eventfd::EventFd;
 
 /// Takes in a subscriber of this counter: its id.
-fn join<L: Ledger, T: Ledger, P: EventPoller, R: Abort>(
+fn join<N: Naming, P: EventPoller, R: Abort>(
     rt: &R,
-    manager: &mut EventManager<CounterSubscriber, NoJob, L, T, P>,
+    manager: &mut EventManager<CounterSubscriber, NoJob, N, P>,
     event_fd: &EventFd,
 ) -> SubscriberId {
     let same = expect_ok(rt, event_fd.try_clone());
@@ -26,9 +27,9 @@ fn join<L: Ledger, T: Ledger, P: EventPoller, R: Abort>(
 }
 
 /// Triggers the subscriber's counter, or clears it.
-fn set_ready<L: Ledger, T: Ledger, P: EventPoller, R: Wait>(
+fn set_ready<N: Naming, P: EventPoller, R: Wait>(
     rt: &R,
-    manager: &mut EventManager<CounterSubscriber, NoJob, L, T, P>,
+    manager: &mut EventManager<CounterSubscriber, NoJob, N, P>,
     id: SubscriberId,
     is_ready: bool,
 ) -> Result<()> {
@@ -44,10 +45,10 @@ fn set_ready<L: Ledger, T: Ledger, P: EventPoller, R: Wait>(
 const TRIGGERED: [usize; 4] = [1, 3, 50, 97];
 
 /// Takes in a subscriber of each counter: their ids, in order.
-fn join_all<L: Ledger, T: Ledger, P: EventPoller, R: Abort>(
+fn join_all<N: Naming, P: EventPoller, R: Abort>(
     rt: &R,
     alloc: Global,
-    manager: &mut EventManager<CounterSubscriber, NoJob, L, T, P>,
+    manager: &mut EventManager<CounterSubscriber, NoJob, N, P>,
     event_fds: &[EventFd],
 ) -> Vec<SubscriberId> {
     let mut ids = Vec::new(alloc);
@@ -58,9 +59,9 @@ fn join_all<L: Ledger, T: Ledger, P: EventPoller, R: Abort>(
 }
 
 /// Makes those ready that are triggered, or no longer.
-fn set_some_ready<L: Ledger, T: Ledger, P: EventPoller, R: Wait + Abort>(
+fn set_some_ready<N: Naming, P: EventPoller, R: Wait + Abort>(
     rt: &R,
-    manager: &mut EventManager<CounterSubscriber, NoJob, L, T, P>,
+    manager: &mut EventManager<CounterSubscriber, NoJob, N, P>,
     ids: &[SubscriberId],
     is_ready: bool,
 ) {
@@ -72,17 +73,17 @@ fn set_some_ready<L: Ledger, T: Ledger, P: EventPoller, R: Wait + Abort>(
 }
 
 /// How many events the subscriber has counted.
-fn counted_by<L: Ledger, T: Ledger, P: EventPoller>(
-    manager: &mut EventManager<CounterSubscriber, NoJob, L, T, P>,
+fn counted_by<N: Naming, P: EventPoller>(
+    manager: &mut EventManager<CounterSubscriber, NoJob, N, P>,
     id: SubscriberId,
 ) -> Result<u64> {
     Ok(manager.subscriber_mut(id)?.counter())
 }
 
 /// Expects that a run has so many events, and that those that were triggered have then counted one, and the others none.
-fn expect_counts<L: Ledger, T: Ledger, P: EventPoller, R: Wait + Clock + Abort>(
+fn expect_counts<N: Naming, P: EventPoller, R: Wait + Clock + Abort>(
     rt: &R,
-    manager: &mut EventManager<CounterSubscriber, NoJob, L, T, P>,
+    manager: &mut EventManager<CounterSubscriber, NoJob, N, P>,
     ids: &[SubscriberId],
     count: usize,
 ) {
@@ -106,9 +107,9 @@ impl<R: Wait + Clock + Abort> WithManager for Hundred<'_, R> {
 
     type Output = ();
 
-    fn run<L: Ledger, T: Ledger, P: EventPoller>(
+    fn run<N: Naming, P: EventPoller>(
         self,
-        manager: &mut EventManager<CounterSubscriber, NoJob, L, T, P>,
+        manager: &mut EventManager<CounterSubscriber, NoJob, N, P>,
     ) -> Result<()> {
         let ids = join_all(self.rt, self.alloc, manager, self.event_fds);
         set_some_ready(self.rt, manager, &ids, true);
@@ -152,9 +153,9 @@ impl<R: Wait + Clock + Abort> WithManager for Triggered<'_, R> {
 
     type Output = ();
 
-    fn run<L: Ledger, T: Ledger, P: EventPoller>(
+    fn run<N: Naming, P: EventPoller>(
         self,
-        manager: &mut EventManager<CounterSubscriber, NoJob, L, T, P>,
+        manager: &mut EventManager<CounterSubscriber, NoJob, N, P>,
     ) -> Result<()> {
         let id = join(self.rt, manager, self.event_fd);
         expect_run_within(self.rt, manager, 0, 0);
@@ -189,9 +190,9 @@ impl<R: Wait + Clock + Abort> WithManager for SharedTriggered<'_, R> {
 
     type Output = ();
 
-    fn run<L: Ledger, T: Ledger, P: EventPoller>(
+    fn run<N: Naming, P: EventPoller>(
         self,
-        manager: &mut EventManager<Arc<CounterInnerMutSubscriber>, NoJob, L, T, P>,
+        manager: &mut EventManager<Arc<CounterInnerMutSubscriber>, NoJob, N, P>,
     ) -> Result<()> {
         let subscriber = expect_ok(self.rt, self.subscriber.clone());
         expect_ok(self.rt, manager.add_subscriber(subscriber));
@@ -245,9 +246,9 @@ impl<R: Wait + Clock + Abort> AllReady<'_, R> {
 }
 
 /// Triggers all counters of the subscriber.
-fn trigger_all<L: Ledger, T: Ledger, P: EventPoller, R: Wait>(
+fn trigger_all<N: Naming, P: EventPoller, R: Wait>(
     rt: &R,
-    manager: &mut EventManager<CounterSubscriberWithData, NoJob, L, T, P>,
+    manager: &mut EventManager<CounterSubscriberWithData, NoJob, N, P>,
     id: SubscriberId,
 ) -> Result<()> {
     manager.subscriber_mut(id)?.trigger_all_counters(rt);
@@ -255,9 +256,9 @@ fn trigger_all<L: Ledger, T: Ledger, P: EventPoller, R: Wait>(
 }
 
 /// Expects these values of the subscriber's counters.
-fn expect_values_of<L: Ledger, T: Ledger, P: EventPoller, R: Abort>(
+fn expect_values_of<N: Naming, P: EventPoller, R: Abort>(
     rt: &R,
-    manager: &mut EventManager<CounterSubscriberWithData, NoJob, L, T, P>,
+    manager: &mut EventManager<CounterSubscriberWithData, NoJob, N, P>,
     id: SubscriberId,
     values: [u64; 3],
 ) -> Result<()> {
@@ -270,9 +271,9 @@ impl<R: Wait + Clock + Abort> WithManager for AllReady<'_, R> {
 
     type Output = ();
 
-    fn run<L: Ledger, T: Ledger, P: EventPoller>(
+    fn run<N: Naming, P: EventPoller>(
         self,
-        manager: &mut EventManager<CounterSubscriberWithData, NoJob, L, T, P>,
+        manager: &mut EventManager<CounterSubscriberWithData, NoJob, N, P>,
     ) -> Result<()> {
         let id = expect_ok(self.rt, manager.add_subscriber(self.subscriber()));
         expect_run_within(self.rt, manager, 0, 0);

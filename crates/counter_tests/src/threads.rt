@@ -8,26 +8,26 @@ use event_manager::utilities::subscribers::{
     CounterInnerMutSubscriber, CounterSubscriber, CounterSubscriberWithData,
 };
 use event_manager::{
-    Either, EventManager, MutEventSubscriber, NoJob, PlainPoller, Result, SubscriberId,
-    SubscriberOps,
+    Either, EventManager, Ledgers, MutEventSubscriber, Naming, NoJob, PlainPoller, Result,
+    SubscriberId, SubscriberOps,
 };
 use fixtures::making::{make, no_memory};
 use fixtures::parts::{OnTable, on_table};
 use std::alloc::Global;
 use std::marker::Brand;
 use std::sync::Arc;
-use std::sync::ledger::{Blank, Ledger};
+use std::sync::ledger::Blank;
 use std::thread;
 use vmm_sys::epoll::Epoll;
 
-type Loop<S, L, T, R> = EventManager<S, NoJob, L, T, PlainPoller<Epoll<R>>>;
+type Loop<S, N, R> = EventManager<S, NoJob, N, PlainPoller<Epoll<R>>>;
 
 /// Makes a hundred runs, each of which must report so many events.
-fn run_hundred<S: MutEventSubscriber, L: Ledger, T: Ledger, R: Host>(
+fn run_hundred<S: MutEventSubscriber, N: Naming, R: Host>(
     rt: R,
-    manager: Loop<S, L, T, R>,
+    manager: Loop<S, N, R>,
     count: usize,
-) -> Loop<S, L, T, R> {
+) -> Loop<S, N, R> {
     let mut manager = manager;
     for _ in 0..100 {
         expect_run_within(&rt, &mut manager, 1000, count);
@@ -36,9 +36,9 @@ fn run_hundred<S: MutEventSubscriber, L: Ledger, T: Ledger, R: Host>(
 }
 
 /// Takes the subscribers in: their ids, in order.
-fn add_all<S: MutEventSubscriber + Drop, L: Ledger, T: Ledger, R: Host>(
+fn add_all<S: MutEventSubscriber + Drop, N: Naming, R: Host>(
     alloc: Global,
-    manager: &mut Loop<S, L, T, R>,
+    manager: &mut Loop<S, N, R>,
     subscribers: Vec<S>,
 ) -> Result<Vec<SubscriberId>> {
     let mut ids = Vec::new(alloc);
@@ -49,8 +49,8 @@ fn add_all<S: MutEventSubscriber + Drop, L: Ledger, T: Ledger, R: Host>(
 }
 
 /// Lets one leave, to the others that left.
-fn remove_to<S: MutEventSubscriber + Drop, L: Ledger, T: Ledger, R: Host>(
-    manager: &mut Loop<S, L, T, R>,
+fn remove_to<S: MutEventSubscriber + Drop, N: Naming, R: Host>(
+    manager: &mut Loop<S, N, R>,
     id: SubscriberId,
     left: &mut Vec<S>,
 ) -> Result<()> {
@@ -59,9 +59,9 @@ fn remove_to<S: MutEventSubscriber + Drop, L: Ledger, T: Ledger, R: Host>(
 }
 
 /// Lets them leave: the subscribers.
-fn remove_all<S: MutEventSubscriber + Drop, L: Ledger, T: Ledger, R: Host>(
+fn remove_all<S: MutEventSubscriber + Drop, N: Naming, R: Host>(
     alloc: Global,
-    manager: &mut Loop<S, L, T, R>,
+    manager: &mut Loop<S, N, R>,
     ids: &[SubscriberId],
 ) -> Result<Vec<S>> {
     let mut left = Vec::new(alloc);
@@ -72,11 +72,10 @@ fn remove_all<S: MutEventSubscriber + Drop, L: Ledger, T: Ledger, R: Host>(
 }
 
 /// The manager, after a second thread made a hundred runs with it.
-fn moved<S, L, T, R>(rt: R, manager: Loop<S, L, T, R>, count: usize) -> Result<Loop<S, L, T, R>>
+fn moved<S, N, R>(rt: R, manager: Loop<S, N, R>, count: usize) -> Result<Loop<S, N, R>>
 where
     S: MutEventSubscriber + Send + Drop + 'static,
-    L: Ledger + Send + Sync + 'static,
-    T: Ledger + Send + Sync + 'static,
+    N: Naming + Send + Sync + 'static,
     R: Host,
 {
     match thread::spawn(&rt, move || run_hundred(rt, manager, count)) {
@@ -86,25 +85,24 @@ where
 }
 
 /// The subscribers, after a second thread made a hundred runs with the manager.
-fn move_and_leave<S, L, T, R>(
+fn move_and_leave<S, N, R>(
     rt: R,
     alloc: Global,
-    manager: Loop<S, L, T, R>,
+    manager: Loop<S, N, R>,
     ids: &[SubscriberId],
     count: usize,
 ) -> Result<Vec<S>>
 where
     S: MutEventSubscriber + Send + Drop + 'static,
-    L: Ledger + Send + Sync + 'static,
-    T: Ledger + Send + Sync + 'static,
+    N: Naming + Send + Sync + 'static,
     R: Host,
 {
     let mut manager = moved(rt, manager, count)?;
     remove_all(alloc, &mut manager, ids)
 }
 
-/// As [`run_on_second_thread`], for any two ledgers.
-fn run_moved<S, L, T, R>(
+/// As [`run_on_second_thread`], whatever its ledgers.
+fn run_moved<S, N, R>(
     rt: R,
     parts: OnTable<R>,
     subscribers: Vec<S>,
@@ -114,16 +112,14 @@ fn run_moved<S, L, T, R>(
 ) -> Result<Vec<S>>
 where
     S: MutEventSubscriber + Send + Drop + 'static,
-    L: Ledger + Send + Sync + 'static,
-    T: Ledger + Send + Sync + 'static,
+    N: Naming + Send + Sync + 'static,
     R: Host,
-    requires tickets_name { tickets.name ≡ L.name }
-    requires tickets_parts { (tickets.parts ≡ L.parts) × (tickets.parts ≡ 9223372036854775808) }
-    requires taken_name { taken.name ≡ T.name }
-    requires taken_parts { (taken.parts ≡ T.parts) × (taken.parts ≡ 1) }
+    requires tickets { (tickets.name ≡ N.tickets) × (tickets.parts ≡ 9223372036854775808) }
+    requires taken { (taken.name ≡ N.taken) × (taken.parts ≡ 1) }
 {
+    let ledgers = Ledgers::<N>::new(tickets, taken);
     let alloc = parts.alloc;
-    let mut manager = make::<S, NoJob, L, T, _>(parts, tickets, taken)?;
+    let mut manager = make::<S, NoJob, N, _>(parts, ledgers)?;
     let ids = add_all(alloc, &mut manager, subscribers)?;
     move_and_leave(rt, alloc, manager, ids.as_slice(), count)
 }
@@ -137,7 +133,7 @@ fn run_on_second_thread<S: MutEventSubscriber + Send + Drop + 'static, R: Host>(
     count: usize,
 ) -> Result<Vec<S>> {
     let tickets = Blank::new(9223372036854775808);
-    run_moved::<S, Brand, Brand, R>(rt, parts, subscribers, count, tickets, Blank::new(1))
+    run_moved::<S, Brand, R>(rt, parts, subscribers, count, tickets, Blank::new(1))
 }
 
 /// A subscriber with three counters in the table of these parts, all of which are triggered.

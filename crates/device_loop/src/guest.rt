@@ -3,9 +3,8 @@
 use crate::devices::Device;
 use crate::fault::Fault;
 use crate::statistics::ReadStatistics;
-use event_manager::{EventSet, RemoteEndpoint, SubscriberId};
+use event_manager::{EventSet, Naming, RemoteEndpoint, SubscriberId};
 use std::sync::Wait;
-use std::sync::ledger::Ledger;
 use std::time::Clock;
 use vmm_sys::eventfd::EventFd;
 use vmm_sys::line::Line;
@@ -30,9 +29,9 @@ impl Guest {
     ///
     /// No contract says that the reply counts what was done before. It does, since the job's event is reported with the
     /// device's or after it, and the jobs of a report are run once all of it is handed out.
-    pub fn run<L: Ledger, T: Ledger, R: Wait + Clock + Print + Drop>(
+    pub fn run<N: Naming, R: Wait + Clock + Print + Drop>(
         &self,
-        endpoint: &RemoteEndpoint<Device<R>, ReadStatistics, L, T>,
+        endpoint: &RemoteEndpoint<Device<R>, ReadStatistics, N>,
         rt: &R,
     ) -> Result<(), Fault> {
         let statistics = |device| endpoint.call_blocking(ReadStatistics { device }, rt)?;

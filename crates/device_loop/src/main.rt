@@ -12,7 +12,7 @@ mod guest;
 mod statistics;
 
 use devices::{Console, Device, QueueDevice};
-use event_manager::{Error, EventManager, PlainPoller, SubscriberOps};
+use event_manager::{Error, EventManager, Ledgers, Naming, PlainPoller, SubscriberOps};
 use fault::Fault;
 use guest::Guest;
 use statistics::ReadStatistics;
@@ -21,7 +21,7 @@ use std::marker::Brand;
 use std::process::ExitCode;
 use std::sync::Wait;
 use std::sync::atomic::{AtomicBool, Ordering};
-use std::sync::ledger::{Blank, Ledger};
+use std::sync::ledger::Blank;
 use std::thread;
 use std::thread::Threads;
 use std::time::Clock;
@@ -35,7 +35,7 @@ trait Host: Threads + Wait + Clock + Print + Copy + Send + Sync + Drop {}
 impl<R: Threads + Wait + Clock + Print + Copy + Send + Sync + Drop> Host for R {}
 
 /// The loop: its subscribers, its jobs, the ledgers of its tickets and taken jobs, and its poller.
-type DeviceLoop<L, T, R> = EventManager<Device<R>, ReadStatistics, L, T, PlainPoller<Epoll<R>>>;
+type DeviceLoop<N, R> = EventManager<Device<R>, ReadStatistics, N, PlainPoller<Epoll<R>>>;
 
 /// How many parts the ledger of a manager's tickets has.
 const TICKET_PARTS: u64 = 9223372036854775808;
@@ -47,9 +47,9 @@ const MAX_WAITS: u32 = 600;
 const MAX_WAIT: i32 = 100;
 
 /// Runs the loop until the flag is set, or it has waited `MAX_WAITS` times. An error of the loop is passed on.
-fn run_until<L: Ledger, T: Ledger, R: Wait + Clock + Clone + Send + Drop>(
+fn run_until<N: Naming, R: Wait + Clock + Clone + Send + Drop>(
     rt: &R,
-    manager: &mut DeviceLoop<L, T, R>,
+    manager: &mut DeviceLoop<N, R>,
     stopped: &AtomicBool,
 ) -> Result<(), Error> {
     for _wait in 0..MAX_WAITS {
@@ -65,9 +65,9 @@ fn run_until<L: Ledger, T: Ledger, R: Wait + Clock + Clone + Send + Drop>(
 ///
 /// Whatever ends the loop, it is closed, so that the guest waits for no reply any more. Where no thread can be made, the
 /// loop runs to its last wait, and then the guest, whose first job is refused.
-fn run_beside<L: Ledger + Send + Sync, T: Ledger + Send + Sync, R: Host>(
+fn run_beside<N: Naming + Send + Sync, R: Host>(
     rt: &R,
-    mut manager: DeviceLoop<L, T, R>,
+    mut manager: DeviceLoop<N, R>,
     guest: &Guest,
 ) -> Result<(), Fault> {
     let endpoint = manager.remote_endpoint()?;
@@ -93,17 +93,16 @@ fn run_beside<L: Ledger + Send + Sync, T: Ledger + Send + Sync, R: Host>(
 }
 
 /// Makes the devices, the guest and the loop, and runs them.
-fn run_machine<L: Ledger + Send + Sync, T: Ledger + Send + Sync, R: Host>(
+fn run_machine<N: Naming + Send + Sync, R: Host>(
     rt: &R,
     alloc: Global,
     tickets: Blank,
     taken: Blank,
 ) -> Result<(), Fault>
-    requires tickets_name { tickets.name ≡ L.name }
-    requires tickets_parts { (tickets.parts ≡ L.parts) × (tickets.parts ≡ 9223372036854775808) }
-    requires taken_name { taken.name ≡ T.name }
-    requires taken_parts { (taken.parts ≡ T.parts) × (taken.parts ≡ 1) }
+    requires tickets { (tickets.name ≡ N.tickets) × (tickets.parts ≡ 9223372036854775808) }
+    requires taken { (taken.name ≡ N.taken) × (taken.parts ≡ 1) }
 {
+    let ledgers = Ledgers::<N>::new(tickets, taken);
     let epoll = Epoll::new(*rt, alloc)?;
     let first = EventFd::new(&epoll, 0, rt)?;
     let second = EventFd::new(&epoll, 0, rt)?;
@@ -112,7 +111,7 @@ fn run_machine<L: Ledger + Send + Sync, T: Ledger + Send + Sync, R: Host>(
     let console = Console::new(&line, *rt)?;
     let event_fd = EventFd::new(&epoll, 0, rt)?;
     let poller = PlainPoller(epoll);
-    let mut manager = DeviceLoop::<L, T, R>::new(alloc, poller, event_fd, tickets, taken)?;
+    let mut manager = DeviceLoop::<N, R>::new(alloc, poller, event_fd, ledgers)?;
     let guest = Guest {
         first,
         second,
@@ -125,7 +124,7 @@ fn run_machine<L: Ledger + Send + Sync, T: Ledger + Send + Sync, R: Host>(
 
 fn main(rt: HostRuntime) -> ExitCode {
     let (tickets, taken) = (Blank::new(TICKET_PARTS), Blank::new(1));
-    match run_machine::<Brand, Brand, HostRuntime>(&rt, rt.alloc(), tickets, taken) {
+    match run_machine::<Brand, HostRuntime>(&rt, rt.alloc(), tickets, taken) {
         Ok(()) => ExitCode::SUCCESS,
         Err(fault) => {
             let _ = eprintln!(rt; "device_loop: {fault}");

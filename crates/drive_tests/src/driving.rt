@@ -5,7 +5,7 @@ use crate::subscribers::Quiet;
 use crate::told::{Told, tell};
 use event_manager::drive::drive;
 use event_manager::{
-    Call, EventManager, EventPoller, MutEventSubscriber, NoJob, PlainPoller, Reply, Result,
+    Call, EventManager, EventPoller, MutEventSubscriber, Naming, NoJob, PlainPoller, Reply, Result,
     SubscriberId,
 };
 use fixtures::making::{WithManager, with_manager};
@@ -13,7 +13,6 @@ use fixtures::parts::silent_parts;
 use std::alloc::Global;
 use std::process::Abort;
 use std::sync::Wait;
-use std::sync::ledger::Ledger;
 use std::time::Clock;
 use vmm_sys::script_poller::ScriptPoller;
 
@@ -30,9 +29,9 @@ impl<R: Wait + Clock, S: MutEventSubscriber + Drop> WithManager for Driving<'_, 
 
     type Output = Vec<Reply<S>>;
 
-    fn run<L: Ledger, T: Ledger, P: EventPoller>(
+    fn run<N: Naming, P: EventPoller>(
         self,
-        manager: &mut EventManager<S, NoJob, L, T, P>,
+        manager: &mut EventManager<S, NoJob, N, P>,
     ) -> Result<Vec<Reply<S>>> {
         let Driving { rt, lists, replies } = self;
         let mut replies = replies;

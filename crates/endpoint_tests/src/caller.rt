@@ -2,11 +2,10 @@
 
 use crate::expecting::expect_ok;
 use crate::threads::{Host, LIMIT};
-use event_manager::{Job, MutEventSubscriber, RemoteEndpoint, Result};
+use event_manager::{Job, MutEventSubscriber, Naming, RemoteEndpoint, Result};
 use std::alloc::Global;
 use std::sync::Arc;
 use std::sync::atomic::{AtomicBool, Ordering};
-use std::sync::ledger::Ledger;
 use std::thread;
 use std::thread::JoinHandle;
 use std::time::Duration;
@@ -19,18 +18,17 @@ pub struct Caller<V> {
 }
 
 /// Calls by this endpoint for the reply of this job.
-pub fn start<S, J, L, T, R>(
+pub fn start<S, J, N, R>(
     rt: R,
     alloc: Global,
-    endpoint: RemoteEndpoint<S, J, L, T>,
+    endpoint: RemoteEndpoint<S, J, N>,
     job: J,
 ) -> Caller<J::Reply>
 where
     S: MutEventSubscriber + Send + 'static,
     J: Job<S> + Send + 'static,
     J::Reply: Send + Drop + 'static,
-    L: Ledger + Send + Sync + 'static,
-    T: Ledger + Send + Sync + 'static,
+    N: Naming + Send + Sync + 'static,
     R: Host + 'static,
 {
     let over = expect_ok(&rt, Arc::new(alloc, AtomicBool::new(false)));

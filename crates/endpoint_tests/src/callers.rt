@@ -8,19 +8,19 @@ use crate::courses::expect_let_go;
 use crate::expecting::{expect_noted, expect_ok, expect_run_within, expect_same, new_notes};
 use crate::threads::{Host, wait_until_pending};
 use crate::work::{Notes, Work};
-use event_manager::{Error, EventManager, PlainPoller, RemoteEndpoint, Result};
+use event_manager::{Error, EventManager, Ledgers, Naming, PlainPoller, RemoteEndpoint, Result};
 use fixtures::making::make;
 use fixtures::parts::{Idle, OnTable, on_table};
 use std::alloc::Global;
 use std::marker::Brand;
-use std::sync::ledger::{Blank, Ledger};
+use std::sync::ledger::Blank;
 use std::thread;
 use std::time::Duration;
 use vmm_sys::epoll::Epoll;
 
-type Loop<L, T, R> = EventManager<Idle, Work, L, T, PlainPoller<Epoll<R>>>;
+type Loop<N, R> = EventManager<Idle, Work, N, PlainPoller<Epoll<R>>>;
 
-type Sender<L, T> = RemoteEndpoint<Idle, Work, L, T>;
+type Sender<N> = RemoteEndpoint<Idle, Work, N>;
 
 /// How many milliseconds the callers are given to fall asleep.
 const TO_SLEEP: u64 = 100;
@@ -39,16 +39,15 @@ struct Line<'a> {
 }
 
 /// Sends the jobs, each once the one before waits: the callers.
-fn line_up<L, T, R>(
+fn line_up<N, R>(
     rt: R,
     alloc: Global,
-    endpoint: &Sender<L, T>,
+    endpoint: &Sender<N>,
     notes: &Notes,
     jobs: &[(u64, bool)],
 ) -> Vec<Caller<u64>>
 where
-    L: Ledger + Send + Sync + 'static,
-    T: Ledger + Send + Sync + 'static,
+    N: Naming + Send + Sync + 'static,
     R: Host + 'static,
 {
     let mut callers = Vec::new(alloc);
@@ -71,11 +70,7 @@ where
 }
 
 /// Runs, or not, once the callers sleep, and closes.
-fn run_and_close<L: Ledger, T: Ledger, R: Host>(
-    rt: &R,
-    manager: Loop<L, T, R>,
-    is_run: bool,
-) -> (u64, u64) {
+fn run_and_close<N: Naming, R: Host>(rt: &R, manager: Loop<N, R>, is_run: bool) -> (u64, u64) {
     let mut manager = manager;
     thread::sleep(rt, Duration::from_millis(TO_SLEEP));
     if is_run {
@@ -94,7 +89,7 @@ fn expect_replies<R: Host>(rt: &R, callers: Vec<Caller<u64>>, replies: &[Result<
 }
 
 /// Expects what the line says of a manager of these parts.
-fn expect_line_on<L, T, R>(
+fn expect_line_on<N, R>(
     rt: R,
     parts: OnTable<R>,
     notes: &Notes,
@@ -103,16 +98,14 @@ fn expect_line_on<L, T, R>(
     taken: Blank,
 )
 where
-    L: Ledger + Send + Sync + 'static,
-    T: Ledger + Send + Sync + 'static,
+    N: Naming + Send + Sync + 'static,
     R: Host + 'static,
-    requires tickets_name { tickets.name ≡ L.name }
-    requires tickets_parts { (tickets.parts ≡ L.parts) × (tickets.parts ≡ 9223372036854775808) }
-    requires taken_name { taken.name ≡ T.name }
-    requires taken_parts { (taken.parts ≡ T.parts) × (taken.parts ≡ 1) }
+    requires tickets { (tickets.name ≡ N.tickets) × (tickets.parts ≡ 9223372036854775808) }
+    requires taken { (taken.name ≡ N.taken) × (taken.parts ≡ 1) }
 {
+    let ledgers = Ledgers::<N>::new(tickets, taken);
     let alloc = parts.alloc;
-    let manager = expect_ok(&rt, make::<Idle, Work, L, T, _>(parts, tickets, taken));
+    let manager = expect_ok(&rt, make::<Idle, Work, N, _>(parts, ledgers));
     let endpoint = expect_ok(&rt, manager.remote_endpoint());
     let callers = line_up(rt, alloc, &endpoint, notes, line.jobs);
     let counts = run_and_close(&rt, manager, line.is_run);
@@ -129,7 +122,7 @@ fn expect_line<R: Host + 'static>(rt: R, alloc: Global, line: &Line<'_>) {
     let notes = new_notes(&rt, alloc);
     let parts = expect_ok(&rt, on_table(rt, alloc, 0));
     let tickets = Blank::new(9223372036854775808);
-    expect_line_on::<Brand, Brand, R>(rt, parts, &notes, line, tickets, Blank::new(1));
+    expect_line_on::<Brand, R>(rt, parts, &notes, line, tickets, Blank::new(1));
 }
 
 #[test]

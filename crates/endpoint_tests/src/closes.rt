@@ -6,26 +6,25 @@ use crate::meetings::{Kind, Loop, Sender, Shared, meet};
 use crate::refusals::{expect_after, expect_refusals};
 use crate::threads::{Host, Looping, wait_until_pending};
 use crate::work::Notes;
-use event_manager::{Error, Ticket};
+use event_manager::{Error, Naming, Ticket};
 use fixtures::parts::on_table;
 use std::sync::Arc;
-use std::sync::ledger::Ledger;
 use vmm_sys::epoll::{AsRawFd, ControlOperation, EpollEvent, EventSet};
 use vmm_sys::poller::Poller;
 
 /// Sends two jobs that hold the notes.
-pub fn waiting<L: Ledger, T: Ledger, R: Looping>(rt: &R, endpoint: &Sender<L, T>, notes: &Notes) {
+pub fn waiting<N: Naming, R: Looping>(rt: &R, endpoint: &Sender<N>, notes: &Notes) {
     expect_ok(rt, fire_note(rt, endpoint, notes, 1));
     expect_ok(rt, fire_note(rt, endpoint, notes, 2));
     expect_same(rt, &Arc::strong_count(notes), &3);
 }
 
 /// Expects of endpoints of a closed manager that each send is refused and a kick agreed, and that no job is left.
-pub fn expect_closed<L: Ledger, T: Ledger, R: Looping>(
+pub fn expect_closed<N: Naming, R: Looping>(
     rt: &R,
-    endpoints: &[Sender<L, T>; 2],
+    endpoints: &[Sender<N>; 2],
     notes: &Notes,
-    shown: &Option<Ticket<L>>,
+    shown: &Option<Ticket<N>>,
 ) {
     for endpoint in endpoints {
         expect_refusals(rt, endpoint, Error::ChannelSend, 0);
@@ -39,21 +38,13 @@ pub fn expect_closed<L: Ledger, T: Ledger, R: Looping>(
 }
 
 /// Closes when two jobs wait, neither of which was taken.
-pub fn close_on_two<L: Ledger, T: Ledger, R: Host>(
-    rt: &R,
-    manager: Loop<L, T, R>,
-    endpoint: &Sender<L, T>,
-) {
+pub fn close_on_two<N: Naming, R: Host>(rt: &R, manager: Loop<N, R>, endpoint: &Sender<N>) {
     expect_same(rt, &wait_until_pending(rt, endpoint, 2), &true);
     expect_close(rt, manager, (2, 0));
 }
 
 /// Sends two jobs, and a third once none waits any more, which is refused.
-pub fn send_round_a_close<L: Ledger, T: Ledger, R: Host>(
-    rt: &R,
-    endpoint: &Sender<L, T>,
-    shared: &Shared,
-) {
+pub fn send_round_a_close<N: Naming, R: Host>(rt: &R, endpoint: &Sender<N>, shared: &Shared) {
     expect_same(rt, &fire_note(rt, endpoint, &shared.notes, 1), &Ok(1));
     expect_same(rt, &fire_note(rt, endpoint, &shared.notes, 2), &Ok(2));
     expect_same(rt, &wait_until_pending(rt, endpoint, 0), &true);

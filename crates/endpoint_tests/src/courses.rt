@@ -4,13 +4,14 @@ use crate::expecting::{expect_ok, expect_same, new_notes};
 use crate::threads::{Host, Looping};
 use crate::work::{Notes, Work};
 use crate::{closes, queue, refusals, reports, sends};
-use event_manager::{EventManager, EventPoller, RemoteEndpoint, Ticket, WithLedgers, with_ledgers};
+use event_manager::{
+    EventManager, EventPoller, Ledgers, Naming, RemoteEndpoint, Ticket, WithLedgers, with_ledgers,
+};
 use fixtures::making::make;
 use fixtures::parts::{Idle, Parts, on_table};
 use std::alloc::Global;
 use std::process::Abort;
 use std::sync::Arc;
-use std::sync::ledger::{Blank, Ledger};
 use vmm_sys::eventfd::EventFd;
 
 /// What is done before the close.
@@ -39,10 +40,10 @@ pub enum Course<'a> {
 }
 
 /// Follows the course.
-fn follow<L: Ledger, T: Ledger, P: EventPoller, R: Looping>(
+fn follow<N: Naming, P: EventPoller, R: Looping>(
     rt: &R,
-    manager: &mut EventManager<Idle, Work, L, T, P>,
-    endpoint: &RemoteEndpoint<Idle, Work, L, T>,
+    manager: &mut EventManager<Idle, Work, N, P>,
+    endpoint: &RemoteEndpoint<Idle, Work, N>,
     notes: &Notes,
     course: &Course<'_>,
 ) {
@@ -61,11 +62,11 @@ fn follow<L: Ledger, T: Ledger, P: EventPoller, R: Looping>(
 }
 
 /// Sends one job more where jobs wait.
-fn send_more<L: Ledger, T: Ledger, R: Looping>(
+fn send_more<N: Naming, R: Looping>(
     rt: &R,
-    endpoint: &RemoteEndpoint<Idle, Work, L, T>,
+    endpoint: &RemoteEndpoint<Idle, Work, N>,
     course: &Course<'_>,
-) -> Option<Ticket<L>> {
+) -> Option<Ticket<N>> {
     match course {
         Course::Waiting => Some(expect_ok(rt, endpoint.fire(Work::Own(0), rt))),
         _ => None,
@@ -73,9 +74,9 @@ fn send_more<L: Ledger, T: Ledger, R: Looping>(
 }
 
 /// Closes the manager, of which so many tickets were issued and so many jobs taken.
-pub fn expect_close<L: Ledger, T: Ledger, P: EventPoller + Drop, R: Looping>(
+pub fn expect_close<N: Naming, P: EventPoller + Drop, R: Looping>(
     rt: &R,
-    manager: EventManager<Idle, Work, L, T, P>,
+    manager: EventManager<Idle, Work, N, P>,
     counts: (u64, u64),
 ) {
     let closed = manager.close(rt);
@@ -83,10 +84,10 @@ pub fn expect_close<L: Ledger, T: Ledger, P: EventPoller + Drop, R: Looping>(
 }
 
 /// Two endpoints of the manager.
-fn endpoints_of<L: Ledger, T: Ledger, P: EventPoller, R: Abort>(
+fn endpoints_of<N: Naming, P: EventPoller, R: Abort>(
     rt: &R,
-    manager: &EventManager<Idle, Work, L, T, P>,
-) -> [RemoteEndpoint<Idle, Work, L, T>; 2] {
+    manager: &EventManager<Idle, Work, N, P>,
+) -> [RemoteEndpoint<Idle, Work, N>; 2] {
     [
         expect_ok(rt, manager.remote_endpoint()),
         expect_ok(rt, manager.remote_endpoint()),
@@ -94,13 +95,13 @@ fn endpoints_of<L: Ledger, T: Ledger, P: EventPoller, R: Abort>(
 }
 
 /// Follows the course by the first endpoint: the last ticket, if it may be shown.
-fn follow_and_send<L: Ledger, T: Ledger, P: EventPoller, R: Looping>(
+fn follow_and_send<N: Naming, P: EventPoller, R: Looping>(
     rt: &R,
-    manager: &mut EventManager<Idle, Work, L, T, P>,
-    endpoints: &[RemoteEndpoint<Idle, Work, L, T>; 2],
+    manager: &mut EventManager<Idle, Work, N, P>,
+    endpoints: &[RemoteEndpoint<Idle, Work, N>; 2],
     notes: &Notes,
     course: &Course<'_>,
-) -> Option<Ticket<L>> {
+) -> Option<Ticket<N>> {
     let [endpoint, _] = endpoints;
     follow(rt, manager, endpoint, notes, course);
     send_more(rt, endpoint, course)
@@ -118,7 +119,7 @@ struct Run<'a, R, P> {
 impl<R: Looping, P: EventPoller + Drop> WithLedgers for Run<'_, R, P> {
     type Output = ();
 
-    fn run<L: Ledger + Send + Sync, T: Ledger + Send + Sync>(self, tickets: Blank, taken: Blank) {
+    fn run<N: Naming + Send + Sync>(self, ledgers: Ledgers<N>) {
         let Run {
             rt,
             parts,
@@ -126,7 +127,7 @@ impl<R: Looping, P: EventPoller + Drop> WithLedgers for Run<'_, R, P> {
             course,
             counts,
         } = self;
-        let mut manager = expect_ok(rt, make::<Idle, Work, L, T, P>(parts, tickets, taken));
+        let mut manager = expect_ok(rt, make::<Idle, Work, N, P>(parts, ledgers));
         let endpoints = endpoints_of(rt, &manager);
         let shown = follow_and_send(rt, &mut manager, &endpoints, notes, course);
         expect_close(rt, manager, counts);

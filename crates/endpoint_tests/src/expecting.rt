@@ -1,11 +1,12 @@
 //! What the bodies of tests do again and again, each time with a word on what must come of it.
 
 use crate::work::{Notes, Work};
-use event_manager::{EventManager, EventPoller, Job, MutEventSubscriber, RemoteEndpoint, Result};
+use event_manager::{
+    EventManager, EventPoller, Job, MutEventSubscriber, Naming, RemoteEndpoint, Result,
+};
 use std::alloc::Global;
 use std::fmt::Debug;
 use std::process::Abort;
-use std::sync::ledger::Ledger;
 use std::sync::{Arc, Mutex, Wait};
 use std::time::Clock;
 
@@ -25,9 +26,9 @@ pub fn new_notes<R: Abort>(rt: &R, alloc: Global) -> Notes {
 }
 
 /// Sends a job that notes this: the number of its ticket.
-pub fn fire_note<S: MutEventSubscriber, L: Ledger, T: Ledger, R: Wait + Clock>(
+pub fn fire_note<S: MutEventSubscriber, N: Naming, R: Wait + Clock>(
     rt: &R,
-    endpoint: &RemoteEndpoint<S, Work, L, T>,
+    endpoint: &RemoteEndpoint<S, Work, N>,
     notes: &Notes,
     number: u64,
 ) -> Result<u64> {
@@ -36,16 +37,15 @@ pub fn fire_note<S: MutEventSubscriber, L: Ledger, T: Ledger, R: Wait + Clock>(
 }
 
 /// Expects this answer of a run without a limit.
-pub fn expect_run<S, J, L, T, P, R>(
+pub fn expect_run<S, J, N, P, R>(
     rt: &R,
-    manager: &mut EventManager<S, J, L, T, P>,
+    manager: &mut EventManager<S, J, N, P>,
     answer: Result<usize>,
 )
 where
     S: MutEventSubscriber,
     J: Job<S>,
-    L: Ledger,
-    T: Ledger,
+    N: Naming,
     P: EventPoller,
     R: Wait + Clock + Abort,
 {
@@ -53,17 +53,16 @@ where
 }
 
 /// Expects this answer of a run of at most so many milliseconds.
-pub fn expect_run_within<S, J, L, T, P, R>(
+pub fn expect_run_within<S, J, N, P, R>(
     rt: &R,
-    manager: &mut EventManager<S, J, L, T, P>,
+    manager: &mut EventManager<S, J, N, P>,
     ms: i32,
     answer: Result<usize>,
 )
 where
     S: MutEventSubscriber,
     J: Job<S>,
-    L: Ledger,
-    T: Ledger,
+    N: Naming,
     P: EventPoller,
     R: Wait + Clock + Abort,
 {
@@ -71,9 +70,9 @@ where
 }
 
 /// Expects that so many jobs wait.
-pub fn expect_pending<S: MutEventSubscriber, J: Job<S>, L: Ledger, T: Ledger, R: Abort>(
+pub fn expect_pending<S: MutEventSubscriber, J: Job<S>, N: Naming, R: Abort>(
     rt: &R,
-    endpoint: &RemoteEndpoint<S, J, L, T>,
+    endpoint: &RemoteEndpoint<S, J, N>,
     count: usize,
 ) {
     expect_same(rt, &endpoint.pending(), &Some(count));

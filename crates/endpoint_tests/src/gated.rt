@@ -6,14 +6,10 @@ use crate::expecting::{
 use crate::meetings::{Kind, Loop, Sender, Shared, meet};
 use crate::threads::Host;
 use crate::work::Work;
-use std::sync::ledger::Ledger;
+use event_manager::Naming;
 
 /// Sends a job that waits at the gate, and one that notes 2.
-pub fn fire_at_gate<L: Ledger, T: Ledger, R: Host>(
-    rt: &R,
-    endpoint: &Sender<L, T>,
-    shared: &Shared,
-) {
+pub fn fire_at_gate<N: Naming, R: Host>(rt: &R, endpoint: &Sender<N>, shared: &Shared) {
     let gate = expect_ok(rt, shared.gate.clone());
     let notes = expect_ok(rt, shared.notes.clone());
     expect_ok(rt, endpoint.fire(Work::Pass(gate, notes), rt));
@@ -21,11 +17,7 @@ pub fn fire_at_gate<L: Ledger, T: Ledger, R: Host>(
 }
 
 /// Sends while a job waits at the gate and no other waits, and then lets it go on.
-pub fn send_meanwhile<L: Ledger, T: Ledger, R: Host>(
-    rt: &R,
-    endpoint: &Sender<L, T>,
-    shared: &Shared,
-) {
+pub fn send_meanwhile<N: Naming, R: Host>(rt: &R, endpoint: &Sender<N>, shared: &Shared) {
     expect_same(rt, &shared.gate.wait_for(1, rt), &true);
     expect_pending(rt, endpoint, 0);
     expect_same(rt, &fire_note(rt, endpoint, &shared.notes, 3), &Ok(3));
@@ -33,11 +25,7 @@ pub fn send_meanwhile<L: Ledger, T: Ledger, R: Host>(
 }
 
 /// Runs for the first two jobs, and then for the third.
-pub fn run_twice<L: Ledger, T: Ledger, R: Host>(
-    rt: &R,
-    manager: &mut Loop<L, T, R>,
-    shared: &Shared,
-) {
+pub fn run_twice<N: Naming, R: Host>(rt: &R, manager: &mut Loop<N, R>, shared: &Shared) {
     expect_run_within(rt, manager, 1000, Ok(1));
     expect_noted(rt, &shared.notes, &[1, 2]);
     expect_run_within(rt, manager, 0, Ok(1));

@@ -4,23 +4,19 @@ use crate::expecting::{expect_ok, expect_same};
 use crate::meetings::{Kind, Sender, Shared, meet};
 use crate::threads::Host;
 use crate::work::Work;
+use event_manager::Naming;
 use std::sync::atomic::Ordering;
-use std::sync::ledger::Ledger;
 
 /// How often a thread looks, and how often the other sends, at most: for seconds.
 const MOST: u32 = 50_000_000;
 
 /// Sends a job, behind which the counter is full.
-pub fn fill<L: Ledger, T: Ledger, R: Host>(rt: &R, endpoint: &Sender<L, T>) {
+pub fn fill<N: Naming, R: Host>(rt: &R, endpoint: &Sender<N>) {
     expect_ok(rt, endpoint.fire(Work::Own(0), rt));
 }
 
 /// Sends until it is told to stop, and expects that each send is refused.
-pub fn send_in_vain<L: Ledger, T: Ledger, R: Host>(
-    rt: &R,
-    endpoint: &Sender<L, T>,
-    shared: &Shared,
-) {
+pub fn send_in_vain<N: Naming, R: Host>(rt: &R, endpoint: &Sender<N>, shared: &Shared) {
     for _send in 0..MOST {
         if shared.is_over.load(Ordering::SeqCst) {
             break;
@@ -30,7 +26,7 @@ pub fn send_in_vain<L: Ledger, T: Ledger, R: Host>(
 }
 
 /// How many jobs wait, once that isn't 1.
-fn look_for_another<L: Ledger, T: Ledger>(endpoint: &Sender<L, T>) -> Option<usize> {
+fn look_for_another<N: Naming>(endpoint: &Sender<N>) -> Option<usize> {
     for _look in 0..MOST {
         let seen = endpoint.pending();
         if seen != Some(1) {
@@ -41,7 +37,7 @@ fn look_for_another<L: Ledger, T: Ledger>(endpoint: &Sender<L, T>) -> Option<usi
 }
 
 /// Looks until the answer isn't that one job waits, expects that it isn't known, and tells the other thread to stop.
-pub fn look<L: Ledger, T: Ledger, R: Host>(rt: &R, endpoint: &Sender<L, T>, shared: &Shared) {
+pub fn look<N: Naming, R: Host>(rt: &R, endpoint: &Sender<N>, shared: &Shared) {
     let seen = look_for_another(endpoint);
     shared.is_over.store(true, Ordering::SeqCst);
     expect_same(rt, &seen, &None);

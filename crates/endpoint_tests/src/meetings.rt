@@ -6,20 +6,20 @@ use crate::expecting::{expect_ok, expect_pending, new_notes};
 use crate::threads::Host;
 use crate::work::{Gate, Notes, Work};
 use crate::{closes, gated, looks};
-use event_manager::{EventManager, PlainPoller, RemoteEndpoint};
+use event_manager::{EventManager, Ledgers, Naming, PlainPoller, RemoteEndpoint};
 use fixtures::making::make;
 use fixtures::parts::{Idle, OnTable, on_table};
 use std::alloc::Global;
 use std::marker::Brand;
 use std::sync::Arc;
 use std::sync::atomic::AtomicBool;
-use std::sync::ledger::{Blank, Ledger};
+use std::sync::ledger::Blank;
 use std::thread;
 use vmm_sys::epoll::Epoll;
 
-pub type Loop<L, T, R> = EventManager<Idle, Work, L, T, PlainPoller<Epoll<R>>>;
+pub type Loop<N, R> = EventManager<Idle, Work, N, PlainPoller<Epoll<R>>>;
 
-pub type Sender<L, T> = RemoteEndpoint<Idle, Work, L, T>;
+pub type Sender<N> = RemoteEndpoint<Idle, Work, N>;
 
 /// What the two threads do.
 #[derive(Drop)]
@@ -41,12 +41,7 @@ pub struct Shared {
 }
 
 /// What comes before the two.
-fn prepare<L: Ledger, T: Ledger, R: Host>(
-    rt: &R,
-    endpoint: &Sender<L, T>,
-    shared: &Shared,
-    kind: &Kind,
-) {
+fn prepare<N: Naming, R: Host>(rt: &R, endpoint: &Sender<N>, shared: &Shared, kind: &Kind) {
     match kind {
         Kind::AtGate => gated::fire_at_gate(rt, endpoint, shared),
         Kind::LooksBesideSends => looks::fill(rt, endpoint),
@@ -55,10 +50,10 @@ fn prepare<L: Ledger, T: Ledger, R: Host>(
 }
 
 /// What the loop's thread does.
-fn on_loop<L: Ledger, T: Ledger, R: Host>(
+fn on_loop<N: Naming, R: Host>(
     rt: &R,
-    manager: Loop<L, T, R>,
-    endpoint: &Sender<L, T>,
+    manager: Loop<N, R>,
+    endpoint: &Sender<N>,
     shared: &Shared,
     kind: &Kind,
 ) {
@@ -71,12 +66,7 @@ fn on_loop<L: Ledger, T: Ledger, R: Host>(
 }
 
 /// What the sender's thread does.
-fn beside<L: Ledger, T: Ledger, R: Host>(
-    rt: &R,
-    endpoint: &Sender<L, T>,
-    shared: &Shared,
-    kind: &Kind,
-) {
+fn beside<N: Naming, R: Host>(rt: &R, endpoint: &Sender<N>, shared: &Shared, kind: &Kind) {
     match kind {
         Kind::AtGate => gated::send_meanwhile(rt, endpoint, shared),
         Kind::LooksBesideSends => looks::send_in_vain(rt, endpoint, shared),
@@ -85,7 +75,7 @@ fn beside<L: Ledger, T: Ledger, R: Host>(
 }
 
 /// What is so behind the two.
-fn expect_behind<L: Ledger, T: Ledger, R: Host>(rt: &R, endpoint: &Sender<L, T>, kind: &Kind) {
+fn expect_behind<N: Naming, R: Host>(rt: &R, endpoint: &Sender<N>, kind: &Kind) {
     let pending = match kind {
         Kind::LooksBesideSends => 1,
         Kind::AtGate | Kind::CloseBesideSends => 0,
@@ -94,10 +84,10 @@ fn expect_behind<L: Ledger, T: Ledger, R: Host>(rt: &R, endpoint: &Sender<L, T>,
 }
 
 /// Both threads at once.
-fn join_both<L: Ledger + Send + Sync, T: Ledger + Send + Sync, R: Host>(
+fn join_both<N: Naming + Send + Sync, R: Host>(
     rt: &R,
-    manager: Loop<L, T, R>,
-    endpoint: &Sender<L, T>,
+    manager: Loop<N, R>,
+    endpoint: &Sender<N>,
     shared: &Shared,
     kind: &Kind,
 ) {
@@ -109,7 +99,7 @@ fn join_both<L: Ledger + Send + Sync, T: Ledger + Send + Sync, R: Host>(
 }
 
 /// Lets the two meet at a manager of these parts.
-fn meet_on<L: Ledger + Send + Sync, T: Ledger + Send + Sync, R: Host>(
+fn meet_on<N: Naming + Send + Sync, R: Host>(
     rt: &R,
     parts: OnTable<R>,
     shared: &Shared,
@@ -117,12 +107,11 @@ fn meet_on<L: Ledger + Send + Sync, T: Ledger + Send + Sync, R: Host>(
     tickets: Blank,
     taken: Blank,
 )
-    requires tickets_name { tickets.name ≡ L.name }
-    requires tickets_parts { (tickets.parts ≡ L.parts) × (tickets.parts ≡ 9223372036854775808) }
-    requires taken_name { taken.name ≡ T.name }
-    requires taken_parts { (taken.parts ≡ T.parts) × (taken.parts ≡ 1) }
+    requires tickets { (tickets.name ≡ N.tickets) × (tickets.parts ≡ 9223372036854775808) }
+    requires taken { (taken.name ≡ N.taken) × (taken.parts ≡ 1) }
 {
-    let manager = expect_ok(rt, make::<Idle, Work, L, T, _>(parts, tickets, taken));
+    let ledgers = Ledgers::<N>::new(tickets, taken);
+    let manager = expect_ok(rt, make::<Idle, Work, N, _>(parts, ledgers));
     let endpoint = expect_ok(rt, manager.remote_endpoint());
     prepare(rt, &endpoint, shared, kind);
     join_both(rt, manager, &endpoint, shared, kind);
@@ -143,5 +132,5 @@ pub fn meet<R: Host>(rt: &R, alloc: Global, value: u64, kind: &Kind) {
     let shared = new_shared(rt, alloc);
     let parts = expect_ok(rt, on_table(*rt, alloc, value));
     let tickets = Blank::new(9223372036854775808);
-    meet_on::<Brand, Brand, R>(rt, parts, &shared, kind, tickets, Blank::new(1));
+    meet_on::<Brand, R>(rt, parts, &shared, kind, tickets, Blank::new(1));
 }

@@ -5,13 +5,12 @@ use crate::noting::{Noting, add_noting, make_noting};
 use crate::threads::{Host, Looping};
 use crate::work::Notes;
 use event_manager::{
-    EventManager, EventPoller, EventSet, Events, Job, Registry, RemoteEndpoint, Result,
+    EventManager, EventPoller, EventSet, Events, Job, Naming, Registry, RemoteEndpoint, Result,
     SubscriberId, SubscriberOps,
 };
 use fixtures::making::{WithEndpoint, with_endpoint};
 use fixtures::parts::{OnTable, on_table};
 use std::sync::Wait;
-use std::sync::ledger::Ledger;
 use std::time::Clock;
 use vmm_sys::eventfd::EventFd;
 
@@ -122,10 +121,10 @@ impl<R: Looping> WithEndpoint for Joining<'_, R> {
 
     type Output = ();
 
-    fn run<L: Ledger, T: Ledger, P: EventPoller>(
+    fn run<N: Naming, P: EventPoller>(
         self,
-        manager: &mut EventManager<Noting<R>, Join<R>, L, T, P>,
-        endpoint: &RemoteEndpoint<Noting<R>, Join<R>, L, T>,
+        manager: &mut EventManager<Noting<R>, Join<R>, N, P>,
+        endpoint: &RemoteEndpoint<Noting<R>, Join<R>, N>,
     ) -> Result<()> {
         expect_run_within(self.rt, manager, 0, Ok(0));
         let subscriber = make_noting(self.rt, self.own, DELIVERED, self.notes);
@@ -165,10 +164,10 @@ impl<R: Looping> WithEndpoint for Leaving<'_, R> {
 
     type Output = ();
 
-    fn run<L: Ledger, T: Ledger, P: EventPoller>(
+    fn run<N: Naming, P: EventPoller>(
         self,
-        manager: &mut EventManager<Noting<R>, Leave, L, T, P>,
-        endpoint: &RemoteEndpoint<Noting<R>, Leave, L, T>,
+        manager: &mut EventManager<Noting<R>, Leave, N, P>,
+        endpoint: &RemoteEndpoint<Noting<R>, Leave, N>,
     ) -> Result<()> {
         let id = add_noting(self.rt, manager, self.own, DELIVERED, self.notes);
         expect_ok(self.rt, endpoint.fire(Leave(id), self.rt));
@@ -207,10 +206,10 @@ impl<R: Looping> WithEndpoint for Renumbering<'_, R> {
 
     type Output = ();
 
-    fn run<L: Ledger, T: Ledger, P: EventPoller>(
+    fn run<N: Naming, P: EventPoller>(
         self,
-        manager: &mut EventManager<Noting<R>, Renumber, L, T, P>,
-        endpoint: &RemoteEndpoint<Noting<R>, Renumber, L, T>,
+        manager: &mut EventManager<Noting<R>, Renumber, N, P>,
+        endpoint: &RemoteEndpoint<Noting<R>, Renumber, N>,
     ) -> Result<()> {
         let id = add_noting(self.rt, manager, self.own, DELIVERED, self.notes);
         expect_ok(self.rt, endpoint.fire(Renumber { id, number: 2 }, self.rt));

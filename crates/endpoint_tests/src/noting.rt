@@ -4,11 +4,10 @@ use crate::expecting::expect_ok;
 use crate::threads::Looping;
 use crate::work::{Notes, note};
 use event_manager::{
-    EventManager, EventOps, EventPoller, Events, Job, MutEventSubscriber, SubscriberId,
+    EventManager, EventOps, EventPoller, Events, Job, MutEventSubscriber, Naming, SubscriberId,
     SubscriberOps,
 };
 use std::sync::Wait;
-use std::sync::ledger::Ledger;
 
 /// Adds one descriptor in `init`, and notes its number at each event.
 #[derive(Drop)]
@@ -48,9 +47,9 @@ pub fn make_noting<R: Looping>(rt: &R, own: Events, number: u64, notes: &Notes) 
 }
 
 /// Takes in a subscriber of these events that notes this: its id.
-pub fn add_noting<J: Job<Noting<R>>, L: Ledger, T: Ledger, P: EventPoller, R: Looping>(
+pub fn add_noting<J: Job<Noting<R>>, N: Naming, P: EventPoller, R: Looping>(
     rt: &R,
-    manager: &mut EventManager<Noting<R>, J, L, T, P>,
+    manager: &mut EventManager<Noting<R>, J, N, P>,
     own: Events,
     number: u64,
     notes: &Notes,

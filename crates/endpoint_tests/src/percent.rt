@@ -2,9 +2,10 @@
 
 ghost use Rattle.std.specs.Prelude.{◌≤◌, IfOk};
 
-use event_manager::{EventPoller, Job, MutEventSubscriber, Registry, RemoteEndpoint, Result};
+use event_manager::{
+    EventPoller, Job, MutEventSubscriber, Naming, Registry, RemoteEndpoint, Result,
+};
 use std::sync::Wait;
-use std::sync::ledger::Ledger;
 use std::time::Clock;
 
 /// Asks how many percent a part is of a hundred: at most 100.
@@ -29,8 +30,8 @@ impl<S: MutEventSubscriber> Job<S> for Percent {
 }
 
 /// What the loop replies: the caller knows that it is at most 100.
-pub fn ask_percent<S: MutEventSubscriber, L: Ledger, T: Ledger, R: Wait + Clock>(
-    endpoint: &RemoteEndpoint<S, Percent, L, T>,
+pub fn ask_percent<S: MutEventSubscriber, N: Naming, R: Wait + Clock>(
+    endpoint: &RemoteEndpoint<S, Percent, N>,
     part: u64,
     rt: &R,
 ) -> Result<u64>

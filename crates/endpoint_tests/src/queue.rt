@@ -7,32 +7,28 @@ use crate::expecting::{
 };
 use crate::threads::Looping;
 use crate::work::{Notes, Work};
-use event_manager::{EventManager, EventPoller, RemoteEndpoint, WithLedgers, with_ledgers};
+use event_manager::{
+    EventManager, EventPoller, Ledgers, Naming, RemoteEndpoint, WithLedgers, with_ledgers,
+};
 use fixtures::making::make;
 use fixtures::parts::{Idle, OnTable, on_table};
-use std::sync::ledger::{Blank, Ledger};
 
-type Sender<L, T> = RemoteEndpoint<Idle, Work, L, T>;
+type Sender<N> = RemoteEndpoint<Idle, Work, N>;
 
-type Loop<L, T, P> = EventManager<Idle, Work, L, T, P>;
+type Loop<N, P> = EventManager<Idle, Work, N, P>;
 
 /// Sends jobs that note 1, 2, 3 and so on, so many: each must have the ticket of its number.
-fn fire_counting<L: Ledger, T: Ledger, R: Looping>(
-    rt: &R,
-    endpoint: &Sender<L, T>,
-    notes: &Notes,
-    count: u64,
-) {
+fn fire_counting<N: Naming, R: Looping>(rt: &R, endpoint: &Sender<N>, notes: &Notes, count: u64) {
     for number in 1..=count {
         expect_same(rt, &fire_note(rt, endpoint, notes, number), &Ok(number));
     }
 }
 
 /// Sends five thousand jobs, and runs twice.
-pub fn thousands<L: Ledger, T: Ledger, P: EventPoller, R: Looping>(
+pub fn thousands<N: Naming, P: EventPoller, R: Looping>(
     rt: &R,
-    manager: &mut Loop<L, T, P>,
-    endpoint: &Sender<L, T>,
+    manager: &mut Loop<N, P>,
+    endpoint: &Sender<N>,
     notes: &Notes,
 ) {
     fire_counting(rt, endpoint, notes, 5000);
@@ -47,9 +43,9 @@ fn five_thousand_jobs_wait_and_are_run(rt: HostRuntime) {
 }
 
 /// Sends two jobs by an endpoint that is then dropped.
-fn fire_and_drop<L: Ledger, T: Ledger, P: EventPoller, R: Looping>(
+fn fire_and_drop<N: Naming, P: EventPoller, R: Looping>(
     rt: &R,
-    manager: &Loop<L, T, P>,
+    manager: &Loop<N, P>,
     notes: &Notes,
 ) {
     let endpoint = expect_ok(rt, manager.remote_endpoint());
@@ -57,9 +53,9 @@ fn fire_and_drop<L: Ledger, T: Ledger, P: EventPoller, R: Looping>(
 }
 
 /// Drops an endpoint while its jobs wait.
-pub fn dropped_endpoint<L: Ledger, T: Ledger, P: EventPoller, R: Looping>(
+pub fn dropped_endpoint<N: Naming, P: EventPoller, R: Looping>(
     rt: &R,
-    manager: &mut Loop<L, T, P>,
+    manager: &mut Loop<N, P>,
     notes: &Notes,
 ) {
     fire_and_drop(rt, manager, notes);
@@ -73,9 +69,9 @@ fn jobs_outlive_their_endpoint(rt: HostRuntime) {
 }
 
 /// Expects of two endpoints how many jobs wait.
-fn expect_both_pending<L: Ledger, T: Ledger, E: Ledger, F: Ledger, R: Looping>(
+fn expect_both_pending<N: Naming, M: Naming, R: Looping>(
     rt: &R,
-    endpoints: (&Sender<L, T>, &Sender<E, F>),
+    endpoints: (&Sender<N>, &Sender<M>),
     counts: (usize, usize),
 ) {
     expect_pending(rt, endpoints.0, counts.0);
@@ -83,10 +79,10 @@ fn expect_both_pending<L: Ledger, T: Ledger, E: Ledger, F: Ledger, R: Looping>(
 }
 
 /// Sends by the two in turn, three jobs.
-fn fire_in_turn<L: Ledger, T: Ledger, R: Looping>(
+fn fire_in_turn<N: Naming, R: Looping>(
     rt: &R,
-    first: &Sender<L, T>,
-    second: &Sender<L, T>,
+    first: &Sender<N>,
+    second: &Sender<N>,
     notes: &Notes,
 ) {
     for (number, endpoint) in [(1, first), (2, second), (3, first)] {
@@ -95,10 +91,10 @@ fn fire_in_turn<L: Ledger, T: Ledger, R: Looping>(
 }
 
 /// Sends by two endpoints of one manager.
-pub fn two_endpoints<L: Ledger, T: Ledger, P: EventPoller, R: Looping>(
+pub fn two_endpoints<N: Naming, P: EventPoller, R: Looping>(
     rt: &R,
-    manager: &mut Loop<L, T, P>,
-    endpoint: &Sender<L, T>,
+    manager: &mut Loop<N, P>,
+    endpoint: &Sender<N>,
     notes: &Notes,
 ) {
     let second = expect_ok(rt, endpoint.try_clone());
@@ -115,10 +111,10 @@ fn an_endpoint_is_of_its_manager(rt: HostRuntime) {
 }
 
 /// Sends to a manager beside an endpoint of another, for which two jobs wait.
-fn run_beside<L: Ledger, T: Ledger, P: EventPoller, E: Ledger, F: Ledger, R: Looping>(
+fn run_beside<N: Naming, P: EventPoller, M: Naming, R: Looping>(
     rt: &R,
-    manager: &mut Loop<L, T, P>,
-    other: &Sender<E, F>,
+    manager: &mut Loop<N, P>,
+    other: &Sender<M>,
     notes: &Notes,
 ) {
     let endpoint = expect_ok(rt, manager.remote_endpoint());
@@ -130,32 +126,32 @@ fn run_beside<L: Ledger, T: Ledger, P: EventPoller, E: Ledger, F: Ledger, R: Loo
 }
 
 /// A manager beside an endpoint of another.
-struct Beside<'a, R, E: Ledger, F: Ledger> {
+struct Beside<'a, R, M: Naming> {
     rt: &'a R,
     parts: OnTable<R>,
-    other: &'a Sender<E, F>,
+    other: &'a Sender<M>,
     notes: &'a Notes,
 }
 
-impl<R: Looping + Send, E: Ledger, F: Ledger> WithLedgers for Beside<'_, R, E, F> {
+impl<R: Looping + Send, M: Naming> WithLedgers for Beside<'_, R, M> {
     type Output = ();
 
-    fn run<L: Ledger + Send + Sync, T: Ledger + Send + Sync>(self, tickets: Blank, taken: Blank) {
+    fn run<N: Naming + Send + Sync>(self, ledgers: Ledgers<N>) {
         let Beside {
             rt,
             parts,
             other,
             notes,
         } = self;
-        let mut manager = expect_ok(rt, make::<Idle, Work, L, T, _>(parts, tickets, taken));
+        let mut manager = expect_ok(rt, make::<Idle, Work, N, _>(parts, ledgers));
         run_beside(rt, &mut manager, other, notes);
     }
 }
 
 /// Runs for the two jobs that wait.
-fn expect_two_run<L: Ledger, T: Ledger, P: EventPoller, R: Looping>(
+fn expect_two_run<N: Naming, P: EventPoller, R: Looping>(
     rt: &R,
-    manager: &mut Loop<L, T, P>,
+    manager: &mut Loop<N, P>,
     notes: &Notes,
 ) {
     expect_run(rt, manager, Ok(1));
@@ -174,7 +170,7 @@ struct TwoManagers<'a, R> {
 impl<R: Looping + Send> WithLedgers for TwoManagers<'_, R> {
     type Output = ();
 
-    fn run<L: Ledger + Send + Sync, T: Ledger + Send + Sync>(self, tickets: Blank, taken: Blank) {
+    fn run<N: Naming + Send + Sync>(self, ledgers: Ledgers<N>) {
         let TwoManagers {
             rt,
             parts,
@@ -182,7 +178,7 @@ impl<R: Looping + Send> WithLedgers for TwoManagers<'_, R> {
             others,
             other_notes,
         } = self;
-        let mut manager = expect_ok(rt, make::<Idle, Work, L, T, _>(parts, tickets, taken));
+        let mut manager = expect_ok(rt, make::<Idle, Work, N, _>(parts, ledgers));
         let endpoint = expect_ok(rt, manager.remote_endpoint());
         fire_counting(rt, &endpoint, notes, 2);
         with_ledgers(Beside {

@@ -4,30 +4,25 @@ use crate::courses::{Course, expect_course};
 use crate::expecting::{expect_ok, expect_pending, expect_run, expect_same};
 use crate::threads::Looping;
 use crate::work::Work;
-use event_manager::{Error, EventManager, EventPoller, RemoteEndpoint, Result, Ticket};
+use event_manager::{Error, EventManager, EventPoller, Naming, RemoteEndpoint, Result, Ticket};
 use fixtures::parts::Idle;
-use std::sync::ledger::Ledger;
 use vmm_sys::errno::Errno;
 
 /// The largest value of an `EventFd`.
 const FULL: u64 = 18446744073709551614;
 
-type Sender<L, T> = RemoteEndpoint<Idle, Work, L, T>;
+type Sender<N> = RemoteEndpoint<Idle, Work, N>;
 
 /// Expects this answer of a job: the number of its ticket.
-fn expect_fire<L: Ledger, T: Ledger, R: Looping>(
-    rt: &R,
-    endpoint: &Sender<L, T>,
-    answer: Result<u64>,
-) {
+fn expect_fire<N: Naming, R: Looping>(rt: &R, endpoint: &Sender<N>, answer: Result<u64>) {
     let number = endpoint.fire(Work::Own(1), rt).map(|t| t.number());
     expect_same(rt, &number, &answer);
 }
 
 /// Expects that a job and a call are refused with this, and that so many jobs wait then.
-pub fn expect_refusals<L: Ledger, T: Ledger, R: Looping>(
+pub fn expect_refusals<N: Naming, R: Looping>(
     rt: &R,
-    endpoint: &Sender<L, T>,
+    endpoint: &Sender<N>,
     refusal: Error,
     pending: usize,
 ) {
@@ -37,10 +32,10 @@ pub fn expect_refusals<L: Ledger, T: Ledger, R: Looping>(
 }
 
 /// Expects this answer of a job after the shown ticket, and that so many jobs wait then.
-pub fn expect_after<L: Ledger, T: Ledger, R: Looping>(
+pub fn expect_after<N: Naming, R: Looping>(
     rt: &R,
-    endpoint: &Sender<L, T>,
-    shown: &Ticket<L>,
+    endpoint: &Sender<N>,
+    shown: &Ticket<N>,
     answer: Result<u64>,
     pending: usize,
 ) {
@@ -52,10 +47,10 @@ pub fn expect_after<L: Ledger, T: Ledger, R: Looping>(
 }
 
 /// Expects that each call is refused while the counter is full, and that a job is taken after the next run.
-pub fn full<L: Ledger, T: Ledger, P: EventPoller, R: Looping>(
+pub fn full<N: Naming, P: EventPoller, R: Looping>(
     rt: &R,
-    manager: &mut EventManager<Idle, Work, L, T, P>,
-    endpoint: &Sender<L, T>,
+    manager: &mut EventManager<Idle, Work, N, P>,
+    endpoint: &Sender<N>,
 ) {
     let refusal = Error::EventFd(Errno::EAGAIN);
     expect_refusals(rt, endpoint, refusal, 0);
@@ -70,10 +65,10 @@ fn a_full_counter_refuses_the_send(rt: HostRuntime) {
 }
 
 /// Expects that a job after another is refused while the counter is full, and taken after the next run.
-pub fn nearly_full<L: Ledger, T: Ledger, P: EventPoller, R: Looping>(
+pub fn nearly_full<N: Naming, P: EventPoller, R: Looping>(
     rt: &R,
-    manager: &mut EventManager<Idle, Work, L, T, P>,
-    endpoint: &Sender<L, T>,
+    manager: &mut EventManager<Idle, Work, N, P>,
+    endpoint: &Sender<N>,
 ) {
     let shown = expect_ok(rt, endpoint.fire(Work::Own(1), rt));
     let refusal = Err(Error::EventFd(Errno::EAGAIN));

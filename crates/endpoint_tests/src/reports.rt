@@ -9,13 +9,12 @@ use crate::noting::{Noting, add_noting};
 use crate::threads::{Host, Looping};
 use crate::work::{Notes, Work};
 use event_manager::{
-    EventManager, EventPoller, EventSet, Events, PlainPoller, RemoteEndpoint, Result,
+    EventManager, EventPoller, EventSet, Events, Naming, PlainPoller, RemoteEndpoint, Result,
 };
 use fixtures::making::{WithEndpoint, with_endpoint};
 use fixtures::parts::{Idle, Parts, on_table};
 use std::alloc::Global;
 use std::process::Abort;
-use std::sync::ledger::Ledger;
 use vmm_sys::epoll::EpollEvent;
 use vmm_sys::eventfd::EventFd;
 use vmm_sys::script_poller::ScriptPoller;
@@ -42,10 +41,10 @@ impl<R: Looping> WithEndpoint for OneRun<'_, R> {
 
     type Output = ();
 
-    fn run<L: Ledger, T: Ledger, P: EventPoller>(
+    fn run<N: Naming, P: EventPoller>(
         self,
-        manager: &mut EventManager<Noting<R>, Work, L, T, P>,
-        endpoint: &RemoteEndpoint<Noting<R>, Work, L, T>,
+        manager: &mut EventManager<Noting<R>, Work, N, P>,
+        endpoint: &RemoteEndpoint<Noting<R>, Work, N>,
     ) -> Result<()> {
         let own = Events::new_raw(3, EventSet::IN);
         add_noting(self.rt, manager, own, DELIVERED, self.notes);
@@ -113,10 +112,10 @@ fn reports_of_an_endpoint_event_of_any_set(rt: HostRuntime) {
 }
 
 /// Fires a job, lets somebody else read the endpoint's counter, and runs once over a script.
-pub fn behind_read<L: Ledger, T: Ledger, P: EventPoller, R: Looping>(
+pub fn behind_read<N: Naming, P: EventPoller, R: Looping>(
     rt: &R,
-    manager: &mut EventManager<Idle, Work, L, T, P>,
-    endpoint: &RemoteEndpoint<Idle, Work, L, T>,
+    manager: &mut EventManager<Idle, Work, N, P>,
+    endpoint: &RemoteEndpoint<Idle, Work, N>,
     notes: &Notes,
     counter: &EventFd,
 ) {
@@ -135,10 +134,10 @@ fn jobs_are_run_where_the_counter_has_nothing(rt: HostRuntime) {
 }
 
 /// Runs over a script, kicks, and runs again: the first run has an event of the endpoint, and the second none.
-pub fn behind_kick<L: Ledger, T: Ledger, P: EventPoller, R: Looping>(
+pub fn behind_kick<N: Naming, P: EventPoller, R: Looping>(
     rt: &R,
-    manager: &mut EventManager<Idle, Work, L, T, P>,
-    endpoint: &RemoteEndpoint<Idle, Work, L, T>,
+    manager: &mut EventManager<Idle, Work, N, P>,
+    endpoint: &RemoteEndpoint<Idle, Work, N>,
     counter: &EventFd,
 ) {
     expect_run(rt, manager, Ok(1));
@@ -172,10 +171,10 @@ impl<R: Looping> WithEndpoint for Kicked<'_, R> {
 
     type Output = ();
 
-    fn run<L: Ledger, T: Ledger, P: EventPoller>(
+    fn run<N: Naming, P: EventPoller>(
         self,
-        manager: &mut EventManager<Noting<R>, Work, L, T, P>,
-        endpoint: &RemoteEndpoint<Noting<R>, Work, L, T>,
+        manager: &mut EventManager<Noting<R>, Work, N, P>,
+        endpoint: &RemoteEndpoint<Noting<R>, Work, N>,
     ) -> Result<()> {
         add_noting(self.rt, manager, self.silent, DELIVERED, self.notes);
         expect_same(self.rt, &endpoint.kick(self.rt), &Ok(()));

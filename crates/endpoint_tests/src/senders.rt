@@ -8,14 +8,14 @@ use crate::expecting::{
 use crate::meetings::{Loop, Sender};
 use crate::threads::{Host, LIMIT, wait_until_pending};
 use crate::work::{Notes, Work};
-use event_manager::{Closed, Result, Ticket};
+use event_manager::{Closed, Ledgers, Naming, Result, Ticket};
 use fixtures::making::make;
 use fixtures::parts::{OnTable, on_table};
 use std::alloc::Global;
 use std::marker::Brand;
 use std::sync::Mutex;
 use std::sync::atomic::{AtomicU64, Ordering};
-use std::sync::ledger::{Blank, Ledger};
+use std::sync::ledger::Blank;
 use std::thread;
 
 /// How many jobs each thread sends, and when the loop runs.
@@ -28,20 +28,20 @@ struct Plan {
 
 /// What the senders share: where each notes its own numbers, all their tickets, and how many have ended.
 #[derive(Drop)]
-struct Sending<'a, L: Ledger> {
+struct Sending<'a, N: Naming> {
     notes: &'a [Notes],
-    tickets: Mutex<Vec<Ticket<L>>>,
+    tickets: Mutex<Vec<Ticket<N>>>,
     ended: AtomicU64,
 }
 
 /// Sends a job that notes this after the shown ticket, if any: its ticket.
-fn send_after<L: Ledger, T: Ledger, R: Host>(
+fn send_after<N: Naming, R: Host>(
     rt: &R,
-    endpoint: &Sender<L, T>,
-    shown: &Option<Ticket<L>>,
+    endpoint: &Sender<N>,
+    shown: &Option<Ticket<N>>,
     notes: &Notes,
     number: u64,
-) -> Result<Ticket<L>> {
+) -> Result<Ticket<N>> {
     let job = Work::Note(notes.clone()?, number);
     match shown {
         Some(shown) => endpoint.fire_after(shown, job, rt),
@@ -50,17 +50,17 @@ fn send_after<L: Ledger, T: Ledger, R: Host>(
 }
 
 /// Keeps a ticket among all.
-fn keep<L: Ledger, R: Host>(rt: &R, sending: &Sending<'_, L>, ticket: Option<Ticket<L>>) {
+fn keep<N: Naming, R: Host>(rt: &R, sending: &Sending<'_, N>, ticket: Option<Ticket<N>>) {
     if let Some(ticket) = ticket {
         let _ = sending.tickets.lock(rt).push(ticket);
     }
 }
 
 /// Sends so many jobs, each after the one before, and keeps their tickets.
-fn send_many<L: Ledger, T: Ledger, R: Host>(
+fn send_many<N: Naming, R: Host>(
     rt: &R,
-    endpoint: &Sender<L, T>,
-    sending: &Sending<'_, L>,
+    endpoint: &Sender<N>,
+    sending: &Sending<'_, N>,
     notes: &Notes,
     count: u64,
 ) {
@@ -74,10 +74,10 @@ fn send_many<L: Ledger, T: Ledger, R: Host>(
 }
 
 /// Sends as the sender of this index, and counts it as ended.
-fn send_as<L: Ledger, T: Ledger, R: Host>(
+fn send_as<N: Naming, R: Host>(
     rt: &R,
-    endpoint: &Sender<L, T>,
-    sending: &Sending<'_, L>,
+    endpoint: &Sender<N>,
+    sending: &Sending<'_, N>,
     sender: usize,
     count: u64,
 ) {
@@ -88,11 +88,11 @@ fn send_as<L: Ledger, T: Ledger, R: Host>(
 }
 
 /// Sends by so many threads at once.
-fn send_all<L: Ledger + Send + Sync, T: Ledger + Send + Sync, R: Host>(
+fn send_all<N: Naming + Send + Sync, R: Host>(
     rt: &R,
     alloc: Global,
-    endpoint: &Sender<L, T>,
-    sending: &Sending<'_, L>,
+    endpoint: &Sender<N>,
+    sending: &Sending<'_, N>,
     count: u64,
 ) {
     let sent = thread::map_indices(
@@ -105,10 +105,10 @@ fn send_all<L: Ledger + Send + Sync, T: Ledger + Send + Sync, R: Host>(
 }
 
 /// Runs once when so many jobs wait.
-fn run_behind<L: Ledger, T: Ledger, R: Host>(
+fn run_behind<N: Naming, R: Host>(
     rt: &R,
-    manager: &mut Loop<L, T, R>,
-    endpoint: &Sender<L, T>,
+    manager: &mut Loop<N, R>,
+    endpoint: &Sender<N>,
     total: usize,
 ) {
     expect_same(rt, &wait_until_pending(rt, endpoint, total), &true);
@@ -116,10 +116,10 @@ fn run_behind<L: Ledger, T: Ledger, R: Host>(
 }
 
 /// Runs until so many senders have ended and no job waits.
-fn run_beside<L: Ledger, T: Ledger, R: Host>(
+fn run_beside<N: Naming, R: Host>(
     rt: &R,
-    manager: &mut Loop<L, T, R>,
-    endpoint: &Sender<L, T>,
+    manager: &mut Loop<N, R>,
+    endpoint: &Sender<N>,
     ended: &AtomicU64,
     senders: usize,
 ) {
@@ -132,11 +132,11 @@ fn run_beside<L: Ledger, T: Ledger, R: Host>(
 }
 
 /// Runs as planned.
-fn run_planned<L: Ledger, T: Ledger, R: Host>(
+fn run_planned<N: Naming, R: Host>(
     rt: &R,
-    manager: &mut Loop<L, T, R>,
-    endpoint: &Sender<L, T>,
-    sending: &Sending<'_, L>,
+    manager: &mut Loop<N, R>,
+    endpoint: &Sender<N>,
+    sending: &Sending<'_, N>,
     plan: Plan,
 ) {
     match plan.runs_beside {
@@ -146,17 +146,17 @@ fn run_planned<L: Ledger, T: Ledger, R: Host>(
 }
 
 /// How many jobs are sent.
-fn total_of<L: Ledger>(sending: &Sending<'_, L>, plan: Plan) -> usize {
+fn total_of<N: Naming>(sending: &Sending<'_, N>, plan: Plan) -> usize {
     sending.notes.len().saturating_mul(plan.count as usize)
 }
 
 /// The senders, and the loop.
-fn send_beside_loop<L: Ledger + Send + Sync, T: Ledger + Send + Sync, R: Host>(
+fn send_beside_loop<N: Naming + Send + Sync, R: Host>(
     rt: &R,
     alloc: Global,
-    manager: &mut Loop<L, T, R>,
-    endpoint: &Sender<L, T>,
-    sending: &Sending<'_, L>,
+    manager: &mut Loop<N, R>,
+    endpoint: &Sender<N>,
+    sending: &Sending<'_, N>,
     plan: Plan,
 ) {
     thread::join(
@@ -168,20 +168,20 @@ fn send_beside_loop<L: Ledger + Send + Sync, T: Ledger + Send + Sync, R: Host>(
 }
 
 /// Expects that these are all the tickets, or that they aren't.
-fn expect_gathered<L: Ledger, R: Host>(
+fn expect_gathered<N: Naming, R: Host>(
     rt: &R,
-    closed: &mut Closed<L>,
-    tickets: &mut Vec<Ticket<L>>,
+    closed: &mut Closed<N>,
+    tickets: &mut Vec<Ticket<N>>,
     are_all: bool,
 ) {
     expect_same(rt, &closed.gather(tickets), &are_all);
 }
 
 /// Expects that so many tickets were issued and jobs taken, that these are all, and not so without the last of them.
-fn expect_all<L: Ledger, R: Host>(
+fn expect_all<N: Naming, R: Host>(
     rt: &R,
-    closed: &mut Closed<L>,
-    tickets: &mut Vec<Ticket<L>>,
+    closed: &mut Closed<N>,
+    tickets: &mut Vec<Ticket<N>>,
     count: u64,
 ) {
     expect_same(rt, &(closed.issued(), closed.taken()), &(count, count));
@@ -195,7 +195,7 @@ fn expect_all<L: Ledger, R: Host>(
 }
 
 /// Senders of a manager of these parts, and its close.
-fn send_on<L: Ledger + Send + Sync, T: Ledger + Send + Sync, R: Host>(
+fn send_on<N: Naming + Send + Sync, R: Host>(
     rt: &R,
     parts: OnTable<R>,
     notes: &[Notes],
@@ -203,18 +203,17 @@ fn send_on<L: Ledger + Send + Sync, T: Ledger + Send + Sync, R: Host>(
     tickets: Blank,
     taken: Blank,
 )
-    requires tickets_name { tickets.name ≡ L.name }
-    requires tickets_parts { (tickets.parts ≡ L.parts) × (tickets.parts ≡ 9223372036854775808) }
-    requires taken_name { taken.name ≡ T.name }
-    requires taken_parts { (taken.parts ≡ T.parts) × (taken.parts ≡ 1) }
+    requires tickets { (tickets.name ≡ N.tickets) × (tickets.parts ≡ 9223372036854775808) }
+    requires taken { (taken.name ≡ N.taken) × (taken.parts ≡ 1) }
 {
+    let ledgers = Ledgers::<N>::new(tickets, taken);
     let alloc = parts.alloc;
-    let sending: Sending<'_, L> = Sending {
+    let sending: Sending<'_, N> = Sending {
         notes,
         tickets: Mutex::new(Vec::new(alloc)),
         ended: AtomicU64::new(0),
     };
-    let mut manager = expect_ok(rt, make::<_, _, L, T, _>(parts, tickets, taken));
+    let mut manager = expect_ok(rt, make::<_, _, N, _>(parts, ledgers));
     let endpoint = expect_ok(rt, manager.remote_endpoint());
     send_beside_loop(rt, alloc, &mut manager, &endpoint, &sending, plan);
     let mut closed = manager.close(rt);
@@ -226,7 +225,7 @@ fn send_on<L: Ledger + Send + Sync, T: Ledger + Send + Sync, R: Host>(
 fn expect_sent<R: Host>(rt: &R, alloc: Global, notes: &[Notes], plan: Plan) {
     let parts = expect_ok(rt, on_table(*rt, alloc, 0));
     let tickets = Blank::new(9223372036854775808);
-    send_on::<Brand, Brand, R>(rt, parts, notes, plan, tickets, Blank::new(1));
+    send_on::<Brand, R>(rt, parts, notes, plan, tickets, Blank::new(1));
     for noted in notes {
         expect_counted(rt, noted, plan.count as usize);
     }

@@ -6,15 +6,14 @@ use crate::expecting::{
 };
 use crate::threads::Looping;
 use crate::work::{Notes, Work};
-use event_manager::{EventManager, EventPoller, RemoteEndpoint};
+use event_manager::{EventManager, EventPoller, Naming, RemoteEndpoint};
 use fixtures::parts::Idle;
-use std::sync::ledger::Ledger;
 
 /// Fires two jobs, and runs twice.
-pub fn two_jobs<L: Ledger, T: Ledger, P: EventPoller, R: Looping>(
+pub fn two_jobs<N: Naming, P: EventPoller, R: Looping>(
     rt: &R,
-    manager: &mut EventManager<Idle, Work, L, T, P>,
-    endpoint: &RemoteEndpoint<Idle, Work, L, T>,
+    manager: &mut EventManager<Idle, Work, N, P>,
+    endpoint: &RemoteEndpoint<Idle, Work, N>,
     notes: &Notes,
 ) {
     expect_same(rt, &fire_note(rt, endpoint, notes, 1), &Ok(1));

@@ -1,12 +1,11 @@
 //! What the tests that start threads share.
 //!
-//! The body of such a test is a function that is generic over the ledgers, and the test names them: in a method of a
-//! trait, as that of `WithLedgers`, a bound `Send` doesn't count for what a thread is sent.
+//! The body of such a test is a function that is generic over the name of the ledgers, and the test picks it: in a method
+//! of a trait, as that of `WithLedgers`, a bound `Send` doesn't count for what a thread is sent.
 
-use event_manager::{Job, MutEventSubscriber, RemoteEndpoint};
+use event_manager::{Job, MutEventSubscriber, Naming, RemoteEndpoint};
 use std::process::Abort;
 use std::sync::Wait;
-use std::sync::ledger::Ledger;
 use std::thread;
 use std::thread::Threads;
 use std::time::{Clock, Duration};
@@ -25,9 +24,9 @@ impl<R: Wait + Clock + Abort + Copy + Drop> Looping for R {}
 pub const LIMIT: u32 = 10_000;
 
 /// Waits until so many jobs wait, and says whether they do.
-pub fn wait_until_pending<S: MutEventSubscriber, J: Job<S>, L: Ledger, T: Ledger, R: Clock>(
+pub fn wait_until_pending<S: MutEventSubscriber, J: Job<S>, N: Naming, R: Clock>(
     rt: &R,
-    endpoint: &RemoteEndpoint<S, J, L, T>,
+    endpoint: &RemoteEndpoint<S, J, N>,
     count: usize,
 ) -> bool {
     for _turn in 0..LIMIT {

@@ -5,12 +5,14 @@ ghost use Rattle.std.specs.Prelude.{◌≡◌};
 use crate::expecting::{expect_ok, expect_same};
 use crate::threads::Host;
 use crate::watched::{Drops, Guest, Reporter, Task, Watched};
-use event_manager::{Error, EventManager, RemoteEndpoint, Result, SubscriberOps, Ticket};
+use event_manager::{
+    Error, EventManager, Ledgers, Naming, RemoteEndpoint, Result, SubscriberOps, Ticket,
+};
 use fixtures::making::make;
 use fixtures::parts::{Parts, on_table};
 use std::alloc::Global;
 use std::marker::Brand;
-use std::sync::ledger::{Blank, Ledger};
+use std::sync::ledger::Blank;
 use std::sync::{Arc, Wait};
 use std::thread;
 use std::time::Clock;
@@ -19,9 +21,9 @@ use vmm_sys::errno::Errno;
 /// A value that one ring more makes the largest of an `EventFd`.
 const NEARLY_FULL: u64 = 18446744073709551613;
 
-type Loop<L, T, R> = EventManager<Guest<R>, Task<R>, L, T, Reporter<R>>;
+type Loop<N, R> = EventManager<Guest<R>, Task<R>, N, Reporter<R>>;
 
-type Sender<L, T, R> = RemoteEndpoint<Guest<R>, Task<R>, L, T>;
+type Sender<N, R> = RemoteEndpoint<Guest<R>, Task<R>, N>;
 
 /// How a job is sent.
 #[derive(Clone, Copy)]
@@ -58,9 +60,9 @@ struct Seen {
 }
 
 /// Looks on while the value is dropped. A send is made only where it won't wait for the drop.
-fn look_on<L: Ledger, T: Ledger, R: Wait + Clock + Drop>(
+fn look_on<N: Naming, R: Wait + Clock + Drop>(
     rt: &R,
-    endpoint: &Sender<L, T, R>,
+    endpoint: &Sender<N, R>,
     drops: &Drops,
 ) -> Seen {
     let began = drops.wait_for_one(rt);
@@ -99,10 +101,10 @@ impl<R: Clock + Drop> Holders<R> {
 }
 
 /// Sends the job in this way, which is refused.
-fn send<L: Ledger, T: Ledger, R: Wait + Clock + Drop>(
+fn send<N: Naming, R: Wait + Clock + Drop>(
     rt: &R,
-    endpoint: &Sender<L, T, R>,
-    shown: &Ticket<L>,
+    endpoint: &Sender<N, R>,
+    shown: &Ticket<N>,
     job: Task<R>,
     way: Way,
 ) -> Option<Error> {
@@ -114,11 +116,11 @@ fn send<L: Ledger, T: Ledger, R: Wait + Clock + Drop>(
 }
 
 /// Acts on a manager for which one job waits, and whose endpoint's counter is full: how the job was refused, if it was.
-fn perform<L: Ledger, T: Ledger, R: Wait + Clock + Drop>(
+fn perform<N: Naming, R: Wait + Clock + Drop>(
     rt: &R,
-    manager: Loop<L, T, R>,
-    endpoint: &Sender<L, T, R>,
-    shown: &Ticket<L>,
+    manager: Loop<N, R>,
+    endpoint: &Sender<N, R>,
+    shown: &Ticket<N>,
     job: Task<R>,
     act: Act,
 ) -> Option<Error> {
@@ -145,10 +147,10 @@ fn perform<L: Ledger, T: Ledger, R: Wait + Clock + Drop>(
 }
 
 /// A thread that acts, and one that looks on.
-fn act_beside_looks<L: Ledger + Send + Sync, T: Ledger + Send + Sync, R: Host>(
+fn act_beside_looks<N: Naming + Send + Sync, R: Host>(
     rt: &R,
-    manager: Loop<L, T, R>,
-    endpoint: &Sender<L, T, R>,
+    manager: Loop<N, R>,
+    endpoint: &Sender<N, R>,
     job: Task<R>,
     act: Act,
     drops: &Drops,
@@ -192,24 +194,23 @@ fn expect_as<R: Host>(rt: &R, found: (Seen, Option<Error>), expected: (Seen, Opt
 }
 
 /// Expects of this act, on a new manager, that another thread looks on and sends while the value is dropped, once.
-fn expect_seen_by<L: Ledger + Send + Sync, T: Ledger + Send + Sync, R: Host>(
+fn expect_seen_by<N: Naming + Send + Sync, R: Host>(
     rt: &R,
     alloc: Global,
     act: Act,
     tickets: Blank,
     taken: Blank,
 )
-    requires tickets_name { tickets.name ≡ L.name }
-    requires tickets_parts { (tickets.parts ≡ L.parts) × (tickets.parts ≡ 9223372036854775808) }
-    requires taken_name { taken.name ≡ T.name }
-    requires taken_parts { (taken.parts ≡ T.parts) × (taken.parts ≡ 1) }
+    requires tickets { (tickets.name ≡ N.tickets) × (tickets.parts ≡ 9223372036854775808) }
+    requires taken { (taken.name ≡ N.taken) × (taken.parts ≡ 1) }
 {
+    let ledgers = Ledgers::<N>::new(tickets, taken);
     let drops = expect_ok(rt, Arc::new(alloc, Drops::new()));
     let value = expect_ok(rt, Watched::new(&drops, *rt));
     let Holders { guest, poller, job } = Holders::new(act, value);
     let Parts { event_fd, .. } = expect_ok(rt, on_table(*rt, alloc, NEARLY_FULL));
     let parts = Parts::new(alloc, poller, event_fd);
-    let mut manager: Loop<L, T, R> = expect_ok(rt, make(parts, tickets, taken));
+    let mut manager: Loop<N, R> = expect_ok(rt, make(parts, ledgers));
     expect_ok(rt, manager.add_subscriber(guest));
     let endpoint = expect_ok(rt, manager.remote_endpoint());
     let found = act_beside_looks(rt, manager, &endpoint, job, act, &drops);
@@ -220,7 +221,7 @@ fn expect_seen_by<L: Ledger + Send + Sync, T: Ledger + Send + Sync, R: Host>(
 /// As [`expect_seen_by`], with ledgers.
 fn expect_seen<R: Host>(rt: &R, alloc: Global, act: Act) {
     let tickets = Blank::new(9223372036854775808);
-    expect_seen_by::<Brand, Brand, R>(rt, alloc, act, tickets, Blank::new(1));
+    expect_seen_by::<Brand, R>(rt, alloc, act, tickets, Blank::new(1));
 }
 
 /// Expects it of each of these acts.

@@ -6,15 +6,15 @@ use crate::caller::start;
 use crate::expecting::{expect_ok, expect_run_within, expect_same};
 use crate::threads::{Host, wait_until_pending};
 use event_manager::{
-    EventManager, EventOps, EventPoller, Events, Job, MutEventSubscriber, PlainPoller, Registry,
-    Result, SubscriberId, SubscriberOps,
+    EventManager, EventOps, EventPoller, Events, Job, Ledgers, MutEventSubscriber, Naming,
+    PlainPoller, Registry, Result, SubscriberId, SubscriberOps,
 };
 use fixtures::making::make;
 use fixtures::parts::{OnTable, on_table};
 use std::alloc::Global;
 use std::marker::Brand;
 use std::sync::Wait;
-use std::sync::ledger::{Blank, Ledger};
+use std::sync::ledger::Blank;
 use std::time::Clock;
 use vmm_sys::epoll::Epoll;
 
@@ -90,19 +90,12 @@ impl Job<Stoppable> for Order {
     }
 }
 
-type Loop<L, T, R> = EventManager<Stoppable, Order, L, T, PlainPoller<Epoll<R>>>;
+type Loop<N, R> = EventManager<Stoppable, Order, N, PlainPoller<Epoll<R>>>;
 
 /// Expects that a caller is answered this value by a run with its change.
-fn expect_answer<L, T, R>(
-    rt: R,
-    alloc: Global,
-    manager: &mut Loop<L, T, R>,
-    order: Order,
-    value: u64,
-)
+fn expect_answer<N, R>(rt: R, alloc: Global, manager: &mut Loop<N, R>, order: Order, value: u64)
 where
-    L: Ledger + Send + Sync + 'static,
-    T: Ledger + Send + Sync + 'static,
+    N: Naming + Send + Sync + 'static,
     R: Host + 'static,
 {
     let endpoint = expect_ok(&rt, manager.remote_endpoint());
@@ -114,18 +107,14 @@ where
 }
 
 /// Whether the subscriber is stopped.
-fn is_stopped<L: Ledger, T: Ledger, R: Host>(
-    manager: &mut Loop<L, T, R>,
-    id: SubscriberId,
-) -> Result<bool> {
+fn is_stopped<N: Naming, R: Host>(manager: &mut Loop<N, R>, id: SubscriberId) -> Result<bool> {
     Ok(manager.subscriber_mut(id)?.is_stopped)
 }
 
 /// Sets the value, reads it, and stops the subscriber, each by a job of a caller.
-fn call_thrice<L, T, R>(rt: R, alloc: Global, manager: &mut Loop<L, T, R>)
+fn call_thrice<N, R>(rt: R, alloc: Global, manager: &mut Loop<N, R>)
 where
-    L: Ledger + Send + Sync + 'static,
-    T: Ledger + Send + Sync + 'static,
+    N: Naming + Send + Sync + 'static,
     R: Host + 'static,
 {
     let subscriber = Stoppable {
@@ -141,21 +130,16 @@ where
 }
 
 /// Callers of a manager of these parts.
-fn call_and_close<L, T, R>(rt: R, parts: OnTable<R>, tickets: Blank, taken: Blank)
+fn call_and_close<N, R>(rt: R, parts: OnTable<R>, tickets: Blank, taken: Blank)
 where
-    L: Ledger + Send + Sync + 'static,
-    T: Ledger + Send + Sync + 'static,
+    N: Naming + Send + Sync + 'static,
     R: Host + 'static,
-    requires tickets_name { tickets.name ≡ L.name }
-    requires tickets_parts { (tickets.parts ≡ L.parts) × (tickets.parts ≡ 9223372036854775808) }
-    requires taken_name { taken.name ≡ T.name }
-    requires taken_parts { (taken.parts ≡ T.parts) × (taken.parts ≡ 1) }
+    requires tickets { (tickets.name ≡ N.tickets) × (tickets.parts ≡ 9223372036854775808) }
+    requires taken { (taken.name ≡ N.taken) × (taken.parts ≡ 1) }
 {
+    let ledgers = Ledgers::<N>::new(tickets, taken);
     let alloc = parts.alloc;
-    let mut manager = expect_ok(
-        &rt,
-        make::<Stoppable, Order, L, T, _>(parts, tickets, taken),
-    );
+    let mut manager = expect_ok(&rt, make::<Stoppable, Order, N, _>(parts, ledgers));
     call_thrice(rt, alloc, &mut manager);
     let closed = manager.close(&rt);
     expect_same(&rt, &(closed.issued(), closed.taken()), &(3, 3));
@@ -165,5 +149,5 @@ where
 fn a_caller_sets_and_reads_a_value_of_a_subscriber(rt: HostRuntime) {
     let parts = expect_ok(&rt, on_table(rt, rt.alloc(), 0));
     let tickets = Blank::new(9223372036854775808);
-    call_and_close::<Brand, Brand, HostRuntime>(rt, parts, tickets, Blank::new(1));
+    call_and_close::<Brand, HostRuntime>(rt, parts, tickets, Blank::new(1));
 }

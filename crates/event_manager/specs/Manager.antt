@@ -12,7 +12,7 @@ use Rattle.event_loop.specs.declared.error.Error.TheVariants.{ChannelSend, Chann
 use Rattle.event_loop.specs.declared.error.Error.TheVariants as error
 use Rattle.event_manager.specs.declared.manager.EventManager.{EventManager}
 
-abbrev pub state_of : {S J L T P R : Type 0} → EventManager S J L T P R → LoopState S P
+abbrev pub state_of : {S J N P R : Type 0} → EventManager S J N P R → LoopState S P
 state_of m = record (loop_state m.registry) { taken = m.channel }
 
 -- the number of the endpoint's descriptor

@@ -15,21 +15,20 @@ use crate::drive::plan::{Planned, plan_all};
 use crate::jobs::Job;
 use crate::manager::EventManager;
 use event_loop::{Error, EventPoller, MutEventSubscriber, Result, SubscriberOps};
+use job_tickets::naming::Naming;
 use std::sync::Wait;
-use std::sync::ledger::Ledger;
 use std::time::Clock;
 
 // Makes one call.
-fn make_call<S, J, L, T, P, R>(
-    manager: &mut EventManager<S, J, L, T, P>,
+fn make_call<S, J, N, P, R>(
+    manager: &mut EventManager<S, J, N, P>,
     planned: Planned<S>,
     rt: &R,
 ) -> Reply<S>
 where
     S: MutEventSubscriber + Drop,
     J: Job<S>,
-    L: Ledger,
-    T: Ledger,
+    N: Naming,
     P: EventPoller,
     R: Wait + Clock,
     ensures { (effect : Effect S J J.Reply) × Matches effect planned.call result
@@ -52,8 +51,8 @@ where
 ///
 /// All room is made before the first call, by the allocator of the calls. The one refusal is `OutOfMemory`: then no call is made, the calls are dropped,
 /// and manager and replies are as before.
-pub fn drive<S, J, L, T, P, R>(
-    manager: &mut EventManager<S, J, L, T, P>,
+pub fn drive<S, J, N, P, R>(
+    manager: &mut EventManager<S, J, N, P>,
     calls: Vec<Call<S>>,
     replies: &mut Vec<Reply<S>>,
     rt: &R,
@@ -61,8 +60,7 @@ pub fn drive<S, J, L, T, P, R>(
 where
     S: MutEventSubscriber + Drop,
     J: Job<S>,
-    L: Ledger,
-    T: Ledger,
+    N: Naming,
     P: EventPoller,
     R: Wait + Clock,
     ensures driven { OnOk result ((new : List (Reply S)) × (replies.new.items ≡ replies.old.items ++ new)

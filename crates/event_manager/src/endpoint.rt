@@ -15,15 +15,15 @@ use crate::endpoint::channel::Channel;
 use crate::endpoint::slot::new_slot;
 use crate::jobs::{Job, Refused};
 use event_loop::{Error, MutEventSubscriber, Result};
+use job_tickets::naming::Naming;
 use job_tickets::tickets::Ticket;
-use std::sync::ledger::Ledger;
 use std::sync::{Arc, Wait};
 use std::time::Clock;
 
 // Lets go of what was refused: where the queue's lock is free, since the drop of a job is its sender's code.
-fn answer<J: Drop, Q: Drop, L: Ledger>(
-    sent: std::result::Result<Ticket<L>, Refused<J, Q>>,
-) -> Result<Ticket<L>>
+fn answer<J: Drop, Q: Drop, N: Naming>(
+    sent: std::result::Result<Ticket<N>, Refused<J, Q>>,
+) -> Result<Ticket<N>>
     ensures { result ≡ answer_of sent }
 {
     match sent {
@@ -40,17 +40,17 @@ fn answer<J: Drop, Q: Drop, L: Ledger>(
 /// The queue of a manager that was dropped without [`close`](crate::EventManager::close) stays open: sends are still
 /// accepted, nobody runs the jobs, and a `call_blocking` waits for ever. `close` is the way out.
 #[derive(Drop)]
-pub struct RemoteEndpoint<S: MutEventSubscriber, J: Job<S>, L: Ledger, T: Ledger> {
-    pub(crate) channel: Arc<Channel<S, J, L, T>>,
+pub struct RemoteEndpoint<S: MutEventSubscriber, J: Job<S>, N: Naming> {
+    pub(crate) channel: Arc<Channel<S, J, N>>,
 }
 
-impl<S: MutEventSubscriber, J: Job<S>, L: Ledger, T: Ledger> RemoteEndpoint<S, J, L, T> {
+impl<S: MutEventSubscriber, J: Job<S>, N: Naming> RemoteEndpoint<S, J, N> {
     /// Sends a job, which the loop runs once, in the order of the tickets, after a later batch. The ticket may be dropped.
     ///
     /// Refused, in this order, the queue as it was and the job dropped: `ChannelSend` where the manager was closed;
     /// `TicketsUsedUp` where 9223372036854775807 tickets were issued; `OutOfMemory`; `EventFd` with the number with which
     /// the endpoint's `EventFd` refuses the ring (`EAGAIN`: its value is full).
-    pub fn fire<R: Wait + Clock>(&self, job: J, rt: &R) -> Result<Ticket<L>>
+    pub fn fire<R: Wait + Clock>(&self, job: J, rt: &R) -> Result<Ticket<N>>
         ensures refusals { IfErr result IsSendRefusal }
     {
         let channel = &*self.channel;
@@ -68,10 +68,10 @@ impl<S: MutEventSubscriber, J: Job<S>, L: Ledger, T: Ledger> RemoteEndpoint<S, J
     /// that an endpoint of this manager gave.
     pub fn fire_after<R: Wait + Clock>(
         &self,
-        shown: &Ticket<L>,
+        shown: &Ticket<N>,
         job: J,
         rt: &R,
-    ) -> Result<Ticket<L>>
+    ) -> Result<Ticket<N>>
         ensures above { IfOk result (λ n. shown.now < n) }
         ensures refusals { IfErr result IsSendRefusal }
     {

@@ -22,7 +22,8 @@ pub use event_loop::{
     StepInput, StepSubscriber, SubscriberId, SubscriberOps, boxed_subscriber, cancelled_at, error,
     events, poller, priority, subscribers, utilities, wrappers,
 };
-pub use job_tickets::ledgers::{WithLedgers, with_ledgers};
+pub use job_tickets::ledgers::{Ledgers, WithLedgers, with_ledgers};
+pub use job_tickets::naming::Naming;
 pub use job_tickets::tickets::Ticket;
 pub use jobs::{Job, NoJob};
 pub use manager::{EventManager, MAX_READY_EVENTS_CAPACITY};

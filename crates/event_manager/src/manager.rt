@@ -14,9 +14,10 @@ use event_loop::{
     BoxedPoller, Error, EventOps, EventPoller, Events, MutEventSubscriber, Registry, Result,
     SubscriberId, SubscriberOps,
 };
+use job_tickets::ledgers::Ledgers;
+use job_tickets::naming::Naming;
 use std::alloc::Global;
 use std::sync::Wait;
-use std::sync::ledger::{Blank, Ledger};
 use std::time::Clock;
 use vmm_sys::epoll::EventSet;
 use vmm_sys::eventfd::EventFd;
@@ -30,45 +31,29 @@ const DEFAULT_CAPACITY: usize = 256;
 
 /// An event loop over a poller, the subscribers that it serves, and the jobs that its endpoints send.
 ///
-/// `L` and `T` are the ledgers of the tickets and of the taken jobs; [`with_ledgers`](crate::with_ledgers) names them.
+/// `N` names the ledgers of its tickets and of its taken jobs, which [`with_ledgers`](crate::with_ledgers) makes.
 /// Where no jobs are needed, `J` is [`NoJob`](crate::jobs::NoJob).
 #[derive(Drop)]
-pub struct EventManager<S: MutEventSubscriber, J: Job<S>, L: Ledger, T: Ledger, P = BoxedPoller> {
+pub struct EventManager<S: MutEventSubscriber, J: Job<S>, N: Naming, P = BoxedPoller> {
     registry: Registry<S, P>,
-    channel: EventManagerChannel<S, J, L, T>,
+    channel: EventManagerChannel<S, J, N>,
 }
 
-impl<S: MutEventSubscriber, J: Job<S>, L: Ledger, T: Ledger, P: EventPoller> EventManager<
-    S,
-    J,
-    L,
-    T,
-    P,
-> {
+impl<S: MutEventSubscriber, J: Job<S>, N: Naming, P: EventPoller> EventManager<S, J, N, P> {
     /// A manager with capacity 256, as [`new_with_capacity`](EventManager::new_with_capacity) makes it.
-    pub fn new(
-        alloc: Global,
-        poller: P,
-        event_fd: EventFd,
-        tickets: Blank,
-        taken: Blank,
-    ) -> Result<Self>
+    pub fn new(alloc: Global, poller: P, event_fd: EventFd, ledgers: Ledgers<N>) -> Result<Self>
     where
         S: Drop,
         P: Drop,
-        requires tickets_name { tickets.name ≡ L.name }
-        requires tickets_parts { (tickets.parts ≡ L.parts) × (tickets.parts ≡ 9223372036854775808) }
-        requires taken_name { taken.name ≡ T.name }
-        requires taken_parts { (taken.parts ≡ T.parts) × (taken.parts ≡ 1) }
         ensures { IsMade P.controls poller (endpoint_of event_fd) 256 state_of result }
     {
-        EventManager::new_with_capacity(alloc, poller, event_fd, DEFAULT_CAPACITY, tickets, taken)
+        EventManager::new_with_capacity(alloc, poller, event_fd, DEFAULT_CAPACITY, ledgers)
     }
 
     /// A manager with no subscriber, whose batches have up to `capacity` events. Its endpoint is `event_fd`.
     ///
     /// The poller is asked to add the endpoint's descriptor with the set `IN` and the descriptor as word. Capacity 0
-    /// passes here, and is left to the poller's `wait`. The blanks are those of [`with_ledgers`](crate::with_ledgers).
+    /// passes here, and is left to the poller's `wait`. The ledgers are those of [`with_ledgers`](crate::with_ledgers).
     ///
     /// Refused, in this order, and neither poller nor `event_fd` comes back: `InvalidCapacity` above
     /// [`MAX_READY_EVENTS_CAPACITY`], where the poller isn't asked; `OutOfMemory`; `Epoll` with the number that the
@@ -78,23 +63,18 @@ impl<S: MutEventSubscriber, J: Job<S>, L: Ledger, T: Ledger, P: EventPoller> Eve
         poller: P,
         event_fd: EventFd,
         capacity: usize,
-        tickets: Blank,
-        taken: Blank,
+        ledgers: Ledgers<N>,
     ) -> Result<Self>
     where
         S: Drop,
         P: Drop,
-        requires tickets_name { tickets.name ≡ L.name }
-        requires tickets_parts { (tickets.parts ≡ L.parts) × (tickets.parts ≡ 9223372036854775808) }
-        requires taken_name { taken.name ≡ T.name }
-        requires taken_parts { (taken.parts ≡ T.parts) × (taken.parts ≡ 1) }
         ensures { IsMade P.controls poller (endpoint_of event_fd) capacity state_of result }
     {
         if capacity > MAX_READY_EVENTS_CAPACITY {
             return Err(Error::InvalidCapacity);
         }
         let events = Events::new(&event_fd, EventSet::IN);
-        let Ok(channel) = EventManagerChannel::new(alloc, event_fd, tickets, taken) else {
+        let Ok(channel) = EventManagerChannel::new(alloc, event_fd, ledgers) else {
             return Err(Error::OutOfMemory);
         };
         let registry = Registry::new(alloc, poller, events, capacity)?;
@@ -133,7 +113,7 @@ impl<S: MutEventSubscriber, J: Job<S>, L: Ledger, T: Ledger, P: EventPoller> Eve
     }
 
     /// An endpoint, by which other threads send jobs to this manager. `OutOfMemory` where one more owner is refused.
-    pub fn remote_endpoint(&self) -> Result<RemoteEndpoint<S, J, L, T>>
+    pub fn remote_endpoint(&self) -> Result<RemoteEndpoint<S, J, N>>
         ensures refusals { IfErr result (λ e. e ≡ Error.OutOfMemory) }
     {
         self.channel.remote_endpoint()
@@ -142,7 +122,7 @@ impl<S: MutEventSubscriber, J: Job<S>, L: Ledger, T: Ledger, P: EventPoller> Eve
     /// Closes the queue in one turn: from then on a send is refused with `ChannelSend`. The jobs that wait are dropped, and
     /// whoever waits for a reply of theirs gets `ChannelRecv`. Then subscribers and poller are dropped; the poller is
     /// asked for nothing.
-    pub fn close<R: Wait + Clock>(self, rt: &R) -> Closed<L>
+    pub fn close<R: Wait + Clock>(self, rt: &R) -> Closed<N>
     where
         S: Drop,
         P: Drop,
@@ -156,8 +136,8 @@ impl<S: MutEventSubscriber, J: Job<S>, L: Ledger, T: Ledger, P: EventPoller> Eve
     }
 }
 
-impl<S: MutEventSubscriber + Drop, J: Job<S>, L: Ledger, T: Ledger, P: EventPoller> SubscriberOps
-    for EventManager<S, J, L, T, P> {
+impl<S: MutEventSubscriber + Drop, J: Job<S>, N: Naming, P: EventPoller> SubscriberOps
+    for EventManager<S, J, N, P> {
     type Subscriber = S;
 
     type Poller = P;

@@ -5,14 +5,13 @@ use crate::counting::{
 };
 use crate::expecting::{expect, expect_ok, expect_same};
 use crate::runs::run_alone;
-use event_manager::{EventManager, EventPoller, Locked, NoJob, PlainPoller, SubscriberOps};
+use event_manager::{EventManager, EventPoller, Locked, Naming, NoJob, PlainPoller, SubscriberOps};
 use fixtures::making::{WithManager, no_memory, with_manager};
 use fixtures::parts::{Parts, silent_parts};
 use std::cell::RefCell;
 use std::process::Abort;
 use std::rc::Rc;
 use std::sync::atomic::{AtomicU64, Ordering};
-use std::sync::ledger::Ledger;
 use std::sync::{Arc, Wait};
 use std::thread;
 use std::time::{Clock, Duration};
@@ -49,9 +48,9 @@ impl<R: Wait + Clock + Abort> WithManager for BusyThenFree<'_, R> {
 
     type Output = ();
 
-    fn run<L: Ledger, T: Ledger, P: EventPoller>(
+    fn run<N: Naming, P: EventPoller>(
         self,
-        manager: &mut EventManager<Rc<RefCell<Counting>>, NoJob, L, T, P>,
+        manager: &mut EventManager<Rc<RefCell<Counting>>, NoJob, N, P>,
     ) -> event_manager::Result<()> {
         let BusyThenFree { rt, cell } = self;
         manager.add_subscriber(cell.clone().map_err(no_memory)?)?;
@@ -103,9 +102,9 @@ impl<R: Wait + Clock + Abort + Drop> WithManager for Turns<'_, R> {
 
     type Output = ();
 
-    fn run<L: Ledger, T: Ledger, P: EventPoller>(
+    fn run<N: Naming, P: EventPoller>(
         self,
-        manager: &mut EventManager<Arc<Locked<Counting, R>>, NoJob, L, T, P>,
+        manager: &mut EventManager<Arc<Locked<Counting, R>>, NoJob, N, P>,
     ) -> event_manager::Result<()> {
         let Turns { rt, locked, turn } = self;
         expect_turn(rt, turn, 1);

@@ -3,15 +3,14 @@
 use crate::expecting::{expect_ok, expect_same};
 use crate::parts::script_of;
 use event_manager::{
-    Error, EventManager, EventOps, EventPoller, Events, MutEventSubscriber, NoJob, PlainPoller,
-    Request, SubscriberOps,
+    Error, EventManager, EventOps, EventPoller, Events, MutEventSubscriber, Naming, NoJob,
+    PlainPoller, Request, SubscriberOps,
 };
 use fixtures::making::{WithManager, with_manager};
 use fixtures::parts::{Parts, silent_parts};
 use std::alloc::Global;
 use std::process::Abort;
 use std::sync::Wait;
-use std::sync::ledger::Ledger;
 use std::time::Clock;
 use vmm_sys::epoll::EventSet;
 use vmm_sys::errno::Errno;
@@ -95,9 +94,9 @@ impl<R: Wait + Clock> WithManager for JoinRunAndLeave<'_, R> {
 
     type Output = Seen;
 
-    fn run<L: Ledger, T: Ledger, P: EventPoller>(
+    fn run<N: Naming, P: EventPoller>(
         self,
-        manager: &mut EventManager<Asking, NoJob, L, T, P>,
+        manager: &mut EventManager<Asking, NoJob, N, P>,
     ) -> event_manager::Result<Seen> {
         let id = manager.add_subscriber(Asking::new())?;
         let run = manager.run(self.rt);

@@ -4,14 +4,14 @@ use crate::counting::{Counting, counting_on};
 use crate::expecting::{expect, expect_ok, expect_same};
 use crate::parts::script_of;
 use event_manager::{
-    Error, EventManager, EventPoller, NoJob, PlainPoller, Result, SubscriberId, SubscriberOps,
+    Error, EventManager, EventPoller, Naming, NoJob, PlainPoller, Result, SubscriberId,
+    SubscriberOps,
 };
 use fixtures::making::{WithManager, no_memory, with_manager};
 use fixtures::parts::silent_parts;
 use std::alloc::Global;
 use std::process::Abort;
 use std::sync::Wait;
-use std::sync::ledger::Ledger;
 use std::time::Clock;
 
 /// How many subscribers stay.
@@ -54,9 +54,9 @@ impl<R: Abort> WithManager for Comings<'_, R> {
 
     type Output = Vec<SubscriberId>;
 
-    fn run<L: Ledger, T: Ledger, P: EventPoller>(
+    fn run<N: Naming, P: EventPoller>(
         self,
-        manager: &mut EventManager<Counting, NoJob, L, T, P>,
+        manager: &mut EventManager<Counting, NoJob, N, P>,
     ) -> Result<Vec<SubscriberId>> {
         let Comings { rt, alloc } = self;
         let mut staying: Vec<SubscriberId> = Vec::new(alloc);
@@ -107,9 +107,9 @@ impl<R: Wait + Clock + Abort> WithManager for Replacing<'_, R> {
 
     type Output = (u64, u64, u64);
 
-    fn run<L: Ledger, T: Ledger, P: EventPoller>(
+    fn run<N: Naming, P: EventPoller>(
         self,
-        manager: &mut EventManager<Counting, NoJob, L, T, P>,
+        manager: &mut EventManager<Counting, NoJob, N, P>,
     ) -> Result<(u64, u64, u64)> {
         let Replacing { rt, newcomer } = self;
         let first = manager.add_subscriber(counting_on(3))?;

@@ -3,14 +3,14 @@
 use crate::expecting::expect_same;
 use crate::requests::expect_answers;
 use event_manager::{
-    Error, EventManager, EventPoller, MutEventSubscriber, NoJob, Request, Result, SubscriberOps,
+    Error, EventManager, EventPoller, MutEventSubscriber, Naming, NoJob, Request, Result,
+    SubscriberOps,
 };
 use fixtures::making::{WithManager, no_memory, with_manager};
 use fixtures::parts::Parts;
 use std::alloc::Global;
 use std::process::Abort;
 use std::sync::Wait;
-use std::sync::ledger::Ledger;
 use std::time::Clock;
 
 /// The limit of a run in milliseconds, or none, and the answer.
@@ -32,9 +32,9 @@ impl<R: Wait + Clock + Abort, S: MutEventSubscriber + Drop> WithManager for Runs
 
     type Output = Vec<S>;
 
-    fn run<L: Ledger, T: Ledger, P: EventPoller>(
+    fn run<N: Naming, P: EventPoller>(
         self,
-        manager: &mut EventManager<S, NoJob, L, T, P>,
+        manager: &mut EventManager<S, NoJob, N, P>,
     ) -> Result<Vec<S>> {
         let Runs {
             rt,

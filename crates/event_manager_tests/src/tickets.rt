@@ -1,11 +1,10 @@
 //! Tickets and counts over ledgers that a body is given.
 
 use crate::expecting::expect_same;
-use job_tickets::ledgers::{WithLedgers, with_ledgers};
-use job_tickets::taken::open;
-use job_tickets::tickets::{Register, Ticket};
+use job_tickets::ledgers::{Ledgers, WithLedgers, with_ledgers};
+use job_tickets::naming::Naming;
+use job_tickets::tickets::Ticket;
 use std::alloc::Global;
-use std::sync::ledger::{Blank, Ledger};
 
 /// Issues three tickets and gathers two of them, then all.
 #[derive(Drop)]
@@ -16,7 +15,7 @@ struct Gathering {
 /// Whether two of three tickets are all, whether three are, and their numbers then.
 type Gathered = (bool, bool, [u64; 3]);
 
-fn numbers_of<L: Ledger>(tickets: &[Ticket<L>]) -> [u64; 3] {
+fn numbers_of<N: Naming>(tickets: &[Ticket<N>]) -> [u64; 3] {
     match tickets {
         [first, second, third] => [first.number(), second.number(), third.number()],
         _ => [0; 3],
@@ -26,12 +25,8 @@ fn numbers_of<L: Ledger>(tickets: &[Ticket<L>]) -> [u64; 3] {
 impl WithLedgers for Gathering {
     type Output = Option<Gathered>;
 
-    fn run<L: Ledger + Send + Sync, T: Ledger + Send + Sync>(
-        self,
-        tickets: Blank,
-        _taken: Blank,
-    ) -> Option<Gathered> {
-        let mut register = Register::<L>::new(tickets);
+    fn run<N: Naming + Send + Sync>(self, ledgers: Ledgers<N>) -> Option<Gathered> {
+        let (mut register, _, _) = ledgers.open();
         let (first, second, third) = (register.issue(), register.issue(), register.issue());
         let mut gathered = Vec::new(self.alloc);
         gathered.push(third).ok()?;
@@ -56,12 +51,8 @@ struct Counting;
 impl WithLedgers for Counting {
     type Output = u64;
 
-    fn run<L: Ledger + Send + Sync, T: Ledger + Send + Sync>(
-        self,
-        _tickets: Blank,
-        taken: Blank,
-    ) -> u64 {
-        let (mut book, mut count) = open::<T>(taken);
+    fn run<N: Naming + Send + Sync>(self, ledgers: Ledgers<N>) -> u64 {
+        let (_, mut book, mut count) = ledgers.open();
         count.add(&mut book, 5);
         count.add(&mut book, 2);
         count.count()

@@ -8,26 +8,25 @@ ghost use Rattle.evloop.specs.Calls.{IsReplyTo, Joins, Leaves, Asks, Runs};
 use crate::output::{Out, OutputLine, Printer};
 use event_manager::drive::drive;
 use event_manager::{
-    Call, Error, EventManager, EventPoller, Job, MutEventSubscriber, Reply, Request, SubscriberId,
+    Call, Error, EventManager, EventPoller, Job, MutEventSubscriber, Naming, Reply, Request,
+    SubscriberId,
 };
 use evloop_script::fault::Fault;
 use std::alloc::Global;
 use std::sync::Wait;
-use std::sync::ledger::Ledger;
 use std::time::Clock;
 
 // Makes one call, as a list of its own.
-fn make_one<S, J, L, T, P, R>(
+fn make_one<S, J, N, P, R>(
     rt: &R,
     alloc: Global,
-    manager: &mut EventManager<S, J, L, T, P>,
+    manager: &mut EventManager<S, J, N, P>,
     call: Call<S>,
 ) -> Result<Reply<S>, Fault>
 where
     S: MutEventSubscriber + Drop,
     J: Job<S>,
-    L: Ledger,
-    T: Ledger,
+    N: Naming,
     P: EventPoller,
     R: Wait + Clock,
     ensures driven { IfOk result (λ reply. IsDriven S.begins S.serves J.may P.controls P.waits (state_of manager.old) (call ∷ []) (reply ∷ []) (state_of manager.new)) }
@@ -52,10 +51,10 @@ where
 /// # Errors
 ///
 /// `OutOfMemory`, the call not having been made; `CannotWrite`.
-pub fn join<S, J, L, T, P, R, O>(
+pub fn join<S, J, N, P, R, O>(
     rt: &R,
     alloc: Global,
-    manager: &mut EventManager<S, J, L, T, P>,
+    manager: &mut EventManager<S, J, N, P>,
     subscriber: S,
     name: &str,
     printer: &mut Printer<O>,
@@ -63,8 +62,7 @@ pub fn join<S, J, L, T, P, R, O>(
 where
     S: MutEventSubscriber + Drop,
     J: Job<S>,
-    L: Ledger,
-    T: Ledger,
+    N: Naming,
     P: EventPoller,
     R: Wait + Clock,
     O: Out + Drop,
@@ -91,10 +89,10 @@ where
 /// # Errors
 ///
 /// `OutOfMemory`, the call not having been made; `CannotWrite` where the requests are refused as a whole.
-pub fn ask<S, J, L, T, P, R, O>(
+pub fn ask<S, J, N, P, R, O>(
     rt: &R,
     alloc: Global,
-    manager: &mut EventManager<S, J, L, T, P>,
+    manager: &mut EventManager<S, J, N, P>,
     id: Result<SubscriberId, Error>,
     name: &str,
     requests: Vec<Request>,
@@ -103,8 +101,7 @@ pub fn ask<S, J, L, T, P, R, O>(
 where
     S: MutEventSubscriber + Drop,
     J: Job<S>,
-    L: Ledger,
-    T: Ledger,
+    N: Naming,
     P: EventPoller,
     R: Wait + Clock,
     O: Out + Drop,
@@ -146,10 +143,10 @@ fn print_replies<O: Out>(
 /// # Errors
 ///
 /// `OutOfMemory`, the call not having been made; `CannotWrite`.
-pub fn leave<S, J, L, T, P, R, O>(
+pub fn leave<S, J, N, P, R, O>(
     rt: &R,
     alloc: Global,
-    manager: &mut EventManager<S, J, L, T, P>,
+    manager: &mut EventManager<S, J, N, P>,
     id: Result<SubscriberId, Error>,
     name: &str,
     printer: &mut Printer<O>,
@@ -157,8 +154,7 @@ pub fn leave<S, J, L, T, P, R, O>(
 where
     S: MutEventSubscriber + Drop,
     J: Job<S>,
-    L: Ledger,
-    T: Ledger,
+    N: Naming,
     P: EventPoller,
     R: Wait + Clock,
     O: Out + Drop,
@@ -180,17 +176,16 @@ where
 /// # Errors
 ///
 /// `OutOfMemory`, the call not having been made; `CannotWrite`.
-pub fn run_once<S, J, L, T, P, R, O>(
+pub fn run_once<S, J, N, P, R, O>(
     rt: &R,
     alloc: Global,
-    manager: &mut EventManager<S, J, L, T, P>,
+    manager: &mut EventManager<S, J, N, P>,
     printer: &mut Printer<O>,
 ) -> Result<(), Fault>
 where
     S: MutEventSubscriber + Drop,
     J: Job<S>,
-    L: Ledger,
-    T: Ledger,
+    N: Naming,
     P: EventPoller,
     R: Wait + Clock,
     O: Out + Drop,

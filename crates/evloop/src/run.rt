@@ -9,8 +9,8 @@ use crate::calls::{ask, join, leave, run_once};
 use crate::output::{Out, Printer};
 use crate::subscriber::Subscriber;
 use event_manager::{
-    BoxedPoller, Error, EventManager, EventPoller, Job, NoJob, SubscriberId, WithLedgers,
-    with_ledgers,
+    BoxedPoller, Error, EventManager, EventPoller, Job, Ledgers, Naming, NoJob, SubscriberId,
+    WithLedgers, with_ledgers,
 };
 use evloop_script::fault::Fault;
 use evloop_script::input::read_text;
@@ -19,7 +19,6 @@ use evloop_script::script::{Call, Refusal, Wait as ScriptedWait, parse};
 use std::alloc::Global;
 use std::io::Read;
 use std::sync::Wait;
-use std::sync::ledger::{Blank, Ledger};
 use std::time::Clock;
 use vmm_sys::epoll::Epoll;
 use vmm_sys::errno::Errno;
@@ -81,11 +80,7 @@ struct ScriptRun<'a, R, O> {
 impl<R: Wait + Clock, O: Out + Drop> WithLedgers for ScriptRun<'_, R, O> {
     type Output = Result<(), Fault>;
 
-    fn run<L: Ledger + Send + Sync, T: Ledger + Send + Sync>(
-        self,
-        tickets: Blank,
-        taken: Blank,
-    ) -> Result<(), Fault> {
+    fn run<N: Naming + Send + Sync>(self, ledgers: Ledgers<N>) -> Result<(), Fault> {
         let ScriptRun {
             rt,
             alloc,
@@ -95,8 +90,8 @@ impl<R: Wait + Clock, O: Out + Drop> WithLedgers for ScriptRun<'_, R, O> {
             reactions,
             mut printer,
         } = self;
-        let mut manager = EventManager::<Subscriber<O>, NoJob, L, T>::new(
-            alloc, poller, endpoint, tickets, taken,
+        let mut manager = EventManager::<Subscriber<O>, NoJob, N>::new(
+            alloc, poller, endpoint, ledgers,
         )?;
         make_calls(rt, alloc, &mut manager, calls, reactions, &mut printer)
     }
@@ -149,10 +144,10 @@ fn push_wait(poller: &mut ScriptPoller, wait: ScriptedWait) -> Result<(), Errno>
 }
 
 // Makes the calls in order, and prints their answers. The reactions are those of the joins, in order.
-fn make_calls<'a, R, O, J, L, T, P>(
+fn make_calls<'a, R, O, J, N, P>(
     rt: &R,
     alloc: Global,
-    manager: &mut EventManager<Subscriber<'a, O>, J, L, T, P>,
+    manager: &mut EventManager<Subscriber<'a, O>, J, N, P>,
     calls: Vec<Call<'a>>,
     reactions: Vec<Reactions>,
     printer: &mut Printer<O>,
@@ -161,8 +156,7 @@ where
     R: Wait + Clock,
     O: Out + Drop,
     J: Job<Subscriber<'a, O>>,
-    L: Ledger,
-    T: Ledger,
+    N: Naming,
     P: EventPoller,
 {
     let mut reactions = reactions.into_iter();

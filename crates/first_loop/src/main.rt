@@ -3,12 +3,11 @@
 
 use anyhow::Result;
 use event_manager::{
-    EventManager, EventOps, EventPoller, EventSet, Events, MutEventSubscriber, NoJob, PlainPoller,
-    SubscriberOps, WithLedgers, with_ledgers,
+    EventManager, EventOps, EventPoller, EventSet, Events, Ledgers, MutEventSubscriber, Naming,
+    NoJob, PlainPoller, SubscriberOps, WithLedgers, with_ledgers,
 };
 use std::alloc::Global;
 use std::sync::Wait;
-use std::sync::ledger::{Blank, Ledger};
 use std::time::Clock;
 use vmm_sys::epoll::Epoll;
 use vmm_sys::eventfd::EventFd;
@@ -52,14 +51,13 @@ struct TwoRuns<'a, R> {
 impl<R: Wait + Clock + Clone + Send + Drop> WithLedgers for TwoRuns<'_, R> {
     type Output = event_manager::Result<u64>;
 
-    fn run<L: Ledger, T: Ledger>(self, tickets: Blank, taken: Blank) -> Self::Output {
+    fn run<N: Naming>(self, ledgers: Ledgers<N>) -> Self::Output {
         let (alloc, poller) = (self.alloc, PlainPoller(self.epoll));
-        let mut manager = EventManager::<_, NoJob, L, T, _>::new(
+        let mut manager = EventManager::<_, NoJob, N, _>::new(
             alloc,
             poller,
             self.endpoint,
-            tickets,
-            taken,
+            ledgers,
         )?;
         let id = manager.add_subscriber(Doorman {
             bell: self.bell,

@@ -2,23 +2,17 @@
 
 ghost use Rattle.std.specs.Prelude.{◌≡◌, ◌+◌, ◌^◌, ◌<◌, ℕ};
 
-use std::marker::{Model, PhantomData};
-use std::sync::ledger::{Blank, Book, Ledger, Share};
-
-// That the ledger has one part.
-#[derive(Drop)]
-struct Single<T: Ledger> {
-    of: PhantomData<T>,
-    ghost one: { T.parts ≡ 1 },
-}
+use crate::naming::{Naming, Taken};
+use std::marker::Model;
+use std::sync::ledger::{Blank, Book, Share};
 
 /// The book: contracts see how many jobs were taken.
 #[derive(Drop)]
-pub struct TakenBook<T: Ledger> {
-    book: Book<T>,
+pub struct TakenBook<N: Naming> {
+    book: Book<Taken<N>>,
 }
 
-impl<T: Ledger> Model for TakenBook<T> {
+impl<N: Naming> Model for TakenBook<N> {
     ghost Value = { ℕ };
 
     ghost view = { λ b. b.book.total };
@@ -26,13 +20,12 @@ impl<T: Ledger> Model for TakenBook<T> {
 
 /// The count, of which there is one for a ledger: contracts see how many jobs were taken.
 #[derive(Drop)]
-pub struct TakenCount<T: Ledger> {
+pub struct TakenCount<N: Naming> {
     count: u64,
-    share: Share<T>,
-    single: Single<T>,
+    share: Share<Taken<N>>,
 }
 
-impl<T: Ledger> Model for TakenCount<T> {
+impl<N: Naming> Model for TakenCount<N> {
     ghost Value = { ℕ };
 
     ghost view = { λ c. c.count };
@@ -40,26 +33,17 @@ impl<T: Ledger> Model for TakenCount<T> {
     ghost invariant = { λ c. (c.share.parts ≡ 1) × (c.share.amount ≡ c.count) };
 }
 
-/// The book and the count of a ledger with one part, both at 0.
-pub fn open<T: Ledger>(blank: Blank) -> (TakenBook<T>, TakenCount<T>)
-    requires name { blank.name ≡ T.name }
-    requires parts { blank.parts ≡ T.parts }
-    requires one { blank.parts ≡ 1 }
+// The book and the count, both at 0.
+pub(crate) fn open<N: Naming>(blank: Blank) -> (TakenBook<N>, TakenCount<N>)
+    requires name { blank.name ≡ N.taken }
+    requires parts { blank.parts ≡ 1 }
     ensures { (result.0 ≡ 0) × (result.1 ≡ 0) }
 {
-    let (book, share) = blank.open::<T>();
-    let single = Single { of: PhantomData };
-    (
-        TakenBook { book },
-        TakenCount {
-            count: 0,
-            share,
-            single,
-        },
-    )
+    let (book, share) = blank.open::<Taken<N>>();
+    (TakenBook { book }, TakenCount { count: 0, share })
 }
 
-impl<T: Ledger> TakenCount<T> {
+impl<N: Naming> TakenCount<N> {
     /// The number.
     pub fn count(&self) -> u64
         ensures { result ≡ self.now }
@@ -68,24 +52,22 @@ impl<T: Ledger> TakenCount<T> {
     }
 
     /// Counts so many more jobs, here and in the book. Before, both agreed.
-    pub fn add(&mut self, book: &mut TakenBook<T>, more: u64)
+    pub fn add(&mut self, book: &mut TakenBook<N>, more: u64)
         requires { book.old + more < 2 ^ 64 }
         ensures agree { self.old ≡ book.old }
         ensures count { self.new ≡ self.old + more }
         ensures book { book.new ≡ book.old + more }
     {
-        let _of = &self.single.of;
         book.book.audit(&mut self.share);
         book.book.add(&mut self.share, more);
         self.count += more;
     }
 
     /// There is no other count of this ledger.
-    pub fn is_alone(&mut self, other: Option<TakenCount<T>>)
+    pub fn is_alone(&mut self, other: Option<TakenCount<N>>)
         ensures none { other ≡ None }
         ensures count { self.new ≡ self.old }
     {
-        let _of = &self.single.of;
         if let Some(other) = other {
             let TakenCount { share, .. } = other;
             self.share.merge(share);
@@ -94,12 +76,11 @@ impl<T: Ledger> TakenCount<T> {
     }
 
     /// The book says the same.
-    pub fn agree(&mut self, book: &mut TakenBook<T>)
+    pub fn agree(&mut self, book: &mut TakenBook<N>)
         ensures agree { self.old ≡ book.old }
         ensures count { self.new ≡ self.old }
         ensures book { book.new ≡ book.old }
     {
-        let _of = &self.single.of;
         book.book.audit(&mut self.share);
     }
 }

@@ -4,29 +4,23 @@ ghost use Rattle.std.specs.Prelude.{◌≡◌, ◌+◌, ◌^◌, ◌<◌, ◌≤
 ghost use Rattle.std.specs.List.Sorted.{IsNonDecreasing, IsPermutation};
 ghost use Rattle.job_tickets.specs.Weights.{weight, weight_to, weigh, one_to};
 
+use crate::naming::{Naming, Tickets};
 use crate::weights::add_weight;
-use std::marker::{Model, PhantomData};
-use std::sync::ledger::{Blank, Book, Ledger, Share};
+use std::marker::Model;
+use std::sync::ledger::{Blank, Book, Share};
 
 /// How many tickets a register can issue.
 pub const MOST_TICKETS: u64 = 9223372036854775807;
 
-// That the ledger has a part for each ticket, and one more.
-#[derive(Drop)]
-struct Whole<L: Ledger> {
-    of: PhantomData<L>,
-    ghost all: { L.parts ≡ 2 ^ 63 },
-}
-
 /// A ticket: contracts see its number, from 1 up. There is one for each number that the register of its ledger issued,
 /// so it can't be copied or made.
 #[derive(Drop)]
-pub struct Ticket<L: Ledger> {
+pub struct Ticket<N: Naming> {
     number: u64,
-    share: Share<L>,
+    share: Share<Tickets<N>>,
 }
 
-impl<L: Ledger> Model for Ticket<L> {
+impl<N: Naming> Model for Ticket<N> {
     ghost Value = { ℕ };
 
     ghost view = { λ t. t.number };
@@ -34,7 +28,7 @@ impl<L: Ledger> Model for Ticket<L> {
     ghost invariant = { λ t. (t.share.parts ≡ 1) × (t.share.amount ≡ weight t.number) };
 }
 
-impl<L: Ledger> Ticket<L> {
+impl<N: Naming> Ticket<N> {
     /// The number.
     pub fn number(&self) -> u64
         ensures { result ≡ self.now }
@@ -45,14 +39,13 @@ impl<L: Ledger> Ticket<L> {
 
 /// Issues tickets, numbered from 1. Contracts see how many it issued.
 #[derive(Drop)]
-pub struct Register<L: Ledger> {
+pub struct Register<N: Naming> {
     issued: u64,
-    book: Book<L>,
-    rest: Share<L>,
-    whole: Whole<L>,
+    book: Book<Tickets<N>>,
+    rest: Share<Tickets<N>>,
 }
 
-impl<L: Ledger> Model for Register<L> {
+impl<N: Naming> Model for Register<N> {
     ghost Value = { ℕ };
 
     ghost view = { λ r. r.issued };
@@ -60,20 +53,18 @@ impl<L: Ledger> Model for Register<L> {
     ghost invariant = { λ r. (r.rest.parts + r.issued ≡ 2 ^ 63) × (r.rest.amount ≡ 0) × (r.book.total ≡ weight_to r.issued) };
 }
 
-impl<L: Ledger> Register<L> {
-    /// A register that has issued none, over a ledger with 2^63 parts.
-    pub fn new(blank: Blank) -> Self
-        requires name { blank.name ≡ L.name }
-        requires parts { blank.parts ≡ L.parts }
-        requires room { blank.parts ≡ 2 ^ 63 }
+impl<N: Naming> Register<N> {
+    // A register that has issued none.
+    pub(crate) fn new(blank: Blank) -> Self
+        requires name { blank.name ≡ N.tickets }
+        requires parts { blank.parts ≡ 9223372036854775808 }
         ensures { result ≡ 0 }
     {
-        let (book, rest) = blank.open::<L>();
+        let (book, rest) = blank.open::<Tickets<N>>();
         Register {
             issued: 0,
             book,
             rest,
-            whole: Whole { of: PhantomData },
         }
     }
 
@@ -86,7 +77,7 @@ impl<L: Ledger> Register<L> {
 
     /// Whether these are all the tickets that it issued: exactly where they are as many. Then they are sorted, and their
     /// numbers are 1, 2, 3 and so on; else the list stays as it was.
-    pub fn gather(&mut self, tickets: &mut Vec<Ticket<L>>) -> bool
+    pub fn gather(&mut self, tickets: &mut Vec<Ticket<N>>) -> bool
         ensures exactly { IsTrue result ↔ vec_len tickets.old ≡ self.old }
         ensures all { result ≡ true → tickets.new.items ≡ one_to self.old }
         ensures same { result ≡ true → IsPermutation tickets.old.items tickets.new.items }
@@ -99,14 +90,14 @@ impl<L: Ledger> Register<L> {
         sort(tickets);
         if !are_in_order(tickets) {
             // Never: as many other numbers would weigh something else, put together.
-            put_together(&mut self.book, &mut self.rest, &self.whole, tickets);
+            put_together(&mut self.book, &mut self.rest, tickets);
             unreachable!();
         }
         true
     }
 
     /// Issues the next ticket.
-    pub fn issue(&mut self) -> Ticket<L>
+    pub fn issue(&mut self) -> Ticket<N>
         requires { self.old < MOST_TICKETS }
         ensures next { result ≡ self.old + 1 }
         ensures issued { self.new ≡ self.old + 1 }
@@ -120,7 +111,7 @@ impl<L: Ledger> Register<L> {
 }
 
 // Sorts by number. It takes no memory.
-fn sort<L: Ledger>(tickets: &mut Vec<Ticket<L>>)
+fn sort<N: Naming>(tickets: &mut Vec<Ticket<N>>)
     ensures order { IsNonDecreasing tickets.new.items }
     ensures same { IsPermutation tickets.old.items tickets.new.items }
     ensures len { vec_len tickets.new ≡ vec_len tickets.old }
@@ -129,7 +120,7 @@ fn sort<L: Ledger>(tickets: &mut Vec<Ticket<L>>)
 }
 
 // Whether the numbers are 1, 2, 3 and so on.
-fn are_in_order<L: Ledger>(tickets: &Vec<Ticket<L>>) -> bool
+fn are_in_order<N: Naming>(tickets: &Vec<Ticket<N>>) -> bool
     ensures { IsTrue result ↔ tickets.now.items ≡ one_to (vec_len tickets.now) }
 {
     for i in 0..tickets.len() {
@@ -141,17 +132,15 @@ fn are_in_order<L: Ledger>(tickets: &Vec<Ticket<L>>) -> bool
 }
 
 // Puts the shares of all tickets to the rest. They have all parts, and so the whole weight.
-fn put_together<L: Ledger>(
-    book: &mut Book<L>,
-    rest: &mut Share<L>,
-    whole: &Whole<L>,
-    tickets: &mut Vec<Ticket<L>>,
+fn put_together<N: Naming>(
+    book: &mut Book<Tickets<N>>,
+    rest: &mut Share<Tickets<N>>,
+    tickets: &mut Vec<Ticket<N>>,
 )
     requires parts { rest.old.parts + vec_len tickets.old ≡ 2 ^ 63 }
     requires none { rest.old.amount ≡ 0 }
     ensures { weigh tickets.old.items ≡ book.old.total }
 {
-    let _of = &whole.of;
     while let Some(ticket) = tickets.pop() {
         let Ticket { number: _, share } = ticket;
         rest.merge(share);

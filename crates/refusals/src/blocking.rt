@@ -10,11 +10,11 @@ use crate::fault::{Fault, expect, expect_unchanged, named};
 use crate::host::Host;
 use crate::jobs::Sender;
 use crate::making::{Manager, OnTable, copy_counter, open_table};
-use event_manager::PlainPoller;
+use event_manager::{Ledgers, Naming, PlainPoller};
 use std::alloc::Global;
 use std::marker::Brand;
 use std::sync::atomic::{AtomicBool, Ordering};
-use std::sync::ledger::{Blank, Ledger};
+use std::sync::ledger::Blank;
 use std::sync::{Arc, Wait};
 use std::thread;
 use std::thread::{JoinHandle, Threads};
@@ -31,11 +31,11 @@ const MAX_WAITS: u32 = 100;
 const CALLS: u64 = 3;
 
 /// A loop over a table, which is moved to another thread.
-type Loop<L, T, R> = Manager<L, T, PlainPoller<Epoll<R>>>;
+type Loop<N, R> = Manager<N, PlainPoller<Epoll<R>>>;
 
 /// Runs the loop until the flag is set, and closes it; answers how many tickets were issued and how many jobs taken.
-fn serve<L: Ledger, T: Ledger, R: Wait + Clock + Copy + Send + Drop>(
-    mut manager: Loop<L, T, R>,
+fn serve<N: Naming, R: Wait + Clock + Copy + Send + Drop>(
+    mut manager: Loop<N, R>,
     stopped: &AtomicBool,
     rt: &R,
 ) -> (u64, u64) {
@@ -66,11 +66,7 @@ fn start<R: Threads, F: FnOnce() -> (u64, u64) + Send + Drop + 'static>(
 }
 
 /// Calls a job, and waits for its reply.
-fn call_one<L: Ledger, T: Ledger, R: Host>(
-    endpoint: &Sender<L, T>,
-    number: u64,
-    rt: &R,
-) -> Result<(), Fault> {
+fn call_one<N: Naming, R: Host>(endpoint: &Sender<N>, number: u64, rt: &R) -> Result<(), Fault> {
     let name = CallName::CallBlocking;
     let reply = again!(
         name,
@@ -81,7 +77,7 @@ fn call_one<L: Ledger, T: Ledger, R: Host>(
 }
 
 /// Calls the jobs one after another.
-fn call<L: Ledger, T: Ledger, R: Host>(endpoint: &Sender<L, T>, rt: &R) -> Result<(), Fault> {
+fn call<N: Naming, R: Host>(endpoint: &Sender<N>, rt: &R) -> Result<(), Fault> {
     for k in 0..CALLS {
         call_one(endpoint, k, rt)?;
     }
@@ -96,8 +92,8 @@ fn make_flag(alloc: Global) -> Result<(Arc<AtomicBool>, Arc<AtomicBool>), Fault>
 }
 
 /// Calls jobs of the loop that another thread serves, and then ends that.
-fn call_and_stop<L: Ledger, T: Ledger, R: Host + Threads>(
-    endpoint: &Sender<L, T>,
+fn call_and_stop<N: Naming, R: Host + Threads>(
+    endpoint: &Sender<N>,
     stopped: &AtomicBool,
     serving: JoinHandle<(u64, u64)>,
     rt: &R,
@@ -113,28 +109,22 @@ fn call_and_stop<L: Ledger, T: Ledger, R: Host + Threads>(
 }
 
 /// A manager over the table, made once.
-fn make<L: Ledger, T: Ledger, R: Host>(
+fn make<N: Naming, R: Host>(
     alloc: Global,
     on_table: &OnTable<R>,
-    tickets: Blank,
-    taken: Blank,
-) -> Result<Loop<L, T, R>, Fault>
-    requires tickets_name { tickets.name ≡ L.name }
-    requires tickets_parts { (tickets.parts ≡ L.parts) × (tickets.parts ≡ 9223372036854775808) }
-    requires taken_name { taken.name ≡ T.name }
-    requires taken_parts { (taken.parts ≡ T.parts) × (taken.parts ≡ 1) }
-{
+    ledgers: Ledgers<N>,
+) -> Result<Loop<N, R>, Fault> {
     let poller = PlainPoller(copy_epoll(&on_table.epoll)?);
     let endpoint = copy_counter(&on_table.endpoint)?;
     named(
         CallName::EventManagerNew,
-        Loop::<L, T, R>::new(alloc, poller, endpoint, tickets, taken),
+        Loop::<N, R>::new(alloc, poller, endpoint, ledgers),
     )
 }
 
 /// Runs a loop on a thread of its own, and calls jobs of it from this one; `Memory` of `EventManager::new` where the
 /// manager was refused.
-fn call_another_thread<L, T, R>(
+fn call_another_thread<N, R>(
     rt: &R,
     alloc: Global,
     on_table: &OnTable<R>,
@@ -142,15 +132,13 @@ fn call_another_thread<L, T, R>(
     taken: Blank,
 ) -> Result<(), Fault>
 where
-    L: Ledger + Send + Sync + 'static,
-    T: Ledger + Send + Sync + 'static,
+    N: Naming + Send + Sync + 'static,
     R: Host + Threads + Sync + 'static,
-    requires tickets_name { tickets.name ≡ L.name }
-    requires tickets_parts { (tickets.parts ≡ L.parts) × (tickets.parts ≡ 9223372036854775808) }
-    requires taken_name { taken.name ≡ T.name }
-    requires taken_parts { (taken.parts ≡ T.parts) × (taken.parts ≡ 1) }
+    requires tickets { (tickets.name ≡ N.tickets) × (tickets.parts ≡ 9223372036854775808) }
+    requires taken { (taken.name ≡ N.taken) × (taken.parts ≡ 1) }
 {
-    let manager = make::<L, T, R>(alloc, on_table, tickets, taken)?;
+    let ledgers = Ledgers::<N>::new(tickets, taken);
+    let manager = make::<N, R>(alloc, on_table, ledgers)?;
     let endpoint = again!(CallName::RemoteEndpoint, manager.remote_endpoint())?;
     let (stopped, theirs) = make_flag(alloc)?;
     let host = *rt;
@@ -165,7 +153,7 @@ fn call_with_ledgers<R: Host + Threads + Sync + 'static>(
     on_table: &OnTable<R>,
 ) -> Result<(), Fault> {
     let (tickets, taken) = (Blank::new(TICKET_PARTS), Blank::new(1));
-    call_another_thread::<Brand, Brand, R>(rt, alloc, on_table, tickets, taken)
+    call_another_thread::<Brand, R>(rt, alloc, on_table, tickets, taken)
 }
 
 /// Makes a manager over a table, and waits for the replies of jobs that another thread runs.

@@ -6,9 +6,8 @@ use crate::fault::{Fault, Refusal, expect, named};
 use crate::host::{Host, Loop, mark, tell};
 use crate::joins::{ask_with_priority, heard, join};
 use crate::making::{Body, Manager, open_table, over_table};
-use event_manager::{EventOps, EventPoller, EventSet, Events, SubscriberId, SubscriberOps};
+use event_manager::{EventOps, EventPoller, EventSet, Events, Naming, SubscriberId, SubscriberOps};
 use std::alloc::Global;
-use std::sync::ledger::Ledger;
 use vmm_sys::eventfd::EventFd;
 
 /// A subscriber with a ready descriptor, over a table.
@@ -22,9 +21,9 @@ struct Bracketing<'a, R> {
 
 impl<R: Loop> Bracketing<'_, R> {
     /// Runs: one event is reported, and the subscriber has then been given so many.
-    fn run_one<L: Ledger, T: Ledger, P: EventPoller>(
+    fn run_one<N: Naming, P: EventPoller>(
         &self,
-        manager: &mut Manager<L, T, P>,
+        manager: &mut Manager<N, P>,
         id: SubscriberId,
         given: u64,
     ) -> Result<(), Fault> {
@@ -35,9 +34,9 @@ impl<R: Loop> Bracketing<'_, R> {
     }
 
     /// Lends the subscriber.
-    fn lend<L: Ledger, T: Ledger, P: EventPoller>(
+    fn lend<N: Naming, P: EventPoller>(
         &self,
-        manager: &mut Manager<L, T, P>,
+        manager: &mut Manager<N, P>,
         id: SubscriberId,
     ) -> Result<(), Fault> {
         mark(self.rt)?;
@@ -63,9 +62,9 @@ impl<R: Loop> Bracketing<'_, R> {
     }
 
     /// Lends the subscriber's requests, and makes two.
-    fn request<L: Ledger, T: Ledger, P: EventPoller>(
+    fn request<N: Naming, P: EventPoller>(
         &self,
-        manager: &mut Manager<L, T, P>,
+        manager: &mut Manager<N, P>,
         id: SubscriberId,
         own: Events,
     ) -> Result<(), Fault> {
@@ -82,9 +81,9 @@ impl<R: Loop> Bracketing<'_, R> {
     }
 
     /// Adds the descriptor at a priority, runs, and removes it.
-    fn run_with_priority<L: Ledger, T: Ledger, P: EventPoller>(
+    fn run_with_priority<N: Naming, P: EventPoller>(
         &self,
-        manager: &mut Manager<L, T, P>,
+        manager: &mut Manager<N, P>,
         id: SubscriberId,
         own: Events,
     ) -> Result<(), Fault> {
@@ -99,9 +98,9 @@ impl<R: Loop> Bracketing<'_, R> {
     }
 
     /// Lets the subscriber leave.
-    fn leave<L: Ledger, T: Ledger, P: EventPoller>(
+    fn leave<N: Naming, P: EventPoller>(
         &self,
-        manager: &mut Manager<L, T, P>,
+        manager: &mut Manager<N, P>,
         id: SubscriberId,
     ) -> Result<(), Fault> {
         mark(self.rt)?;
@@ -113,9 +112,9 @@ impl<R: Loop> Bracketing<'_, R> {
     }
 
     /// Makes the calls.
-    fn call_all<L: Ledger, T: Ledger, P: EventPoller>(
+    fn call_all<N: Naming, P: EventPoller>(
         &self,
-        manager: &mut Manager<L, T, P>,
+        manager: &mut Manager<N, P>,
     ) -> Result<(), Fault> {
         let own = Events::new(self.counter, EventSet::IN);
         let id = join(manager, own, self.alloc)?;
@@ -130,9 +129,9 @@ impl<R: Loop> Bracketing<'_, R> {
 }
 
 impl<R: Loop> Body for Bracketing<'_, R> {
-    fn run<L: Ledger + Send + Sync, T: Ledger + Send + Sync, P: EventPoller + Drop>(
+    fn run<N: Naming + Send + Sync, P: EventPoller + Drop>(
         &self,
-        manager: Manager<L, T, P>,
+        manager: Manager<N, P>,
     ) -> Result<(), Fault> {
         let mut manager = manager;
         self.call_all(&mut manager)

@@ -8,10 +8,9 @@ use crate::host::{Host, Loop, mark, tell};
 use crate::making::{Body, Manager, copy_counter, open_table, over_table};
 use crate::watcher::Watcher;
 use event_manager::jobs::{Bell, JobQueue};
-use event_manager::{Closed, EventPoller, RemoteEndpoint, Ticket};
+use event_manager::{Closed, EventPoller, Naming, RemoteEndpoint, Ticket};
 use std::alloc::Global;
 use std::sync::Wait;
-use std::sync::ledger::Ledger;
 use std::time::Clock;
 use vmm_sys::errno::Errno;
 use vmm_sys::eventfd::EventFd;
@@ -23,7 +22,7 @@ const COUNT: u64 = 10;
 const CAPACITY: usize = 64;
 
 /// An endpoint of the program.
-pub type Sender<L, T> = RemoteEndpoint<Watcher, Echo, L, T>;
+pub type Sender<N> = RemoteEndpoint<Watcher, Echo, N>;
 
 /// Jobs over a table.
 #[derive(Drop)]
@@ -45,16 +44,12 @@ impl<R: Loop> Sending<'_, R> {
     }
 
     /// Whether so many jobs wait, and the bell was rung as often.
-    fn are_waiting<L: Ledger, T: Ledger>(&self, endpoint: &Sender<L, T>, count: u64) -> bool {
+    fn are_waiting<N: Naming>(&self, endpoint: &Sender<N>, count: u64) -> bool {
         endpoint.pending() == usize::try_from(count).ok() && self.rings() == Some(count)
     }
 
     /// Sends a job by `fire`, where so many wait: its ticket is the next one.
-    fn fire<L: Ledger, T: Ledger>(
-        &self,
-        endpoint: &Sender<L, T>,
-        sent: u64,
-    ) -> Result<Ticket<L>, Fault> {
+    fn fire<N: Naming>(&self, endpoint: &Sender<N>, sent: u64) -> Result<Ticket<N>, Fault> {
         let name = CallName::Fire;
         let ticket = again!(
             name,
@@ -70,12 +65,12 @@ impl<R: Loop> Sending<'_, R> {
     }
 
     /// As `fire`, by `fire_after`.
-    fn fire_after<L: Ledger, T: Ledger>(
+    fn fire_after<N: Naming>(
         &self,
-        endpoint: &Sender<L, T>,
-        shown: &Ticket<L>,
+        endpoint: &Sender<N>,
+        shown: &Ticket<N>,
         sent: u64,
-    ) -> Result<Ticket<L>, Fault> {
+    ) -> Result<Ticket<N>, Fault> {
         let name = CallName::FireAfter;
         let ticket = again!(
             name,
@@ -91,11 +86,11 @@ impl<R: Loop> Sending<'_, R> {
     }
 
     /// Sends two jobs more, the second by `fire_after` the first, where so many were sent.
-    fn send_two<L: Ledger, T: Ledger>(
+    fn send_two<N: Naming>(
         &self,
-        endpoint: &Sender<L, T>,
+        endpoint: &Sender<N>,
         sent: u64,
-        tickets: &mut Vec<Ticket<L>>,
+        tickets: &mut Vec<Ticket<N>>,
     ) -> Result<(), Fault> {
         let fired = self.fire(endpoint, sent)?;
         let after = self.fire_after(endpoint, &fired, sent.saturating_add(1))?;
@@ -105,7 +100,7 @@ impl<R: Loop> Sending<'_, R> {
 
     /// Sends a job, and then the others by `fire` and by `fire_after` in turn; answers their tickets. So each of the two
     /// comes where the queue is full, and requests memory.
-    fn send<L: Ledger, T: Ledger>(&self, endpoint: &Sender<L, T>) -> Result<Vec<Ticket<L>>, Fault> {
+    fn send<N: Naming>(&self, endpoint: &Sender<N>) -> Result<Vec<Ticket<N>>, Fault> {
         let name = CallName::ListTickets;
         let mut tickets = again!(name, Vec::with_capacity(self.alloc, 21))?;
         named(name, tickets.push(self.fire(endpoint, 0)?))?;
@@ -118,10 +113,10 @@ impl<R: Loop> Sending<'_, R> {
     }
 
     /// Runs the jobs.
-    fn run_jobs<L: Ledger, T: Ledger, P: EventPoller>(
+    fn run_jobs<N: Naming, P: EventPoller>(
         &self,
-        manager: &mut Manager<L, T, P>,
-        endpoint: &Sender<L, T>,
+        manager: &mut Manager<N, P>,
+        endpoint: &Sender<N>,
     ) -> Result<(), Fault> {
         let rt = self.rt;
         mark(rt)?;
@@ -137,10 +132,10 @@ impl<R: Loop> Sending<'_, R> {
     }
 
     /// Kicks the loop, and runs it once more.
-    fn kick<L: Ledger, T: Ledger, P: EventPoller>(
+    fn kick<N: Naming, P: EventPoller>(
         &self,
-        manager: &mut Manager<L, T, P>,
-        endpoint: &Sender<L, T>,
+        manager: &mut Manager<N, P>,
+        endpoint: &Sender<N>,
     ) -> Result<(), Fault> {
         let rt = self.rt;
         mark(rt)?;
@@ -154,21 +149,18 @@ impl<R: Loop> Sending<'_, R> {
     }
 
     /// Another endpoint of the first one's manager.
-    fn copy_endpoint<L: Ledger, T: Ledger>(
-        &self,
-        first: &Sender<L, T>,
-    ) -> Result<Sender<L, T>, Fault> {
+    fn copy_endpoint<N: Naming>(&self, first: &Sender<N>) -> Result<Sender<N>, Fault> {
         let endpoint = again!(CallName::RemoteEndpointTryClone, first.try_clone())?;
         tell(self.rt, "RemoteEndpoint::try_clone: ok")?;
         Ok(endpoint)
     }
 
     /// Sends jobs by a copy of the first endpoint and runs them, and sends another one; answers the tickets.
-    fn send_and_run<L: Ledger, T: Ledger, P: EventPoller>(
+    fn send_and_run<N: Naming, P: EventPoller>(
         &self,
-        manager: &mut Manager<L, T, P>,
-        first: &Sender<L, T>,
-    ) -> Result<Vec<Ticket<L>>, Fault> {
+        manager: &mut Manager<N, P>,
+        first: &Sender<N>,
+    ) -> Result<Vec<Ticket<N>>, Fault> {
         tell(self.rt, "remote_endpoint: ok")?;
         let endpoint = self.copy_endpoint(first)?;
         let mut tickets = self.send(&endpoint)?;
@@ -181,7 +173,7 @@ impl<R: Loop> Sending<'_, R> {
     }
 
     /// Sends a job where none waits.
-    fn fire_last<L: Ledger, T: Ledger>(&self, endpoint: &Sender<L, T>) -> Result<Ticket<L>, Fault> {
+    fn fire_last<N: Naming>(&self, endpoint: &Sender<N>) -> Result<Ticket<N>, Fault> {
         again!(
             CallName::Fire,
             endpoint.fire(Echo(0), self.rt),
@@ -190,10 +182,10 @@ impl<R: Loop> Sending<'_, R> {
     }
 
     /// Gathers the tickets of the closed manager.
-    fn gather<L: Ledger>(
+    fn gather<N: Naming>(
         &self,
-        closed: &mut Closed<L>,
-        tickets: &mut Vec<Ticket<L>>,
+        closed: &mut Closed<N>,
+        tickets: &mut Vec<Ticket<N>>,
     ) -> Result<(), Fault> {
         let (issued, taken) = (closed.issued(), closed.taken());
         println!(self.rt; "between marks: close with {issued} issued and {taken} taken")?;
@@ -206,9 +198,9 @@ impl<R: Loop> Sending<'_, R> {
 }
 
 impl<R: Loop> Body for Sending<'_, R> {
-    fn run<L: Ledger + Send + Sync, T: Ledger + Send + Sync, P: EventPoller + Drop>(
+    fn run<N: Naming + Send + Sync, P: EventPoller + Drop>(
         &self,
-        manager: Manager<L, T, P>,
+        manager: Manager<N, P>,
     ) -> Result<(), Fault> {
         let (mut manager, rt) = (manager, self.rt);
         let endpoint = again!(CallName::RemoteEndpoint, manager.remote_endpoint())?;

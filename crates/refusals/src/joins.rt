@@ -7,9 +7,10 @@ use crate::fault::{Fault, Refusal, expect, expect_unchanged, named};
 use crate::host::{Host, Loop};
 use crate::making::{Body, Manager, open_table, over_table};
 use crate::watcher::Watcher;
-use event_manager::{Error, EventPoller, EventSet, Events, Priority, SubscriberId, SubscriberOps};
+use event_manager::{
+    Error, EventPoller, EventSet, Events, Naming, Priority, SubscriberId, SubscriberOps,
+};
 use std::alloc::Global;
-use std::sync::ledger::Ledger;
 use vmm_sys::epoll::{Epoll, RawFd};
 use vmm_sys::errno::Errno;
 use vmm_sys::eventfd::EventFd;
@@ -17,8 +18,8 @@ use vmm_sys::eventfd::EventFd;
 /// How many subscribers join, and how many descriptors the first one then asks for beside.
 const COUNT: RawFd = 20;
 
-fn add_watcher<L: Ledger, T: Ledger, P: EventPoller>(
-    manager: &mut Manager<L, T, P>,
+fn add_watcher<N: Naming, P: EventPoller>(
+    manager: &mut Manager<N, P>,
     own: Events,
     alloc: Global,
 ) -> event_manager::Result<SubscriberId> {
@@ -26,8 +27,8 @@ fn add_watcher<L: Ledger, T: Ledger, P: EventPoller>(
 }
 
 /// `Memory` where the request of its `init` was refused twice, and `Changed` where the first refusal changed something.
-fn expect_joined<L: Ledger, T: Ledger, P: EventPoller>(
-    manager: &mut Manager<L, T, P>,
+fn expect_joined<N: Naming, P: EventPoller>(
+    manager: &mut Manager<N, P>,
     id: SubscriberId,
 ) -> Result<(), Fault> {
     let name = CallName::EventOpsAddInit;
@@ -40,8 +41,8 @@ fn expect_joined<L: Ledger, T: Ledger, P: EventPoller>(
     }
 }
 
-fn add_again<L: Ledger, T: Ledger, P: EventPoller>(
-    manager: &mut Manager<L, T, P>,
+fn add_again<N: Naming, P: EventPoller>(
+    manager: &mut Manager<N, P>,
     own: Events,
     alloc: Global,
 ) -> Result<SubscriberId, Fault> {
@@ -50,8 +51,8 @@ fn add_again<L: Ledger, T: Ledger, P: EventPoller>(
 
 /// Takes a subscriber of this descriptor in. Had a refused join asked for the descriptor, the second one's request would
 /// be refused.
-pub fn join<L: Ledger, T: Ledger, P: EventPoller>(
-    manager: &mut Manager<L, T, P>,
+pub fn join<N: Naming, P: EventPoller>(
+    manager: &mut Manager<N, P>,
     own: Events,
     alloc: Global,
 ) -> Result<SubscriberId, Fault> {
@@ -60,8 +61,8 @@ pub fn join<L: Ledger, T: Ledger, P: EventPoller>(
     Ok(id)
 }
 
-fn add<L: Ledger, T: Ledger, P: EventPoller>(
-    manager: &mut Manager<L, T, P>,
+fn add<N: Naming, P: EventPoller>(
+    manager: &mut Manager<N, P>,
     id: SubscriberId,
     events: Events,
 ) -> event_manager::Result<()> {
@@ -69,8 +70,8 @@ fn add<L: Ledger, T: Ledger, P: EventPoller>(
 }
 
 /// Whether the id doesn't own the descriptor.
-fn is_not_own<L: Ledger, T: Ledger, P: EventPoller>(
-    manager: &mut Manager<L, T, P>,
+fn is_not_own<N: Naming, P: EventPoller>(
+    manager: &mut Manager<N, P>,
     id: SubscriberId,
     events: Events,
 ) -> bool {
@@ -81,8 +82,8 @@ fn is_not_own<L: Ledger, T: Ledger, P: EventPoller>(
 }
 
 /// Adds the descriptor for the subscriber, from outside a batch.
-pub fn ask<L: Ledger, T: Ledger, P: EventPoller>(
-    manager: &mut Manager<L, T, P>,
+pub fn ask<N: Naming, P: EventPoller>(
+    manager: &mut Manager<N, P>,
     id: SubscriberId,
     events: Events,
 ) -> Result<(), Fault> {
@@ -93,8 +94,8 @@ pub fn ask<L: Ledger, T: Ledger, P: EventPoller>(
     )
 }
 
-fn add_with_priority<L: Ledger, T: Ledger, P: EventPoller>(
-    manager: &mut Manager<L, T, P>,
+fn add_with_priority<N: Naming, P: EventPoller>(
+    manager: &mut Manager<N, P>,
     id: SubscriberId,
     events: Events,
 ) -> event_manager::Result<()> {
@@ -104,8 +105,8 @@ fn add_with_priority<L: Ledger, T: Ledger, P: EventPoller>(
 }
 
 /// Adds the descriptor for the subscriber at a priority, from outside a batch.
-pub fn ask_with_priority<L: Ledger, T: Ledger, P: EventPoller>(
-    manager: &mut Manager<L, T, P>,
+pub fn ask_with_priority<N: Naming, P: EventPoller>(
+    manager: &mut Manager<N, P>,
     id: SubscriberId,
     events: Events,
 ) -> Result<(), Fault> {
@@ -117,8 +118,8 @@ pub fn ask_with_priority<L: Ledger, T: Ledger, P: EventPoller>(
 }
 
 /// How many events the subscriber was given.
-pub fn heard<L: Ledger, T: Ledger, P: EventPoller>(
-    manager: &mut Manager<L, T, P>,
+pub fn heard<N: Naming, P: EventPoller>(
+    manager: &mut Manager<N, P>,
     id: SubscriberId,
 ) -> Result<u64, Fault> {
     match manager.subscriber_mut(id) {
@@ -140,9 +141,9 @@ struct Joining<'a, R> {
 
 impl<R: Loop> Joining<'_, R> {
     /// Takes a subscriber in for each of the own counters, and answers the ids.
-    fn join_all<L: Ledger, T: Ledger, P: EventPoller>(
+    fn join_all<N: Naming, P: EventPoller>(
         &self,
-        manager: &mut Manager<L, T, P>,
+        manager: &mut Manager<N, P>,
     ) -> Result<Vec<SubscriberId>, Fault> {
         let mut ids = again!(
             CallName::ListIds,
@@ -159,9 +160,9 @@ impl<R: Loop> Joining<'_, R> {
     }
 
     /// Adds the descriptor of each other counter for the subscriber.
-    fn ask_for_others<L: Ledger, T: Ledger, P: EventPoller>(
+    fn ask_for_others<N: Naming, P: EventPoller>(
         &self,
-        manager: &mut Manager<L, T, P>,
+        manager: &mut Manager<N, P>,
         id: SubscriberId,
     ) -> Result<(), Fault> {
         for counter in self.others {
@@ -182,9 +183,9 @@ impl<R: Loop> Joining<'_, R> {
     }
 
     /// Takes the subscribers in, and answers the ids of the first and the last.
-    fn join_first_to_last<L: Ledger, T: Ledger, P: EventPoller>(
+    fn join_first_to_last<N: Naming, P: EventPoller>(
         &self,
-        manager: &mut Manager<L, T, P>,
+        manager: &mut Manager<N, P>,
     ) -> Result<(SubscriberId, SubscriberId), Fault> {
         let ids = self.join_all(manager)?;
         match (ids.first(), ids.last()) {
@@ -194,9 +195,9 @@ impl<R: Loop> Joining<'_, R> {
     }
 
     /// Takes the subscribers in, and delivers an event of each descriptor.
-    fn join_and_run<L: Ledger, T: Ledger, P: EventPoller>(
+    fn join_and_run<N: Naming, P: EventPoller>(
         &self,
-        manager: &mut Manager<L, T, P>,
+        manager: &mut Manager<N, P>,
     ) -> Result<(), Fault> {
         let (first, last) = self.join_first_to_last(manager)?;
         self.ask_for_others(manager, first)?;
@@ -212,9 +213,9 @@ impl<R: Loop> Joining<'_, R> {
 }
 
 impl<R: Loop> Body for Joining<'_, R> {
-    fn run<L: Ledger + Send + Sync, T: Ledger + Send + Sync, P: EventPoller + Drop>(
+    fn run<N: Naming + Send + Sync, P: EventPoller + Drop>(
         &self,
-        manager: Manager<L, T, P>,
+        manager: Manager<N, P>,
     ) -> Result<(), Fault> {
         let mut manager = manager;
         self.join_and_run(&mut manager)

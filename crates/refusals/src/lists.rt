@@ -10,9 +10,8 @@ use crate::tables::event_of;
 use crate::watcher::Watcher;
 use event_manager::drive::drive;
 use event_manager::jobs::{Outcome, Step, replay};
-use event_manager::{Call, Error, EventPoller, EventSet, Events, Reply, SubscriberId};
+use event_manager::{Call, Error, EventPoller, EventSet, Events, Naming, Reply, SubscriberId};
 use std::alloc::Global;
-use std::sync::ledger::Ledger;
 
 /// A list of calls over a script.
 #[derive(Drop)]
@@ -54,9 +53,9 @@ fn are_replies(replies: &[Reply<Watcher>]) -> bool {
 
 impl<R: Loop> Driving<'_, R> {
     /// Makes the calls once.
-    fn drive_once<L: Ledger, T: Ledger, P: EventPoller>(
+    fn drive_once<N: Naming, P: EventPoller>(
         &self,
-        manager: &mut Manager<L, T, P>,
+        manager: &mut Manager<N, P>,
         first: SubscriberId,
         second: SubscriberId,
         replies: &mut Vec<Reply<Watcher>>,
@@ -66,9 +65,9 @@ impl<R: Loop> Driving<'_, R> {
     }
 
     /// Makes the calls, and looks at their replies.
-    fn drive_again<L: Ledger, T: Ledger, P: EventPoller>(
+    fn drive_again<N: Naming, P: EventPoller>(
         &self,
-        manager: &mut Manager<L, T, P>,
+        manager: &mut Manager<N, P>,
         first: SubscriberId,
         second: SubscriberId,
         replies: &mut Vec<Reply<Watcher>>,
@@ -85,9 +84,9 @@ impl<R: Loop> Driving<'_, R> {
     }
 
     /// Takes two subscribers in, and makes the calls.
-    fn join_and_drive<L: Ledger, T: Ledger, P: EventPoller>(
+    fn join_and_drive<N: Naming, P: EventPoller>(
         &self,
-        manager: &mut Manager<L, T, P>,
+        manager: &mut Manager<N, P>,
     ) -> Result<(), Fault> {
         let (alloc, rt) = (self.alloc, self.rt);
         let first = join(manager, Events::new_raw(1, EventSet::IN), alloc)?;
@@ -100,9 +99,9 @@ impl<R: Loop> Driving<'_, R> {
 }
 
 impl<R: Loop> Body for Driving<'_, R> {
-    fn run<L: Ledger + Send + Sync, T: Ledger + Send + Sync, P: EventPoller + Drop>(
+    fn run<N: Naming + Send + Sync, P: EventPoller + Drop>(
         &self,
-        manager: Manager<L, T, P>,
+        manager: Manager<N, P>,
     ) -> Result<(), Fault> {
         let mut manager = manager;
         self.join_and_drive(&mut manager)

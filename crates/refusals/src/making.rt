@@ -8,22 +8,23 @@ use crate::fault::{Fault, expect_unchanged, named};
 use crate::host::Host;
 use crate::tables::push_report;
 use crate::watcher::Watcher;
-use event_manager::{EventManager, EventPoller, PlainPoller, WithLedgers, with_ledgers};
+use event_manager::{
+    EventManager, EventPoller, Ledgers, Naming, PlainPoller, WithLedgers, with_ledgers,
+};
 use std::alloc::Global;
-use std::sync::ledger::{Blank, Ledger};
 use vmm_sys::epoll::{Epoll, EpollEvent};
 use vmm_sys::eventfd::EventFd;
 use vmm_sys::script_poller::ScriptPoller;
 
 /// A manager of the program.
-pub type Manager<L, T, P> = EventManager<Watcher, Echo, L, T, P>;
+pub type Manager<N, P> = EventManager<Watcher, Echo, N, P>;
 
 /// What is done with a new manager.
 pub trait Body {
     /// Does it.
-    fn run<L: Ledger + Send + Sync, T: Ledger + Send + Sync, P: EventPoller + Drop>(
+    fn run<N: Naming + Send + Sync, P: EventPoller + Drop>(
         &self,
-        manager: Manager<L, T, P>,
+        manager: Manager<N, P>,
     ) -> Result<(), Fault>;
 }
 
@@ -41,10 +42,9 @@ impl<P: EventPoller + Drop, B: Body> WithLedgers for Making<'_, P, B> {
     // The refusal of the manager, or what came of the body.
     type Output = event_manager::Result<Result<(), Fault>>;
 
-    fn run<L: Ledger + Send + Sync, T: Ledger + Send + Sync>(
+    fn run<N: Naming + Send + Sync>(
         self,
-        tickets: Blank,
-        taken: Blank,
+        ledgers: Ledgers<N>,
     ) -> event_manager::Result<Result<(), Fault>> {
         let Making {
             alloc,
@@ -54,9 +54,9 @@ impl<P: EventPoller + Drop, B: Body> WithLedgers for Making<'_, P, B> {
             body,
         } = self;
         let manager = match capacity {
-            None => Manager::<L, T, P>::new(alloc, poller, endpoint, tickets, taken)?,
-            Some(count) => Manager::<L, T, P>::new_with_capacity(
-                alloc, poller, endpoint, count, tickets, taken,
+            None => Manager::<N, P>::new(alloc, poller, endpoint, ledgers)?,
+            Some(count) => Manager::<N, P>::new_with_capacity(
+                alloc, poller, endpoint, count, ledgers,
             )?,
         };
         Ok(body.run(manager))

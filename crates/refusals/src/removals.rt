@@ -10,9 +10,8 @@ use crate::joins::{ask, heard, join};
 use crate::making::{Body, Manager, over_script};
 use crate::tables::event_of;
 use crate::watcher::Watcher;
-use event_manager::{EventPoller, EventSet, Events, Request, SubscriberId, SubscriberOps};
+use event_manager::{EventPoller, EventSet, Events, Naming, Request, SubscriberId, SubscriberOps};
 use std::alloc::Global;
-use std::sync::ledger::Ledger;
 use vmm_sys::epoll::{EpollEvent, RawFd};
 
 /// The descriptor whose event brings the removals.
@@ -51,9 +50,9 @@ impl<R: Loop> Removing<'_, R> {
     }
 
     /// Takes in the subscriber that owns the first descriptor and the 200, and removes those at an event.
-    fn join_remover<L: Ledger, T: Ledger, P: EventPoller>(
+    fn join_remover<N: Naming, P: EventPoller>(
         &self,
-        manager: &mut Manager<L, T, P>,
+        manager: &mut Manager<N, P>,
     ) -> Result<SubscriberId, Fault> {
         let removals = self.removals()?;
         let id = join(
@@ -72,9 +71,9 @@ impl<R: Loop> Removing<'_, R> {
     }
 
     /// Runs one of the batches.
-    fn run_batch<L: Ledger, T: Ledger, P: EventPoller>(
+    fn run_batch<N: Naming, P: EventPoller>(
         &self,
-        manager: &mut Manager<L, T, P>,
+        manager: &mut Manager<N, P>,
         batch: &str,
         remover: SubscriberId,
         other: SubscriberId,
@@ -92,9 +91,9 @@ impl<R: Loop> Removing<'_, R> {
     }
 
     /// Runs both batches.
-    fn run_both<L: Ledger, T: Ledger, P: EventPoller>(
+    fn run_both<N: Naming, P: EventPoller>(
         &self,
-        manager: &mut Manager<L, T, P>,
+        manager: &mut Manager<N, P>,
     ) -> Result<(), Fault> {
         let remover = self.join_remover(manager)?;
         let own = Events::new_raw(OTHER, EventSet::IN);
@@ -105,9 +104,9 @@ impl<R: Loop> Removing<'_, R> {
 }
 
 impl<R: Loop> Body for Removing<'_, R> {
-    fn run<L: Ledger + Send + Sync, T: Ledger + Send + Sync, P: EventPoller + Drop>(
+    fn run<N: Naming + Send + Sync, P: EventPoller + Drop>(
         &self,
-        manager: Manager<L, T, P>,
+        manager: Manager<N, P>,
     ) -> Result<(), Fault> {
         let mut manager = manager;
         self.run_both(&mut manager)

@@ -7,11 +7,11 @@ use crate::parts::{Pair, Parts};
 use crate::progress::Progress;
 use crate::senders::{Sender, call_all, fire_all, write_all};
 use crate::served::{Loop, Served, serve};
-use event_manager::{PlainPoller, SubscriberOps};
+use event_manager::{Ledgers, Naming, PlainPoller, SubscriberOps};
 use std::alloc::Global;
 use std::marker::Brand;
 use std::sync::atomic::{AtomicBool, Ordering};
-use std::sync::ledger::{Blank, Ledger};
+use std::sync::ledger::Blank;
 use std::sync::{Arc, Wait};
 use std::thread;
 use std::thread::Threads;
@@ -52,8 +52,8 @@ pub struct Loaded {
 }
 
 // Sends jobs on one thread, and calls on another.
-fn send_and_call<L: Ledger + Send + Sync, T: Ledger + Send + Sync, R: Host>(
-    endpoint: &Sender<L, T, R>,
+fn send_and_call<N: Naming + Send + Sync, R: Host>(
+    endpoint: &Sender<N, R>,
     parts: &Parts,
     rounds: u32,
     progress: &Progress,
@@ -69,8 +69,8 @@ fn send_and_call<L: Ledger + Send + Sync, T: Ledger + Send + Sync, R: Host>(
 }
 
 // Writes, sends and calls, each on a thread of its own; then stops the loop, whatever came of them.
-fn load_beside<L: Ledger + Send + Sync, T: Ledger + Send + Sync, R: Host>(
-    endpoint: &Sender<L, T, R>,
+fn load_beside<N: Naming + Send + Sync, R: Host>(
+    endpoint: &Sender<N, R>,
     parts: &Parts,
     rounds: u32,
     stopped: &AtomicBool,
@@ -89,8 +89,8 @@ fn load_beside<L: Ledger + Send + Sync, T: Ledger + Send + Sync, R: Host>(
 }
 
 // Runs the loop beside its load.
-fn run_loaded<L: Ledger + Send + Sync, T: Ledger + Send + Sync, R: Host>(
-    manager: Loop<L, T, R>,
+fn run_loaded<N: Naming + Send + Sync, R: Host>(
+    manager: Loop<N, R>,
     parts: &Parts,
     rounds: u32,
     progress: &Progress,
@@ -128,7 +128,7 @@ fn judge(rounds: u32, served: Served) -> Result<Loaded, Fault> {
 }
 
 // Makes the manager and its devices, and loads it.
-fn load_manager<L: Ledger + Send + Sync, T: Ledger + Send + Sync, R: Host>(
+fn load_manager<N: Naming + Send + Sync, R: Host>(
     rt: R,
     alloc: Global,
     rounds: u32,
@@ -136,11 +136,10 @@ fn load_manager<L: Ledger + Send + Sync, T: Ledger + Send + Sync, R: Host>(
     tickets: Blank,
     taken: Blank,
 ) -> Result<Loaded, Fault>
-    requires tickets_name { tickets.name ≡ L.name }
-    requires tickets_parts { (tickets.parts ≡ L.parts) × (tickets.parts ≡ 9223372036854775808) }
-    requires taken_name { taken.name ≡ T.name }
-    requires taken_parts { (taken.parts ≡ T.parts) × (taken.parts ≡ 1) }
+    requires tickets { (tickets.name ≡ N.tickets) × (tickets.parts ≡ 9223372036854775808) }
+    requires taken { (taken.name ≡ N.taken) × (taken.parts ≡ 1) }
 {
+    let ledgers = Ledgers::<N>::new(tickets, taken);
     let epoll = Epoll::new(rt, alloc)?;
     let endpoint = EventFd::new(&epoll, 0, &rt)?;
     let mut parts = Parts {
@@ -151,7 +150,7 @@ fn load_manager<L: Ledger + Send + Sync, T: Ledger + Send + Sync, R: Host>(
     for _ in 0..DEVICES {
         parts.pairs.push(Pair::new(&epoll, &rt)?)?;
     }
-    let mut manager = Loop::<L, T, R>::new(alloc, PlainPoller(epoll), endpoint, tickets, taken)?;
+    let mut manager = Loop::<N, R>::new(alloc, PlainPoller(epoll), endpoint, ledgers)?;
     for pair in &parts.pairs {
         parts.ids.push(manager.add_subscriber(pair.device(&rt)?)?)?;
     }
@@ -167,7 +166,7 @@ fn load_to_end<R: Host>(
     progress: &Progress,
 ) -> Result<Loaded, Fault> {
     let (tickets, taken) = (Blank::new(TICKET_PARTS), Blank::new(1));
-    let loaded = load_manager::<Brand, Brand, R>(rt, alloc, rounds, progress, tickets, taken);
+    let loaded = load_manager::<Brand, R>(rt, alloc, rounds, progress, tickets, taken);
     progress.end(&rt);
     loaded
 }

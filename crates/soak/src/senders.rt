@@ -5,14 +5,13 @@ use crate::fault::{Fault, expect};
 use crate::parts::{Pair, Parts};
 use crate::progress::Progress;
 use crate::work::{Reply, Work};
-use event_manager::{RemoteEndpoint, SubscriberId};
+use event_manager::{Naming, RemoteEndpoint, SubscriberId};
 use std::sync::Wait;
-use std::sync::ledger::Ledger;
 use std::thread;
 use std::time::{Clock, Duration};
 
 /// By which a thread sends jobs to the loop.
-pub type Sender<L, T, R> = RemoteEndpoint<Device<R>, Work<R>, L, T>;
+pub type Sender<N, R> = RemoteEndpoint<Device<R>, Work<R>, N>;
 
 /// For how many microseconds a thread sleeps that waits until no job waits.
 const PAUSE: u64 = 10;
@@ -34,8 +33,8 @@ pub fn write_all<R: Wait>(
 }
 
 /// Sends a job to each device, once a round.
-pub fn fire_all<L: Ledger, T: Ledger, R: Wait + Clock + Drop>(
-    endpoint: &Sender<L, T, R>,
+pub fn fire_all<N: Naming, R: Wait + Clock + Drop>(
+    endpoint: &Sender<N, R>,
     ids: &[SubscriberId],
     rounds: u32,
     progress: &Progress,
@@ -52,8 +51,8 @@ pub fn fire_all<L: Ledger, T: Ledger, R: Wait + Clock + Drop>(
 
 // Sends a job to the device of the id, and right behind it one whose reply is waited for: so a loop that the first has
 // woken, and that misses the second, sleeps on while its caller waits.
-fn fire_and_call<L: Ledger, T: Ledger, R: Wait + Clock + Drop>(
-    endpoint: &Sender<L, T, R>,
+fn fire_and_call<N: Naming, R: Wait + Clock + Drop>(
+    endpoint: &Sender<N, R>,
     id: SubscriberId,
     work: Work<R>,
     progress: &Progress,
@@ -67,8 +66,8 @@ fn fire_and_call<L: Ledger, T: Ledger, R: Wait + Clock + Drop>(
 }
 
 // Sends a job to the device of the id, and waits until no job waits: one that the loop missed waits on.
-fn fire_and_settle<L: Ledger, T: Ledger, R: Wait + Clock + Drop>(
-    endpoint: &Sender<L, T, R>,
+fn fire_and_settle<N: Naming, R: Wait + Clock + Drop>(
+    endpoint: &Sender<N, R>,
     id: SubscriberId,
     rt: &R,
 ) -> Result<(), Fault> {
@@ -83,8 +82,8 @@ fn fire_and_settle<L: Ledger, T: Ledger, R: Wait + Clock + Drop>(
 }
 
 // A guest joins, is written to, and leaves: it has read what it didn't leave unread.
-fn receive_guest<L: Ledger, T: Ledger, R: Wait + Clock + Copy + Drop>(
-    endpoint: &Sender<L, T, R>,
+fn receive_guest<N: Naming, R: Wait + Clock + Copy + Drop>(
+    endpoint: &Sender<N, R>,
     id: SubscriberId,
     pair: &Pair,
     progress: &Progress,
@@ -106,8 +105,8 @@ fn receive_guest<L: Ledger, T: Ledger, R: Wait + Clock + Copy + Drop>(
 
 /// Receives a guest, and sends a job to the first device, once a round; each has its reply. At the end of a round another
 /// job is sent, and none waits any more.
-pub fn call_all<L: Ledger, T: Ledger, R: Wait + Clock + Copy + Drop>(
-    endpoint: &Sender<L, T, R>,
+pub fn call_all<N: Naming, R: Wait + Clock + Copy + Drop>(
+    endpoint: &Sender<N, R>,
     parts: &Parts,
     rounds: u32,
     progress: &Progress,

@@ -3,15 +3,14 @@
 use crate::device::Device;
 use crate::fault::{Fault, expect};
 use crate::work::Work;
-use event_manager::{EventManager, PlainPoller, SubscriberId, SubscriberOps};
+use event_manager::{EventManager, Naming, PlainPoller, SubscriberId, SubscriberOps};
 use std::sync::Wait;
 use std::sync::atomic::{AtomicBool, Ordering};
-use std::sync::ledger::Ledger;
 use std::time::Clock;
 use vmm_sys::epoll::Epoll;
 
 /// The event manager under load, over the in-process table.
-pub type Loop<L, T, R> = EventManager<Device<R>, Work<R>, L, T, PlainPoller<Epoll<R>>>;
+pub type Loop<N, R> = EventManager<Device<R>, Work<R>, N, PlainPoller<Epoll<R>>>;
 
 /// How often the loop waits at most while it is loaded, each time without a limit, which would hide a lost wake-up.
 const MAX_WAITS: u32 = 100_000_000;
@@ -33,8 +32,8 @@ pub struct Served {
 }
 
 // Runs until the flag is set, and then until nothing is reported any more.
-fn run_until<L: Ledger, T: Ledger, R: Wait + Clock + Clone + Send + Drop>(
-    manager: &mut Loop<L, T, R>,
+fn run_until<N: Naming, R: Wait + Clock + Clone + Send + Drop>(
+    manager: &mut Loop<N, R>,
     stopped: &AtomicBool,
     rt: &R,
 ) -> Result<(), Fault> {
@@ -53,8 +52,8 @@ fn run_until<L: Ledger, T: Ledger, R: Wait + Clock + Clone + Send + Drop>(
 }
 
 // Lets the devices leave: what they have read, and how many jobs have counted themselves there.
-fn gather<L: Ledger, T: Ledger, R: Wait + Clock + Clone + Send + Drop>(
-    manager: &mut Loop<L, T, R>,
+fn gather<N: Naming, R: Wait + Clock + Clone + Send + Drop>(
+    manager: &mut Loop<N, R>,
     ids: &[SubscriberId],
 ) -> Result<(u64, u64), Fault> {
     let (mut read, mut counted) = (0u64, 0u64);
@@ -69,8 +68,8 @@ fn gather<L: Ledger, T: Ledger, R: Wait + Clock + Clone + Send + Drop>(
 
 /// Runs the loop until the flag is set and nothing is left to do. Whatever ends it, it is closed, so that nobody waits for
 /// a reply any more.
-pub fn serve<L: Ledger, T: Ledger, R: Wait + Clock + Clone + Send + Drop>(
-    manager: Loop<L, T, R>,
+pub fn serve<N: Naming, R: Wait + Clock + Clone + Send + Drop>(
+    manager: Loop<N, R>,
     ids: &[SubscriberId],
     stopped: &AtomicBool,
     rt: &R,

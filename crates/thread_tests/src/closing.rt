@@ -5,12 +5,12 @@ ghost use Rattle.std.specs.Prelude.{◌≡◌};
 use crate::expecting::{expect_ok, expect_same};
 use crate::fixture::{Loop, Progress, Sender, Task, make, spin};
 use crate::host::{Host, Rounds};
-use event_manager::{Error, Result};
+use event_manager::{Error, Ledgers, Naming, Result};
 use std::alloc::Global;
 use std::marker::Brand;
 use std::process::Abort;
 use std::sync::atomic::{AtomicBool, Ordering};
-use std::sync::ledger::{Blank, Ledger};
+use std::sync::ledger::Blank;
 use std::sync::{Arc, Wait};
 use std::thread;
 use std::time::Clock;
@@ -24,9 +24,9 @@ const MOST_TURNS: u64 = 256;
 const LOOKS: u32 = 1_000_000;
 
 /// Says that it starts, and calls.
-fn call<L: Ledger, T: Ledger, R: Wait + Clock>(
+fn call<N: Naming, R: Wait + Clock>(
     rt: &R,
-    endpoint: &Sender<L, T>,
+    endpoint: &Sender<N>,
     job: Task,
     started: &AtomicBool,
 ) -> Result<u64> {
@@ -35,9 +35,9 @@ fn call<L: Ledger, T: Ledger, R: Wait + Clock>(
 }
 
 /// Closes so many turns after the caller has started.
-fn close<L: Ledger, T: Ledger, R: Wait + Clock + Clone + Send + Drop>(
+fn close<N: Naming, R: Wait + Clock + Clone + Send + Drop>(
     rt: &R,
-    manager: Loop<L, T, R>,
+    manager: Loop<N, R>,
     turns: u64,
     started: &AtomicBool,
 ) {
@@ -57,20 +57,19 @@ fn expect_refused<R: Abort>(rt: &R, reply: Result<u64>) {
 }
 
 /// A caller beside a close of a new manager, for which a job without a caller waits.
-fn close_beside_call<L: Ledger + Send + Sync, T: Ledger + Send + Sync, R: Host>(
+fn close_beside_call<N: Naming + Send + Sync, R: Host>(
     rt: &R,
     alloc: Global,
     turns: u64,
     tickets: Blank,
     taken: Blank,
 )
-    requires tickets_name { tickets.name ≡ L.name }
-    requires tickets_parts { (tickets.parts ≡ L.parts) × (tickets.parts ≡ 9223372036854775808) }
-    requires taken_name { taken.name ≡ T.name }
-    requires taken_parts { (taken.parts ≡ T.parts) × (taken.parts ≡ 1) }
+    requires tickets { (tickets.name ≡ N.tickets) × (tickets.parts ≡ 9223372036854775808) }
+    requires taken { (taken.name ≡ N.taken) × (taken.parts ≡ 1) }
 {
+    let ledgers = Ledgers::<N>::new(tickets, taken);
     let progress = expect_ok(rt, Arc::new(alloc, Progress::new()));
-    let (manager, _epoll) = make::<L, T, R>(*rt, alloc, tickets, taken);
+    let (manager, _epoll) = make::<N, R>(*rt, alloc, ledgers);
     let endpoint = expect_ok(rt, manager.remote_endpoint());
     let (first, second) = (Task::count(rt, &progress), Task::count(rt, &progress));
     expect_ok(rt, endpoint.fire(first, rt));
@@ -91,7 +90,7 @@ fn close_all<R: Host>(rt: &R, alloc: Global, rounds: &Rounds) {
             break;
         }
         let (tickets, taken) = (Blank::new(9223372036854775808), Blank::new(1));
-        close_beside_call::<Brand, Brand, R>(rt, alloc, round % MOST_TURNS, tickets, taken);
+        close_beside_call::<Brand, R>(rt, alloc, round % MOST_TURNS, tickets, taken);
         rounds.count();
     }
 }

@@ -4,7 +4,8 @@ ghost use Rattle.std.specs.Prelude.{◌≡◌};
 
 use crate::expecting::expect_ok;
 use event_manager::{
-    EventManager, EventPoller, Job, MutEventSubscriber, PlainPoller, Registry, RemoteEndpoint,
+    EventManager, EventPoller, Job, Ledgers, MutEventSubscriber, Naming, PlainPoller, Registry,
+    RemoteEndpoint,
 };
 use fixtures::making;
 use fixtures::parts::{Idle, on_table};
@@ -12,7 +13,6 @@ use std::alloc::Global;
 use std::hint;
 use std::process::Abort;
 use std::sync::atomic::{AtomicBool, AtomicU64, Ordering};
-use std::sync::ledger::{Blank, Ledger};
 use std::sync::{Arc, Wait};
 use std::time::Clock;
 use vmm_sys::epoll::Epoll;
@@ -76,28 +76,19 @@ impl Task {
     }
 }
 
-pub type Loop<L, T, R> = EventManager<Idle, Task, L, T, PlainPoller<Epoll<R>>>;
+pub type Loop<N, R> = EventManager<Idle, Task, N, PlainPoller<Epoll<R>>>;
 
-pub type Sender<L, T> = RemoteEndpoint<Idle, Task, L, T>;
+pub type Sender<N> = RemoteEndpoint<Idle, Task, N>;
 
 /// A manager over a new table, and that table.
-pub fn make<L: Ledger, T: Ledger, R: Wait + Clock + Abort + Copy + Send + Drop>(
+pub fn make<N: Naming, R: Wait + Clock + Abort + Copy + Send + Drop>(
     rt: R,
     alloc: Global,
-    tickets: Blank,
-    taken: Blank,
-) -> (Loop<L, T, R>, Epoll<R>)
-    requires tickets_name { tickets.name ≡ L.name }
-    requires tickets_parts { (tickets.parts ≡ L.parts) × (tickets.parts ≡ 9223372036854775808) }
-    requires taken_name { taken.name ≡ T.name }
-    requires taken_parts { (taken.parts ≡ T.parts) × (taken.parts ≡ 1) }
-{
+    ledgers: Ledgers<N>,
+) -> (Loop<N, R>, Epoll<R>) {
     let parts = expect_ok(&rt, on_table(rt, alloc, 0));
     let epoll = expect_ok(&rt, parts.poller.0.try_clone());
-    let manager = expect_ok(
-        &rt,
-        making::make::<Idle, Task, L, T, _>(parts, tickets, taken),
-    );
+    let manager = expect_ok(&rt, making::make::<Idle, Task, N, _>(parts, ledgers));
     (manager, epoll)
 }
 

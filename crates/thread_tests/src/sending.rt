@@ -5,11 +5,12 @@ ghost use Rattle.std.specs.Prelude.{◌≡◌};
 use crate::expecting::{expect_ok, expect_same};
 use crate::fixture::{Loop, Progress, Sender, Task, make};
 use crate::host::{Host, Rounds};
+use event_manager::{Ledgers, Naming};
 use std::alloc::Global;
 use std::marker::Brand;
 use std::process::Abort;
 use std::sync::atomic::Ordering;
-use std::sync::ledger::{Blank, Ledger};
+use std::sync::ledger::Blank;
 use std::sync::{Arc, Wait};
 use std::thread;
 use std::time::Clock;
@@ -28,9 +29,9 @@ const LOOKS: u32 = 100_000;
 type Shared = Arc<Progress, Global>;
 
 /// Sends a job, and goes on once it runs; while it does, sends another one, and calls for the reply of a third.
-fn call_beside_job<L: Ledger, T: Ledger, R: Wait + Clock + Abort>(
+fn call_beside_job<N: Naming, R: Wait + Clock + Abort>(
     rt: &R,
-    endpoint: &Sender<L, T>,
+    endpoint: &Sender<N>,
     progress: &Shared,
     round: u64,
 ) {
@@ -47,9 +48,9 @@ fn call_beside_job<L: Ledger, T: Ledger, R: Wait + Clock + Abort>(
 }
 
 /// Sends a job, and another one as soon as the first is taken. Goes on once both were run.
-fn fire_behind_take<L: Ledger, T: Ledger, R: Wait + Clock + Abort>(
+fn fire_behind_take<N: Naming, R: Wait + Clock + Abort>(
     rt: &R,
-    endpoint: &Sender<L, T>,
+    endpoint: &Sender<N>,
     progress: &Shared,
 ) {
     let (first, second) = (Task::count(rt, progress), Task::count(rt, progress));
@@ -68,9 +69,9 @@ fn fire_behind_take<L: Ledger, T: Ledger, R: Wait + Clock + Abort>(
 }
 
 /// Sends two or three jobs, the last while the loop is on its way round.
-fn send_round<L: Ledger, T: Ledger, R: Wait + Clock + Abort>(
+fn send_round<N: Naming, R: Wait + Clock + Abort>(
     rt: &R,
-    endpoint: &Sender<L, T>,
+    endpoint: &Sender<N>,
     progress: &Shared,
     round: u64,
 ) {
@@ -82,9 +83,9 @@ fn send_round<L: Ledger, T: Ledger, R: Wait + Clock + Abort>(
 }
 
 /// Sends in each round, and then lets the loop end.
-fn send_all<L: Ledger, T: Ledger, R: Wait + Clock + Abort>(
+fn send_all<N: Naming, R: Wait + Clock + Abort>(
     rt: &R,
-    endpoint: &Sender<L, T>,
+    endpoint: &Sender<N>,
     progress: &Shared,
     rounds: &Rounds,
 ) {
@@ -100,10 +101,10 @@ fn send_all<L: Ledger, T: Ledger, R: Wait + Clock + Abort>(
 }
 
 /// Runs without a limit until all was sent. What it then leaves to be read ends the wait beside it.
-fn run_all<L: Ledger, T: Ledger, R: Wait + Clock + Clone + Send + Drop + Abort>(
+fn run_all<N: Naming, R: Wait + Clock + Clone + Send + Drop + Abort>(
     rt: &R,
-    manager: &mut Loop<L, T, R>,
-    endpoint: &Sender<L, T>,
+    manager: &mut Loop<N, R>,
+    endpoint: &Sender<N>,
     progress: &Progress,
 ) {
     for _turn in rt.forever() {
@@ -133,10 +134,10 @@ fn wait_beside<R: Wait + Clock + Clone + Send + Drop>(
 }
 
 /// A loop, and who waits beside it.
-fn run_beside_wait<L: Ledger + Send + Sync, T: Ledger + Send + Sync, R: Host>(
+fn run_beside_wait<N: Naming + Send + Sync, R: Host>(
     rt: &R,
-    manager: &mut Loop<L, T, R>,
-    endpoint: &Sender<L, T>,
+    manager: &mut Loop<N, R>,
+    endpoint: &Sender<N>,
     epoll: Epoll<R>,
     progress: &Progress,
 ) {
@@ -148,10 +149,10 @@ fn run_beside_wait<L: Ledger + Send + Sync, T: Ledger + Send + Sync, R: Host>(
 }
 
 /// A sender, a loop, and who waits beside it.
-fn send_beside_loop<L: Ledger + Send + Sync, T: Ledger + Send + Sync, R: Host>(
+fn send_beside_loop<N: Naming + Send + Sync, R: Host>(
     rt: &R,
-    manager: &mut Loop<L, T, R>,
-    endpoint: &Sender<L, T>,
+    manager: &mut Loop<N, R>,
+    endpoint: &Sender<N>,
     epoll: Epoll<R>,
     progress: &Shared,
     rounds: &Rounds,
@@ -165,18 +166,17 @@ fn send_beside_loop<L: Ledger + Send + Sync, T: Ledger + Send + Sync, R: Host>(
 }
 
 /// The rounds of a new manager, and who looks on.
-fn send_rounds<L: Ledger + Send + Sync, T: Ledger + Send + Sync, R: Host>(
+fn send_rounds<N: Naming + Send + Sync, R: Host>(
     rt: &R,
     alloc: Global,
     tickets: Blank,
     taken: Blank,
 )
-    requires tickets_name { tickets.name ≡ L.name }
-    requires tickets_parts { (tickets.parts ≡ L.parts) × (tickets.parts ≡ 9223372036854775808) }
-    requires taken_name { taken.name ≡ T.name }
-    requires taken_parts { (taken.parts ≡ T.parts) × (taken.parts ≡ 1) }
+    requires tickets { (tickets.name ≡ N.tickets) × (tickets.parts ≡ 9223372036854775808) }
+    requires taken { (taken.name ≡ N.taken) × (taken.parts ≡ 1) }
 {
-    let (mut manager, epoll) = make::<L, T, R>(*rt, alloc, tickets, taken);
+    let ledgers = Ledgers::<N>::new(tickets, taken);
+    let (mut manager, epoll) = make::<N, R>(*rt, alloc, ledgers);
     let endpoint = expect_ok(rt, manager.remote_endpoint());
     let progress = expect_ok(rt, Arc::new(alloc, Progress::new()));
     let rounds = Rounds::new();
@@ -190,5 +190,5 @@ fn send_rounds<L: Ledger + Send + Sync, T: Ledger + Send + Sync, R: Host>(
 #[test]
 fn no_wake_up_of_the_loop_is_lost(rt: HostRuntime) {
     let tickets = Blank::new(9223372036854775808);
-    send_rounds::<Brand, Brand, HostRuntime>(&rt, rt.alloc(), tickets, Blank::new(1));
+    send_rounds::<Brand, HostRuntime>(&rt, rt.alloc(), tickets, Blank::new(1));
 }

@@ -6,11 +6,11 @@ pub mod stop;
 pub mod wheel;
 
 use event_manager::{
-    Error, EventManager, PlainPoller, Result, SubscriberOps, WithLedgers, with_ledgers,
+    Error, EventManager, Ledgers, Naming, PlainPoller, Result, SubscriberOps, WithLedgers,
+    with_ledgers,
 };
 use std::process::ExitCode;
 use std::sync::Wait;
-use std::sync::ledger::{Blank, Ledger};
 use std::time::Clock;
 use stop::Stop;
 use vmm_sys::epoll::Epoll;
@@ -43,11 +43,7 @@ impl<R: Wait + Clock + Print + AllocGlobal + Clone + Send + Drop> WithLedgers fo
     type Output = Result<u64>;
 
     /// Arms the timers, and runs the wheel until it is stopped. Answers how many ticks it ran.
-    fn run<L: Ledger + Send + Sync, T: Ledger + Send + Sync>(
-        self,
-        tickets: Blank,
-        taken: Blank,
-    ) -> Result<u64> {
+    fn run<N: Naming + Send + Sync>(self, ledgers: Ledgers<N>) -> Result<u64> {
         let Program {
             rt,
             epoll,
@@ -55,12 +51,11 @@ impl<R: Wait + Clock + Print + AllocGlobal + Clone + Send + Drop> WithLedgers fo
             wheel,
         } = self;
         let poller = PlainPoller(epoll);
-        let mut manager = EventManager::<Wheel<R>, Stop, L, T, _>::new(
+        let mut manager = EventManager::<Wheel<R>, Stop, N, _>::new(
             rt.alloc(),
             poller,
             endpoint,
-            tickets,
-            taken,
+            ledgers,
         )?;
         let endpoint = manager.remote_endpoint()?;
         let interests = wheel.interests(rt.alloc())?;

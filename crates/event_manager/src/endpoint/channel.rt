@@ -11,20 +11,19 @@ use crate::endpoint::slot::ReplySender;
 use crate::endpoint::state::ChannelState;
 use crate::jobs::{Entry, Job};
 use event_loop::{Error, EventPoller, MutEventSubscriber, Registry, Result};
-use job_tickets::taken;
+use job_tickets::ledgers::Ledgers;
+use job_tickets::naming::Naming;
 use job_tickets::taken::TakenCount;
-use job_tickets::tickets::Register;
 use std::alloc::{AllocError, Global};
 use std::marker::Model;
-use std::sync::ledger::{Blank, Ledger};
 use std::sync::{Arc, Mutex, Wait};
 use std::time::Clock;
 use vmm_sys::eventfd::EventFd;
 
 /// What a manager and its endpoints share.
 #[derive(Drop)]
-pub(crate) struct Channel<S: MutEventSubscriber, J: Job<S>, L: Ledger, T: Ledger> {
-    pub(crate) state: Mutex<ChannelState<J, ReplySender<S, J>, L, T>>,
+pub(crate) struct Channel<S: MutEventSubscriber, J: Job<S>, N: Naming> {
+    pub(crate) state: Mutex<ChannelState<J, ReplySender<S, J>, N>>,
     pub(crate) event_fd: EventFd,
     // Of the slots.
     pub(crate) alloc: Global,
@@ -44,16 +43,15 @@ fn close_all<S: MutEventSubscriber, J: Job<S>, R: Wait + Clock>(
 
 /// The manager's side of the channel: it alone takes jobs. Contracts see how many it took and ran.
 #[derive(Drop)]
-pub(crate) struct EventManagerChannel<S: MutEventSubscriber, J: Job<S>, L: Ledger, T: Ledger> {
-    channel: Arc<Channel<S, J, L, T>>,
-    taken: TakenCount<T>,
+pub(crate) struct EventManagerChannel<S: MutEventSubscriber, J: Job<S>, N: Naming> {
+    channel: Arc<Channel<S, J, N>>,
+    taken: TakenCount<N>,
     runner: JobRunner,
     // The list of the next take: it is empty between two runs, and keeps its room.
     next: Vec<WaitingJob<S, J>>,
 }
 
-impl<S: MutEventSubscriber, J: Job<S>, L: Ledger, T: Ledger> Model
-    for EventManagerChannel<S, J, L, T> {
+impl<S: MutEventSubscriber, J: Job<S>, N: Naming> Model for EventManagerChannel<S, J, N> {
     ghost use Rattle.std.specs.Prelude.{◌≡◌, ℕ, []};
 
     ghost Value = { ℕ };
@@ -63,22 +61,17 @@ impl<S: MutEventSubscriber, J: Job<S>, L: Ledger, T: Ledger> Model
     ghost invariant = { λ c. (c.next.items ≡ []) × (c.taken ≡ c.runner) };
 }
 
-impl<S: MutEventSubscriber, J: Job<S>, L: Ledger, T: Ledger> EventManagerChannel<S, J, L, T> {
+impl<S: MutEventSubscriber, J: Job<S>, N: Naming> EventManagerChannel<S, J, N> {
     /// An open channel in which no job waits.
     pub(crate) fn new(
         alloc: Global,
         event_fd: EventFd,
-        tickets: Blank,
-        taken: Blank,
+        ledgers: Ledgers<N>,
     ) -> std::result::Result<Self, AllocError>
-        requires tickets_name { tickets.name ≡ L.name }
-        requires tickets_parts { (tickets.parts ≡ L.parts) × (tickets.parts ≡ 9223372036854775808) }
-        requires taken_name { taken.name ≡ T.name }
-        requires taken_parts { (taken.parts ≡ T.parts) × (taken.parts ≡ 1) }
         ensures { IfOk result (λ c. c ≡ 0) }
     {
-        let (book, count) = taken::open::<T>(taken);
-        let state = ChannelState::new(alloc, Register::new(tickets), book);
+        let (register, book, count) = ledgers.open();
+        let state = ChannelState::new(alloc, register, book);
         let channel = Channel {
             state: Mutex::new(state),
             event_fd,
@@ -93,7 +86,7 @@ impl<S: MutEventSubscriber, J: Job<S>, L: Ledger, T: Ledger> EventManagerChannel
     }
 
     /// An endpoint of this channel. `OutOfMemory` where one more owner is refused.
-    pub(crate) fn remote_endpoint(&self) -> Result<RemoteEndpoint<S, J, L, T>>
+    pub(crate) fn remote_endpoint(&self) -> Result<RemoteEndpoint<S, J, N>>
         ensures refusals { IfErr result (λ e. e ≡ Error.OutOfMemory) }
     {
         match Arc::try_clone(&self.channel) {
@@ -120,7 +113,7 @@ impl<S: MutEventSubscriber, J: Job<S>, L: Ledger, T: Ledger> EventManagerChannel
     }
 
     /// Closes the queue in one turn, and drops the jobs that wait.
-    pub(crate) fn close<R: Wait + Clock>(self, rt: &R) -> Closed<L>
+    pub(crate) fn close<R: Wait + Clock>(self, rt: &R) -> Closed<N>
         ensures { result.taken ≡ self }
     {
         let EventManagerChannel {

@@ -4,18 +4,18 @@ ghost use Rattle.std.specs.Prelude.{◌≡◌, ◌↔◌, true, false, IsTrue, v
 ghost use Rattle.std.specs.List.Sorted.{IsPermutation};
 ghost use Rattle.job_tickets.specs.Weights.{one_to};
 
+use job_tickets::naming::Naming;
 use job_tickets::tickets::{Register, Ticket};
 use std::marker::Model;
-use std::sync::ledger::Ledger;
 
 /// What is known of a manager that was closed. Contracts see how many tickets were issued and how many jobs taken.
 #[derive(Drop)]
-pub struct Closed<L: Ledger> {
-    register: Register<L>,
+pub struct Closed<N: Naming> {
+    register: Register<N>,
     taken: u64,
 }
 
-impl<L: Ledger> Model for Closed<L> {
+impl<N: Naming> Model for Closed<N> {
     ghost use Rattle.event_manager.specs.Endpoint.{ClosedState};
 
     ghost Value = { ClosedState };
@@ -23,8 +23,8 @@ impl<L: Ledger> Model for Closed<L> {
     ghost view = { λ c. record { issued = c.register; taken = c.taken } };
 }
 
-impl<L: Ledger> Closed<L> {
-    pub(crate) fn new(register: Register<L>, taken: u64) -> Self
+impl<N: Naming> Closed<N> {
+    pub(crate) fn new(register: Register<N>, taken: u64) -> Self
         ensures { (result.issued ≡ register) × (result.taken ≡ taken) }
     {
         Closed { register, taken }
@@ -48,7 +48,7 @@ impl<L: Ledger> Closed<L> {
     /// their numbers are 1, 2, 3 and so on; else the list stays as it was. Takes no memory.
     ///
     /// The ticket of a `call_blocking` is in nobody's hands, so where one was accepted this answers false.
-    pub fn gather(&mut self, tickets: &mut Vec<Ticket<L>>) -> bool
+    pub fn gather(&mut self, tickets: &mut Vec<Ticket<N>>) -> bool
         ensures exactly { IsTrue result ↔ vec_len tickets.old ≡ self.old.issued }
         ensures all { result ≡ true → tickets.new.items ≡ one_to self.old.issued }
         ensures same { result ≡ true → IsPermutation tickets.old.items tickets.new.items }

@@ -7,27 +7,27 @@ ghost use Rattle.event_loop.specs.declared.error.Error.TheVariants.{TicketsUsedU
 
 use crate::Error;
 use crate::jobs::{Bell, Entry, JobQueue, Refused};
+use job_tickets::naming::Naming;
 use job_tickets::taken::{TakenBook, TakenCount};
 use job_tickets::tickets::{Register, Ticket};
 use std::alloc::Global;
 use std::marker::Model;
 use std::mem;
 use std::sync::Wait;
-use std::sync::ledger::Ledger;
 use std::time::Clock;
 
 /// The queue, with the books of what was issued and of what was taken. Contracts see it as the queue.
 #[derive(Drop)]
-pub(crate) struct ChannelState<J, Q, L: Ledger, T: Ledger> {
+pub(crate) struct ChannelState<J, Q, N: Naming> {
     queue: JobQueue<J, Q>,
     // Here while the queue is open.
-    register: Option<Register<L>>,
-    taken: TakenBook<T>,
+    register: Option<Register<N>>,
+    taken: TakenBook<N>,
     // Here once the queue is closed: so whoever has the count knows that the queue is open.
-    last_count: Option<TakenCount<T>>,
+    last_count: Option<TakenCount<N>>,
 }
 
-impl<J, Q, L: Ledger, T: Ledger> Model for ChannelState<J, Q, L, T> {
+impl<J, Q, N: Naming> Model for ChannelState<J, Q, N> {
     ghost use Rattle.std.specs.Prelude.{◌≡◌, true, false, Some, IsSome};
     ghost use Rattle.event_manager.specs.JobQueue.{QueueState};
 
@@ -38,9 +38,9 @@ impl<J, Q, L: Ledger, T: Ledger> Model for ChannelState<J, Q, L, T> {
     ghost invariant = { λ c. (c.taken ≡ c.queue.taken) × (c.queue.closed ≡ false → c.register ≡ Some c.queue.issued) × (c.queue.closed ≡ true → IsSome c.last_count) };
 }
 
-impl<J, Q, L: Ledger, T: Ledger> ChannelState<J, Q, L, T> {
+impl<J, Q, N: Naming> ChannelState<J, Q, N> {
     /// An open queue in which nothing waits.
-    pub(crate) fn new(alloc: Global, register: Register<L>, taken: TakenBook<T>) -> Self
+    pub(crate) fn new(alloc: Global, register: Register<N>, taken: TakenBook<N>) -> Self
         requires { (register ≡ 0) × (taken ≡ 0) }
         ensures { result ≡ new_queue }
     {
@@ -66,7 +66,7 @@ impl<J, Q, L: Ledger, T: Ledger> ChannelState<J, Q, L, T> {
         slot: Option<Q>,
         bell: &B,
         rt: &R,
-    ) -> std::result::Result<Ticket<L>, Refused<J, Q>>
+    ) -> std::result::Result<Ticket<N>, Refused<J, Q>>
         ensures sent { IsSend (B.rings bell.now) self.old job slot (answer_of result) self.new }
         ensures handed_back { IfErr result (λ refused. (refused.job ≡ job) × (refused.slot ≡ slot)) }
     {
@@ -83,12 +83,12 @@ impl<J, Q, L: Ledger, T: Ledger> ChannelState<J, Q, L, T> {
     /// Sends a job whose ticket has a number above the shown one's. Where it is refused, job and slot come back.
     pub(crate) fn send_after<B: Bell, R: Wait + Clock>(
         &mut self,
-        shown: &Ticket<L>,
+        shown: &Ticket<N>,
         job: J,
         slot: Option<Q>,
         bell: &B,
         rt: &R,
-    ) -> std::result::Result<Ticket<L>, Refused<J, Q>>
+    ) -> std::result::Result<Ticket<N>, Refused<J, Q>>
         ensures above { IfOk result (λ n. shown.now < n) }
         ensures sent { shown.now ≤ self.old.issued → IsSend (B.rings bell.now) self.old job slot (answer_of result) self.new }
         ensures not_issued { self.old.issued < shown.now → (answer_of result ≡ Err TicketsUsedUp) × (self.new ≡ self.old) }
@@ -106,7 +106,7 @@ impl<J, Q, L: Ledger, T: Ledger> ChannelState<J, Q, L, T> {
     }
 
     /// Takes all that waits, and counts it.
-    pub(crate) fn take(&mut self, count: &mut TakenCount<T>, into: &mut Vec<Entry<J, Q>>)
+    pub(crate) fn take(&mut self, count: &mut TakenCount<N>, into: &mut Vec<Entry<J, Q>>)
         requires { into.old.items ≡ [] }
         ensures agree { count.old ≡ self.old.taken }
         ensures handed_out { into.new.items ≡ self.old.waiting }
@@ -121,9 +121,9 @@ impl<J, Q, L: Ledger, T: Ledger> ChannelState<J, Q, L, T> {
     /// Closes the queue, which only the holder of the count can do.
     pub(crate) fn close(
         &mut self,
-        mut count: TakenCount<T>,
+        mut count: TakenCount<N>,
         into: &mut Vec<Entry<J, Q>>,
-    ) -> Register<L>
+    ) -> Register<N>
         requires { into.old.items ≡ [] }
         ensures was_open { self.old.closed ≡ false }
         ensures agree { count ≡ self.old.taken }

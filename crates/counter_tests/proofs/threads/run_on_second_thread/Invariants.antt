@@ -1,7 +1,4 @@
 use Rattle.counter_tests.proofs.threads.run_on_second_thread.Given as goal
 
-abbrev pub ghosts-run_moved-L-Ledger : goal.ghosts-run_moved-L-Ledger
-ghosts-run_moved-L-Ledger g a = record { name = a.tickets.name; parts = a.tickets.parts }
-
-abbrev pub ghosts-run_moved-T-Ledger : goal.ghosts-run_moved-T-Ledger
-ghosts-run_moved-T-Ledger g a = record { name = a.taken.name; parts = a.taken.parts }
+abbrev pub ghosts-run_moved : goal.ghosts-run_moved
+ghosts-run_moved g a = record { tickets = a.tickets.name; taken = a.taken.name }

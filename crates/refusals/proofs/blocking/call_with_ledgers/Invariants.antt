@@ -1,7 +1,4 @@
 use Rattle.refusals.proofs.blocking.call_with_ledgers.Given as goal
 
-abbrev pub ghosts-call_another_thread-L-Ledger : goal.ghosts-call_another_thread-L-Ledger
-ghosts-call_another_thread-L-Ledger g a = record { name = a.tickets.name; parts = a.tickets.parts }
-
-abbrev pub ghosts-call_another_thread-T-Ledger : goal.ghosts-call_another_thread-T-Ledger
-ghosts-call_another_thread-T-Ledger g a = record { name = a.taken.name; parts = a.taken.parts }
+abbrev pub ghosts-call_another_thread : goal.ghosts-call_another_thread
+ghosts-call_another_thread g a = record { tickets = a.tickets.name; taken = a.taken.name }

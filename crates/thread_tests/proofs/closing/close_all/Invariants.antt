@@ -1,7 +1,4 @@
 use Rattle.thread_tests.proofs.closing.close_all.Given as goal
 
-abbrev pub ghosts-close_beside_call-L-Ledger : goal.ghosts-close_beside_call-L-Ledger
-ghosts-close_beside_call-L-Ledger g a = record { name = a.tickets.name; parts = a.tickets.parts }
-
-abbrev pub ghosts-close_beside_call-T-Ledger : goal.ghosts-close_beside_call-T-Ledger
-ghosts-close_beside_call-T-Ledger g a = record { name = a.taken.name; parts = a.taken.parts }
+abbrev pub ghosts-close_beside_call : goal.ghosts-close_beside_call
+ghosts-close_beside_call g a = record { tickets = a.tickets.name; taken = a.taken.name }
