@@ -48,19 +48,24 @@ impl<R: Wait + Clock + Abort> WithManager for HangingUp<'_, R> {
         self,
         manager: &mut EventManager<Reacting, NoJob, N, P>,
     ) -> event_manager::Result<()> {
-        let first = add(self.rt, self.alloc, manager, self.kept.wanted, None);
+        let HangingUp {
+            rt,
+            alloc,
+            kept,
+            removed,
+        } = self;
+        let first = add(rt, alloc, manager, kept.wanted, None);
         for _ in 0..3 {
-            expect_run(self.rt, manager, 1);
+            expect_run(rt, manager, 1);
         }
-        let kept = self.kept.reported;
-        expect_saw(self.rt, manager, first, &[kept, kept, kept]);
-        let removed = self.removed.wanted;
-        let reaction = Some(Request::Remove(removed));
-        let second = add(self.rt, self.alloc, manager, removed, reaction);
-        expect_run(self.rt, manager, 2);
-        expect_run(self.rt, manager, 1);
-        expect_saw(self.rt, manager, first, &[kept, kept]);
-        expect_saw(self.rt, manager, second, &[self.removed.reported]);
+        let seen = kept.reported;
+        expect_saw(rt, manager, first, &[seen, seen, seen]);
+        let reaction = Some(Request::Remove(removed.wanted));
+        let second = add(rt, alloc, manager, removed.wanted, reaction);
+        expect_run(rt, manager, 2);
+        expect_run(rt, manager, 1);
+        expect_saw(rt, manager, first, &[seen, seen]);
+        expect_saw(rt, manager, second, &[removed.reported]);
         Ok(())
     }
 }
