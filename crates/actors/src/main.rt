@@ -7,7 +7,7 @@ pub mod mailbox;
 pub mod system;
 
 use event_manager::{
-    BoxedSubscriber, Error, EventManager, Ledgers, MutEventSubscriber, Naming, PlainPoller, Result,
+    BoxedSubscriber, Error, EventManager, Ledgers, MutEventSubscriber, Naming, Result,
     StepSubscriber, WithLedgers, with_ledgers,
 };
 use kinds::{Greeter, Tally};
@@ -47,8 +47,7 @@ where
             actors,
             greeter,
         } = self;
-        let poller = PlainPoller(epoll);
-        let manager = EventManager::<S, Deliver, N, _>::new(rt.alloc(), poller, endpoint, ledgers)?;
+        let manager = EventManager::<S, Deliver, N, _>::new(rt.alloc(), epoll, endpoint, ledgers)?;
         let mut system = ActorSystem::new(manager)?;
         for actor in actors {
             system.spawn(actor)?;

@@ -12,9 +12,7 @@ use crate::jobs::CountOne;
 use crate::progress::Progress;
 use crate::subscribers::{Counter, FIRST};
 use crate::timing::{REPEATS, Times};
-use event_manager::{
-    EventManager, Ledgers, Naming, PlainPoller, RemoteEndpoint, SubscriberId, SubscriberOps,
-};
+use event_manager::{EventManager, Ledgers, Naming, RemoteEndpoint, SubscriberId, SubscriberOps};
 use std::alloc::Global;
 use std::marker::Brand;
 use std::sync::atomic::{AtomicBool, Ordering};
@@ -26,7 +24,7 @@ use vmm_sys::epoll::Epoll;
 use vmm_sys::eventfd::EventFd;
 
 /// A loop with one counter, over the in-process table.
-type Loop<N, R> = EventManager<Counter, CountOne, N, PlainPoller<Epoll<R>>>;
+type Loop<N, R> = EventManager<Counter, CountOne, N, Epoll<R>>;
 
 /// How many parts the ledger of a manager's tickets has.
 const TICKET_PARTS: u64 = 9223372036854775808;
@@ -120,8 +118,7 @@ fn measure<N: Naming + Send + Sync, R: Host>(
     let ledgers = Ledgers::<N>::new(tickets, taken);
     let epoll = Epoll::new(rt, alloc)?;
     let event_fd = EventFd::new(&epoll, 0, &rt)?;
-    let poller = PlainPoller(epoll);
-    let mut manager = Loop::<N, R>::new(alloc, poller, event_fd, ledgers)?;
+    let mut manager = Loop::<N, R>::new(alloc, epoll, event_fd, ledgers)?;
     let id = manager.add_subscriber(Counter::new(FIRST as i32, 0))?;
     let (times, jobs) = call_beside(manager, id, rounds, progress, &rt)?;
     Ok(Measured {

@@ -6,9 +6,7 @@ use crate::fault::{Fault, expect};
 use crate::over_fixed::Manager;
 use crate::subscribers::Reader;
 use crate::timing::{REPEATS, Times};
-use event_manager::{
-    EventPoller, Ledgers, Naming, PlainPoller, SubscriberOps, WithLedgers, with_ledgers,
-};
+use event_manager::{EventPoller, Ledgers, Naming, SubscriberOps, WithLedgers, with_ledgers};
 use std::alloc::Global;
 use std::sync::Wait;
 use std::time::Clock;
@@ -40,8 +38,7 @@ impl<R: Wait + Clock + Copy + Send + Drop> WithLedgers for WrittenCounters<'_, R
             alloc,
             rt,
         } = self;
-        let poller = PlainPoller(epoll);
-        let mut manager = Manager::<Reader<R>, N, _>::new(alloc, poller, endpoint, ledgers)?;
+        let mut manager = Manager::<Reader<R>, N, _>::new(alloc, epoll, endpoint, ledgers)?;
         let mut ids = Vec::new(alloc);
         for counter in &counters {
             let reader = Reader {

@@ -7,8 +7,8 @@ use crate::jobs::CountOne;
 use crate::subscribers::{Counter, FIRST};
 use crate::timing::{REPEATS, Times};
 use event_manager::{
-    EventManager, EventPoller, Ledgers, Naming, PlainPoller, RemoteEndpoint, SubscriberId,
-    SubscriberOps, WithLedgers, with_ledgers,
+    EventManager, EventPoller, Ledgers, Naming, RemoteEndpoint, SubscriberId, SubscriberOps,
+    WithLedgers, with_ledgers,
 };
 use std::alloc::Global;
 use std::sync::Wait;
@@ -39,9 +39,8 @@ impl<R: Wait + Clock + Copy + Send + Drop> WithLedgers for FiredJobs<'_, R> {
             alloc,
             rt,
         } = self;
-        let poller = PlainPoller(epoll);
         let mut manager = EventManager::<Counter, CountOne, N, _>::new(
-            alloc, poller, endpoint, ledgers,
+            alloc, epoll, endpoint, ledgers,
         )?;
         let endpoint = manager.remote_endpoint()?;
         let id = manager.add_subscriber(Counter::new(FIRST as i32, 0))?;

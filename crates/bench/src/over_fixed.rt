@@ -5,7 +5,7 @@ use crate::fault::{Fault, expect};
 use crate::fixed::Fixed;
 use event_manager::{
     BoxedPoller, EventManager, EventPoller, Ledgers, MutEventSubscriber, Naming, NoJob,
-    PlainPoller, WithLedgers, with_ledgers,
+    WithLedgers, with_ledgers,
 };
 use std::alloc::Global;
 use std::sync::Wait;
@@ -88,7 +88,7 @@ pub fn measure<M: ManagerMeasure, R: Host>(bench: &Bench<R>, measure: &M) -> Res
     } else {
         with_ledgers(Ready {
             measure,
-            poller: PlainPoller(fixed),
+            poller: fixed,
             endpoint,
             alloc,
             rt,

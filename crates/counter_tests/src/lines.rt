@@ -22,7 +22,7 @@ struct HungUp {
 
 /// A line of the table that has hung up.
 fn hung_up_line<R: Host>(rt: &R, parts: &OnTable<R>) -> HungUp {
-    let line = expect_ok(rt, Line::new(&parts.poller.0, rt));
+    let line = expect_ok(rt, Line::new(&parts.poller, rt));
     expect_ok(rt, line.set(EventSet::HANG_UP, rt));
     HungUp {
         wanted: Events::new(&line, EventSet::IN),

@@ -15,7 +15,7 @@ impl<R: Threads + Wait + Clock + Abort + Copy + Send + Sync + Drop + 'static> Ho
 
 /// A counter of value 0 in the table of these parts.
 pub fn counter_of<R: Host>(rt: &R, parts: &OnTable<R>) -> EventFd {
-    expect_ok(rt, EventFd::new(&parts.poller.0, 0, rt))
+    expect_ok(rt, EventFd::new(&parts.poller, 0, rt))
 }
 
 /// Three counters of value 0 in the table of these parts.

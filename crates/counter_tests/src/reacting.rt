@@ -36,12 +36,12 @@ impl Reacting {
 }
 
 impl MutEventSubscriber for Reacting {
-    ghost use Rattle.event_manager.specs.Exchange.{Answer};
+    ghost use Rattle.event_manager.specs.Exchange.{Asks};
     ghost use Rattle.event_manager.specs.Request.TheVariants.{Add};
 
-    ghost begins = { λ v exchanges w. (answer : Answer) × (exchanges ≡ (Add v.own, answer) ∷ []) };
+    ghost begins = { λ v exchanges w. Asks (Add v.own) exchanges };
 
-    ghost serves = { λ v event exchanges w. MatchOption v.reaction (exchanges ≡ []) (λ request. (answer : Answer) × (exchanges ≡ (request, answer) ∷ [])) };
+    ghost serves = { λ v event exchanges w. MatchOption v.reaction (exchanges ≡ []) (λ request. Asks request exchanges) };
 
     fn process<P: EventPoller>(&mut self, events: Events, ops: &mut EventOps<P>) {
         let _ = self.seen.push(events);

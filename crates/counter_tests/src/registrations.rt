@@ -52,7 +52,7 @@ impl<R: Wait + Clock + Abort> WithManager for Runs<'_, R> {
 
 /// `OUT` events of a new counter of this value in the table of these parts.
 fn writable_of<R: Host>(rt: &R, parts: &OnTable<R>, value: u64) -> Events {
-    let event_fd = expect_ok(rt, EventFd::new(&parts.poller.0, value, rt));
+    let event_fd = expect_ok(rt, EventFd::new(&parts.poller, value, rt));
     Events::new(&event_fd, EventSet::OUT)
 }
 

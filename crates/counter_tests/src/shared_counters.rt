@@ -3,9 +3,7 @@
 use crate::expecting::{expect_ok, expect_run, expect_same};
 use crate::making::Host;
 use event_manager::utilities::subscribers::CounterInnerMutSubscriber;
-use event_manager::{
-    Error, EventManager, EventPoller, Events, Naming, NoJob, PlainPoller, SubscriberOps,
-};
+use event_manager::{Error, EventManager, EventPoller, Events, Naming, NoJob, SubscriberOps};
 use fixtures::making::{WithManager, with_manager};
 use fixtures::parts::Parts;
 use std::alloc::Global;
@@ -102,7 +100,7 @@ fn expect_state<R: Abort>(rt: &R, subscriber: &CounterInnerMutSubscriber, expect
 /// Expects this state of a shared subscriber after a manager has served it the script.
 fn expect_served<R: Host>(rt: R, alloc: Global, script: Script<'_>, expected: State) {
     let (subscriber, endpoint) = make(rt, alloc);
-    let poller = PlainPoller(poller_of(&rt, alloc, script));
+    let poller = poller_of(&rt, alloc, script);
     let parts = Parts::new(alloc, poller, endpoint);
     let body = Serving {
         rt: &rt,

@@ -8,8 +8,8 @@ use event_manager::utilities::subscribers::{
     CounterInnerMutSubscriber, CounterSubscriber, CounterSubscriberWithData,
 };
 use event_manager::{
-    Either, EventManager, Ledgers, MutEventSubscriber, Naming, NoJob, PlainPoller, Result,
-    SubscriberId, SubscriberOps,
+    Either, EventManager, Ledgers, MutEventSubscriber, Naming, NoJob, Result, SubscriberId,
+    SubscriberOps,
 };
 use fixtures::making::{make, no_memory};
 use fixtures::parts::{OnTable, on_table};
@@ -20,7 +20,7 @@ use std::sync::ledger::Blank;
 use std::thread;
 use vmm_sys::epoll::Epoll;
 
-type Loop<S, N, R> = EventManager<S, NoJob, N, PlainPoller<Epoll<R>>>;
+type Loop<S, N, R> = EventManager<S, NoJob, N, Epoll<R>>;
 
 /// Makes a hundred runs, each of which must report so many events.
 fn run_hundred<S: MutEventSubscriber, N: Naming, R: Host>(

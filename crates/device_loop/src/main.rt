@@ -12,7 +12,7 @@ mod guest;
 mod statistics;
 
 use devices::{Console, Device, QueueDevice};
-use event_manager::{Error, EventManager, Ledgers, Naming, PlainPoller, SubscriberOps};
+use event_manager::{Error, EventManager, Ledgers, Naming, SubscriberOps};
 use fault::Fault;
 use guest::Guest;
 use statistics::ReadStatistics;
@@ -35,7 +35,7 @@ trait Host: Threads + Wait + Clock + Print + Copy + Send + Sync + Drop {}
 impl<R: Threads + Wait + Clock + Print + Copy + Send + Sync + Drop> Host for R {}
 
 /// The loop: its subscribers, its jobs, the ledgers of its tickets and taken jobs, and its poller.
-type DeviceLoop<N, R> = EventManager<Device<R>, ReadStatistics, N, PlainPoller<Epoll<R>>>;
+type DeviceLoop<N, R> = EventManager<Device<R>, ReadStatistics, N, Epoll<R>>;
 
 /// How many parts the ledger of a manager's tickets has.
 const TICKET_PARTS: u64 = 9223372036854775808;
@@ -110,8 +110,7 @@ fn run_machine<N: Naming + Send + Sync, R: Host>(
     let queue = QueueDevice::new(&first, &second, *rt)?;
     let console = Console::new(&line, *rt)?;
     let event_fd = EventFd::new(&epoll, 0, rt)?;
-    let poller = PlainPoller(epoll);
-    let mut manager = DeviceLoop::<N, R>::new(alloc, poller, event_fd, ledgers)?;
+    let mut manager = DeviceLoop::<N, R>::new(alloc, epoll, event_fd, ledgers)?;
     let guest = Guest {
         first,
         second,

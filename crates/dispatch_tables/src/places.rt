@@ -1,7 +1,7 @@
 //! The places of the subscribers: a delivery finds its subscriber at its place, without a search.
 
 ghost use Rattle.std.specs.Prelude.{◌≡◌, ◌↔◌, IsTrue, IfNone, IfSome, IfOk, OnSome, OnOk, OnErr, MatchOption, Some, None, is_some, IsSome, nat_eq};
-ghost use Rattle.std.specs.Option.{option_copied_mut};
+ghost use Rattle.std.specs.Option.{option_copied, option_copied_mut};
 ghost use Rattle.std.specs.Borrow.{Lends, LendsIf, sem};
 ghost use Rattle.std.specs.FinMap as map;
 ghost use Rattle.std.specs.HashMap.{get};
@@ -29,6 +29,17 @@ impl<S> Place<S> {
         match self {
             Place::Held(holder, _) => *holder == id,
             Place::Vacant(_) => false,
+        }
+    }
+
+    /// The subscriber that the place holds.
+    fn subscriber(&self) -> &S
+        requires { IsSome (held_id self.now) }
+        ensures { subscriber_of self.now ≡ Some result.now }
+    {
+        match self {
+            Place::Held(_, subscriber) => subscriber,
+            Place::Vacant(_) => unreachable!(),
         }
     }
 
@@ -192,6 +203,16 @@ impl<S> SubscriberPlaces<S> {
         ensures { is_some result ≡ is_some (map.get self.now id) }
     {
         self.index.get(&id).copied()
+    }
+
+    /// The subscriber of the id, which is found by the index.
+    pub fn get(&self, id: u64) -> Option<&S>
+        ensures { option_copied result ≡ map.get self.now id }
+    {
+        match self.index.get(&id).copied() {
+            Some(place) => Some(self.places[place].subscriber()),
+            None => None,
+        }
     }
 
     /// Lends the subscriber of the id, which is found by the index. Takes no memory.

@@ -5,8 +5,7 @@ use crate::subscribers::Quiet;
 use crate::told::{Told, tell};
 use event_manager::drive::drive;
 use event_manager::{
-    Call, EventManager, EventPoller, MutEventSubscriber, Naming, NoJob, PlainPoller, Reply, Result,
-    SubscriberId,
+    Call, EventManager, EventPoller, MutEventSubscriber, Naming, NoJob, Reply, Result, SubscriberId,
 };
 use fixtures::making::{WithManager, with_manager};
 use fixtures::parts::silent_parts;
@@ -54,7 +53,7 @@ where
     R: Wait + Clock + Abort + Copy + Send + Drop,
     S: MutEventSubscriber + Drop,
 {
-    let parts = expect_ok(&rt, silent_parts(rt, alloc, PlainPoller(script)));
+    let parts = expect_ok(&rt, silent_parts(rt, alloc, script));
     let driving = Driving {
         rt: &rt,
         lists,

@@ -8,7 +8,7 @@ use crate::courses::expect_let_go;
 use crate::expecting::{expect_noted, expect_ok, expect_run_within, expect_same, new_notes};
 use crate::threads::{Host, wait_until_pending};
 use crate::work::{Notes, Work};
-use event_manager::{Error, EventManager, Ledgers, Naming, PlainPoller, RemoteEndpoint, Result};
+use event_manager::{Error, EventManager, Ledgers, Naming, RemoteEndpoint, Result};
 use fixtures::making::make;
 use fixtures::parts::{Idle, OnTable, on_table};
 use std::alloc::Global;
@@ -18,7 +18,7 @@ use std::thread;
 use std::time::Duration;
 use vmm_sys::epoll::Epoll;
 
-type Loop<N, R> = EventManager<Idle, Work, N, PlainPoller<Epoll<R>>>;
+type Loop<N, R> = EventManager<Idle, Work, N, Epoll<R>>;
 
 type Sender<N> = RemoteEndpoint<Idle, Work, N>;
 

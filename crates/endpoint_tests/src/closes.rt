@@ -74,7 +74,7 @@ fn a_kick_after_a_close_is_agreed_and_read_by_nobody(rt: HostRuntime) {
 #[test]
 fn a_close_asks_the_poller_for_nothing(rt: HostRuntime) {
     let parts = expect_ok(&rt, on_table(rt, rt.alloc(), 0));
-    let mut epoll = expect_ok(&rt, parts.poller.0.try_clone());
+    let mut epoll = expect_ok(&rt, parts.poller.try_clone());
     let fd = parts.event_fd.as_raw_fd();
     expect_over(&rt, parts, &Course::Nothing, (0, 0));
     let nothing = EpollEvent::new(EventSet::empty(), 0);

@@ -6,7 +6,7 @@ use crate::expecting::{expect_ok, expect_pending, new_notes};
 use crate::threads::Host;
 use crate::work::{Gate, Notes, Work};
 use crate::{closes, gated, looks};
-use event_manager::{EventManager, Ledgers, Naming, PlainPoller, RemoteEndpoint};
+use event_manager::{EventManager, Ledgers, Naming, RemoteEndpoint};
 use fixtures::making::make;
 use fixtures::parts::{Idle, OnTable, on_table};
 use std::alloc::Global;
@@ -17,7 +17,7 @@ use std::sync::ledger::Blank;
 use std::thread;
 use vmm_sys::epoll::Epoll;
 
-pub type Loop<N, R> = EventManager<Idle, Work, N, PlainPoller<Epoll<R>>>;
+pub type Loop<N, R> = EventManager<Idle, Work, N, Epoll<R>>;
 
 pub type Sender<N> = RemoteEndpoint<Idle, Work, N>;
 

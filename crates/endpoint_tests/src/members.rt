@@ -102,7 +102,7 @@ const DELIVERED: u64 = 1;
 
 /// Events of a descriptor of the table of these parts that has one at each run.
 fn writable<R: Host>(rt: &R, parts: &OnTable<R>) -> Events {
-    let event_fd = expect_ok(rt, EventFd::new(&parts.poller.0, 0, rt));
+    let event_fd = expect_ok(rt, EventFd::new(&parts.poller, 0, rt));
     Events::new(&event_fd, EventSet::OUT)
 }
 

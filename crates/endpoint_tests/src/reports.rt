@@ -8,9 +8,7 @@ use crate::expecting::{
 use crate::noting::{Noting, add_noting};
 use crate::threads::{Host, Looping};
 use crate::work::{Notes, Work};
-use event_manager::{
-    EventManager, EventPoller, EventSet, Events, Naming, PlainPoller, RemoteEndpoint, Result,
-};
+use event_manager::{EventManager, EventPoller, EventSet, Events, Naming, RemoteEndpoint, Result};
 use fixtures::making::{WithEndpoint, with_endpoint};
 use fixtures::parts::{Idle, Parts, on_table};
 use std::alloc::Global;
@@ -73,9 +71,9 @@ fn on_script<R: Host>(
     alloc: Global,
     script: ScriptPoller,
     value: u64,
-) -> Parts<PlainPoller<ScriptPoller>> {
+) -> Parts<ScriptPoller> {
     let Parts { event_fd, .. } = expect_ok(&rt, on_table(rt, alloc, value));
-    Parts::new(alloc, PlainPoller(script), event_fd)
+    Parts::new(alloc, script, event_fd)
 }
 
 /// Expects that this was noted in a run over this report. The endpoint has descriptor 0, and the subscriber 3.
@@ -191,7 +189,7 @@ impl<R: Looping> WithEndpoint for Kicked<'_, R> {
 fn a_kick_ends_a_wait(rt: HostRuntime) {
     let notes = new_notes(&rt, rt.alloc());
     let parts = expect_ok(&rt, on_table(rt, rt.alloc(), 0));
-    let silent = expect_ok(&rt, EventFd::new(&parts.poller.0, 0, &rt));
+    let silent = expect_ok(&rt, EventFd::new(&parts.poller, 0, &rt));
     let body = Kicked {
         rt: &rt,
         silent: Events::new(&silent, EventSet::IN),

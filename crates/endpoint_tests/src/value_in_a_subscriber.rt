@@ -7,7 +7,7 @@ use crate::expecting::{expect_ok, expect_run_within, expect_same};
 use crate::threads::{Host, wait_until_pending};
 use event_manager::{
     EventManager, EventOps, EventPoller, Events, Job, Ledgers, MutEventSubscriber, Naming,
-    PlainPoller, Registry, Result, SubscriberId, SubscriberOps,
+    Registry, Result, SubscriberId, SubscriberOps,
 };
 use fixtures::making::make;
 use fixtures::parts::{OnTable, on_table};
@@ -90,7 +90,7 @@ impl Job<Stoppable> for Order {
     }
 }
 
-type Loop<N, R> = EventManager<Stoppable, Order, N, PlainPoller<Epoll<R>>>;
+type Loop<N, R> = EventManager<Stoppable, Order, N, Epoll<R>>;
 
 /// Expects that a caller is answered this value by a run with its change.
 fn expect_answer<N, R>(rt: R, alloc: Global, manager: &mut Loop<N, R>, order: Order, value: u64)

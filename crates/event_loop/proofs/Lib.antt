@@ -8,4 +8,5 @@ pub mod ReportedInOrder
 pub mod RequestsSoFar
 pub mod StepExchangeLemmas
 pub mod Watching
+pub mod WithoutJobs
 pub mod WithoutOwner

@@ -88,6 +88,14 @@ pub data Fits (i : ℕ) (registrations : Registrations) (request : Request) (ans
 abbrev pub Exchanges : Type 0
 Exchanges = List (Request × Answer)
 
+-- just this request was made, whatever its answer
+abbrev pub Asks : Request → Exchanges → Type 0
+Asks request exchanges = (answer : Answer) × (exchanges ≡ (request, answer) ∷ [])
+
+-- no request was made
+abbrev pub AsksNothing : Exchanges → Type 0
+AsksNothing exchanges = exchanges ≡ []
+
 abbrev pub requests_of : Exchanges → List Request
 requests_of exchanges = map (λ exchange. exchange.0) exchanges
 

@@ -13,6 +13,7 @@ pub mod Exchange
 pub mod Iteration
 pub mod LoopState
 pub mod Subscribers
+pub mod EventLoop
 pub mod PollerCall
 pub mod ReadyList
 pub mod RegistrationState

@@ -28,6 +28,14 @@ new_loop endpoint poller capacity = record {
   capacity = capacity;
 }
 
+-- a number that no descriptor has: descriptors are below it
+abbrev pub no_descriptor : ℕ
+no_descriptor = 2147483648
+
+-- what jobs may do in a loop that takes none
+abbrev pub no_job : {S : Type 0} → ⊥ → List (Step S) → Unit {0} → Type 0
+no_job job steps reply = ⊥
+
 -- without poller and capacity
 abbrev pub manager_state : {S P : Type 0} → LoopState S P → ManagerState S
 manager_state state = record { registry = state.registry; taken = state.taken }

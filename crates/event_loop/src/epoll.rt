@@ -261,7 +261,7 @@ impl Registrations {
         self.at = 0;
         self.count = 0;
         self.cancelled.clear();
-        match poller.wait_into(ms, &mut self.buffer) {
+        match poller.wait(ms, &mut self.buffer) {
             Ok(count) => {
                 if self.raised > 0 {
                     order_by_class(&self.owners, &mut self.buffer, count, &mut self.classed);
@@ -291,7 +291,7 @@ impl<P: EventPoller> EpollWrapper<P> {
         ensures registrations { self.new.registrations ≡ self.old.registrations }
         ensures led { Leads P.controls P.waits self.old.poller (Control op events.fd events result ∷ []) self.new.poller }
     {
-        self.poller.control(op, events.number(), events)
+        self.poller.ctl(op, events.number(), events)
     }
 
     /// Frees all descriptors of the id, and asks the poller one Delete for each, in ascending order and
@@ -302,7 +302,7 @@ impl<P: EventPoller> EpollWrapper<P> {
         let fds = self.registrations.take_watched(id);
         for fd in &fds {
             let event = Events::empty_raw(0);
-            let _ = self.poller.control(ControlOperation::Delete, *fd, event);
+            let _ = self.poller.ctl(ControlOperation::Delete, *fd, event);
         }
     }
 }

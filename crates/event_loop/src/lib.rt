@@ -1,12 +1,14 @@
 //! An event loop that waits and dispatches, without jobs: what `event_manager` stands on, and hands out again.
 //!
-//! Subscribers register descriptors with a poller through an [`EventOps`]; each run of a [`Registry`] waits once and hands
-//! each event of the report to the subscriber that owns its descriptor at that moment.
+//! Subscribers register descriptors with a poller through an [`EventOps`]; each run of an [`EventLoop`] waits once and hands
+//! each event of the report to the subscriber that owns its descriptor at that moment. The [`Registry`] in it is what a job
+//! of a manager gets.
 #![tactic(auto)]
 
 pub mod boxed_subscriber;
 pub mod epoll;
 pub mod error;
+pub mod event_loop;
 pub mod events;
 pub mod poller;
 pub mod subscriber_ops;
@@ -19,8 +21,9 @@ pub use dispatch_tables::cancelled::cancelled_at;
 pub use dispatch_tables::priority;
 pub use dispatch_tables::priority::Priority;
 pub use error::{Error, Result};
+pub use event_loop::{EventLoop, MAX_READY_EVENTS_CAPACITY};
 pub use events::{EventOps, Events, Request};
-pub use poller::{BoxedPoller, EventPoller, PlainPoller};
+pub use poller::{BoxedPoller, EventPoller};
 pub use subscriber_ops::SubscriberOps;
 pub use subscribers::{Batch, EventSubscriber, MutEventSubscriber, Registry, SubscriberId};
 pub use vmm_sys::epoll::EventSet;

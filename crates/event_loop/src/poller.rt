@@ -13,19 +13,19 @@ use vmm_sys::poller::Poller;
 /// A poller, as a manager calls it.
 ///
 /// Each type states two relations: which answer and which value after a call may give from the value before. All
-/// contracts of the manager speak of its poller by these relations alone, so they hold for every poller. A `vmm_sys`
-/// poller is one in a [`BoxedPoller`], or, where its type is known, in a [`PlainPoller`].
+/// contracts of the manager speak of its poller by these relations alone, so they hold for every poller. Each `vmm_sys`
+/// poller is one, as it is; one whose type isn't known stands in a [`BoxedPoller`].
 pub trait EventPoller {
     ghost use Rattle.std.specs.Prelude.{ℕ, ℤ, List, Result};
     ghost use Rattle.vmm_sys.specs.declared.errno.Errno.{Errno};
     ghost use Rattle.vmm_sys.specs.declared.epoll.ControlOperation.{ControlOperation};
     ghost use Rattle.dispatch_tables.specs.Event.{Event};
 
-    /// From a value, with an operation, a descriptor and an event: which answer `control` may give, and which value it
+    /// From a value, with an operation, a descriptor and an event: which answer `ctl` may give, and which value it
     /// may leave.
     ghost controls: { Self → ControlOperation → ℕ → Event → Result (Unit {0}) Errno → Self → Type 0 };
 
-    /// From a value, with the milliseconds and the capacity of the buffer: which report or refusal `wait_into` may
+    /// From a value, with the milliseconds and the capacity of the buffer: which report or refusal `wait` may
     /// give, and which value it may leave.
     ghost waits: { Self → ℤ → ℕ → Result (List Event) Errno → Self → Type 0 };
 
@@ -33,19 +33,19 @@ pub trait EventPoller {
     ///
     /// The event has the same descriptor, but for a `Delete` that comes from a subscriber's leaving: its event has
     /// descriptor 0, data 0 and the empty set.
-    fn control(&mut self, op: ControlOperation, fd: u32, event: Events) -> Result<(), Errno>
+    fn ctl(&mut self, op: ControlOperation, fd: u32, event: Events) -> Result<(), Errno>
         requires { fd < 2 ^ 31 }
         ensures { controls self.old op fd event result self.new };
 
     /// Waits for a report, and writes its entries into the front of the buffer; answers how many.
     ///
     /// `ms` is the limit in milliseconds: none where it is negative, no wait where it is 0.
-    fn wait_into(&mut self, ms: i32, buffer: &mut [EpollEvent]) -> Result<usize, Errno>
+    fn wait(&mut self, ms: i32, buffer: &mut [EpollEvent]) -> Result<usize, Errno>
         ensures count_fits { IfOk result (λ n. n ≤ length buffer.old) }
         ensures answer { waits self.old ms (length buffer.old) (report_of result buffer.new) self.new };
 }
 
-/// Any `vmm_sys` poller, in a box. The caller makes the box.
+/// A `vmm_sys` poller of any type, in a box. The caller makes the box.
 #[derive(Drop)]
 pub struct BoxedPoller(pub Box<dyn Poller + Send>);
 
@@ -54,11 +54,11 @@ impl EventPoller for BoxedPoller {
 
     ghost waits = { λ v ms capacity r w. (w.0.vtable ≡ v.0.vtable) × boxed.waits (Poller-box v.0) ((Poller-box v.0).meaning v.0.value) ms capacity r ((Poller-box w.0).meaning w.0.value) };
 
-    fn control(&mut self, op: ControlOperation, fd: u32, event: Events) -> Result<(), Errno> {
+    fn ctl(&mut self, op: ControlOperation, fd: u32, event: Events) -> Result<(), Errno> {
         self.0.ctl(op, fd as i32, event.epoll_event())
     }
 
-    fn wait_into(&mut self, ms: i32, buffer: &mut [EpollEvent]) -> Result<usize, Errno> {
+    fn wait(&mut self, ms: i32, buffer: &mut [EpollEvent]) -> Result<usize, Errno> {
         match self.0.wait(ms, buffer) {
             Ok(count) => Ok(count),
             Err(errno) => Err(errno),
@@ -66,21 +66,17 @@ impl EventPoller for BoxedPoller {
     }
 }
 
-/// A `vmm_sys` poller of one known type, without a box.
-#[derive(Drop)]
-pub struct PlainPoller<T>(pub T);
+impl<T: Poller> EventPoller for T {
+    ghost controls = { λ v op fd event r w. T.may_ctl (T.meaning v) op (pos fd) (packed event) r (T.meaning w) };
 
-impl<T: Poller> EventPoller for PlainPoller<T> {
-    ghost controls = { λ v op fd event r w. T.may_ctl (T.meaning v.0) op (pos fd) (packed event) r (T.meaning w.0) };
+    ghost waits = { λ v ms capacity r w. WaitsBy T.may_wait (T.meaning v) ms capacity r (T.meaning w) };
 
-    ghost waits = { λ v ms capacity r w. WaitsBy T.may_wait (T.meaning v.0) ms capacity r (T.meaning w.0) };
-
-    fn control(&mut self, op: ControlOperation, fd: u32, event: Events) -> Result<(), Errno> {
-        self.0.ctl(op, fd as i32, event.epoll_event())
+    fn ctl(&mut self, op: ControlOperation, fd: u32, event: Events) -> Result<(), Errno> {
+        Poller::ctl(self, op, fd as i32, event.epoll_event())
     }
 
-    fn wait_into(&mut self, ms: i32, buffer: &mut [EpollEvent]) -> Result<usize, Errno> {
-        match self.0.wait(ms, buffer) {
+    fn wait(&mut self, ms: i32, buffer: &mut [EpollEvent]) -> Result<usize, Errno> {
+        match Poller::wait(self, ms, buffer) {
             Ok(count) => Ok(count),
             Err(errno) => Err(errno),
         }

@@ -47,6 +47,11 @@ pub trait SubscriberOps {
         ensures { (step : Step Self.Subscriber) × IsLeave id result step
             × HasStepped Self.Subscriber.begins Self.Poller.controls Self.Poller.waits (seen self.old) step (seen self.new) };
 
+    /// The subscriber of the id. `InvalidId` where there is none.
+    fn subscriber(&self, id: SubscriberId) -> Result<&Self::Subscriber>
+        ensures found { IfOk result (λ r. HasId (seen self.now).registry id r.now) }
+        ensures lost { IfErr result (λ e. (e ≡ Error.InvalidId) × LacksId (seen self.now).registry id) };
+
     /// Lends the subscriber of the id. Takes no memory. `InvalidId` where there is none.
     fn subscriber_mut(&mut self, id: SubscriberId) -> Result<&mut Self::Subscriber>
         ensures* lent { sem 𝓛 (LendsSoOk Self.row Self.Subscriber.row self.entry result (λ n w. seen n ≡ with_value (seen self.old) id w) (λ n. seen n ≡ seen self.old)) }
@@ -79,6 +84,13 @@ impl<S: MutEventSubscriber + Drop, P: EventPoller> SubscriberOps for Registry<S,
 
     fn remove_subscriber(&mut self, id: SubscriberId) -> Result<S> {
         self.leave(id.number())
+    }
+
+    fn subscriber(&self, id: SubscriberId) -> Result<&S> {
+        match self.subscribers.get(id.number()) {
+            Some(subscriber) => Ok(subscriber),
+            None => Err(Error::InvalidId),
+        }
     }
 
     fn subscriber_mut(&mut self, id: SubscriberId) -> Result<&mut S> {

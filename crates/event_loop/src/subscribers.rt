@@ -1,6 +1,7 @@
 //! Subscribers, and the registry that holds them by id.
 
-ghost use Rattle.std.specs.Prelude.{◌≡◌, ℕ, ◌≤◌, ◌<◌, ◌^◌, List, [], ◌∷◌, map, IfOk, MatchOption};
+ghost use Rattle.std.specs.Prelude.{◌≡◌, ℕ, ◌≤◌, ◌<◌, ◌^◌, List, [], ◌∷◌, map, IfErr, IfOk, MatchOption};
+ghost use Rattle.std.specs.FinMap as finite;
 ghost use Rattle.std.specs.Ordering.{nat_cmp};
 ghost use Rattle.dispatch_tables.specs.Event.{Event};
 ghost use Rattle.event_loop.specs.PollerCall.{PollerCall};
@@ -8,7 +9,7 @@ ghost use Rattle.event_loop.specs.Exchange.{Exchanges};
 ghost use Rattle.event_loop.specs.Registry.{Step, HasId, LacksId};
 ghost use Rattle.event_loop.specs.RegistrationState.{all_pending};
 ghost use Rattle.event_loop.specs.Requests.{AreMadeThrough};
-ghost use Rattle.event_loop.specs.LoopState.{HasStepped, IsJoin, IsLeave};
+ghost use Rattle.event_loop.specs.LoopState.{HasStepped, IsJoin, IsLeave, new_loop, no_descriptor};
 ghost use Rattle.event_loop.specs.Subscribers.{TakesPosition, IsDispatched, IsBatch, IsNew, loop_state};
 
 use crate::epoll::{EpollWrapper, Registrations};
@@ -96,6 +97,9 @@ pub trait MutEventSubscriber {
             × AreMadeThrough P.controls P.waits ops.old ops.new exchanges calls };
 }
 
+/// A number that no descriptor has.
+const NO_DESCRIPTOR: u32 = 2147483648;
+
 /// How many events a wait reported, and whether one of them was on the endpoint's descriptor.
 #[derive(Clone, Copy)]
 pub struct Batch {
@@ -130,16 +134,42 @@ impl<S: MutEventSubscriber, P: EventPoller> Registry<S, P> {
             poller,
         };
         match epoll.ctl(ControlOperation::Add, endpoint) {
-            Ok(()) => Ok(Registry {
-                subscribers: SubscriberPlaces::new(alloc),
-                next: 1,
-                ops: EventOps {
-                    epoll,
-                    id: 0,
-                    place: 0,
-                },
-            }),
+            Ok(()) => Ok(Registry::over(alloc, epoll)),
             Err(errno) => Err(Error::Epoll(errno)),
+        }
+    }
+
+    /// No subscriber and no endpoint, with room for a batch of `capacity` events. The poller is asked for nothing.
+    pub(crate) fn without_endpoint(alloc: Global, poller: P, capacity: usize) -> Result<Self>
+    where
+        P: Drop,
+        ensures made { IfOk result (λ made. loop_state made ≡ new_loop no_descriptor poller capacity) }
+        ensures refusals { IfErr result (λ error. error ≡ Error.OutOfMemory) }
+    {
+        match Registrations::new(alloc, NO_DESCRIPTOR, capacity) {
+            Ok(registrations) => {
+                let epoll = EpollWrapper {
+                    registrations,
+                    poller,
+                };
+                Ok(Registry::over(alloc, epoll))
+            }
+            Err(_) => Err(Error::OutOfMemory),
+        }
+    }
+
+    /// No subscriber, over these registrations and this poller.
+    fn over(alloc: Global, epoll: EpollWrapper<P>) -> Self
+        ensures { (result.subscribers ≡ finite.empty) × (result.next ≡ 1) × (result.ops.epoll ≡ epoll) }
+    {
+        Registry {
+            subscribers: SubscriberPlaces::new(alloc),
+            next: 1,
+            ops: EventOps {
+                epoll,
+                id: 0,
+                place: 0,
+            },
         }
     }
 

@@ -26,12 +26,6 @@ none_reported : (fd : ℕ) (report : List Event) → All (λ e. e.fd ≢ fd) rep
 none_reported fd [] all = refl
 none_reported fd (e ∷ report) all = ap (λ b. b || is_reported fd report) (ne_eqb e.fd fd (All-head (λ x. x.fd ≢ fd) e report all)) ∙ none_reported fd report (All-tail (λ x. x.fd ≢ fd) e report all)
 
-module _ {S J R : Type 0} (begins : S → Exchanges → S → Type 0) (serves : S → Event → Exchanges → S → Type 0) (may : J → List (Step S) → R → Type 0) where
-  no_jobs : (n : ℕ) (before after : Registry S) (waited : Result (List Event) Errno) (positions : List (Position S)) → IsDispatchedAfter serves waited positions before after
-      → IsAfterWait begins serves may (record { registry = before; taken = n }) waited positions [] (record { registry = after; taken = n })
-  no_jobs n before after (Ok report) positions dispatched = (after, dispatched, λ _. refl, refl)
-  no_jobs n before after (Err errno) positions dispatched = (dispatched.0, refl, ap (λ r. record { registry = r; taken = n }) dispatched.1)
-
 module _ {S P J R : Type 0} (begins : S → Exchanges → S → Type 0) (serves : S → Event → Exchanges → S → Type 0) (may : J → List (Step S) → R → Type 0) (controls : Controls P) (waits : Waits P) where
   -- none of no jobs
   pub no_job_ran : (n : ℕ) (before : LoopState S P) → JobsAreRun begins serves may controls waits before n [] before n
@@ -46,18 +40,6 @@ module _ {S P J R : Type 0} (begins : S → Exchanges → S → Type 0) (serves 
     ran = (mid.registry, follows, did.might, did.stepped.stepped, rest.ran);
     led = leads_join controls waits before.poller mid.poller after.poller (calls_of_steps did.steps) (calls_of_jobs rest.jobs) did.stepped.led rest.led;
     same_capacity = rest.same_capacity ∙ did.stepped.same_capacity;
-  }
-
-  -- a batch after which no jobs are taken
-  pub without_jobs : (n : ℕ) (before after : LoopState S P) (ms : ℤ) (result : Result Batch Error) → IsBatch serves controls waits before ms result after
-      → IsLoopIteration begins serves may controls waits (record before { taken = n }) ms (count_of result) (record after { taken = n })
-  without_jobs n before after ms result batch = record {
-    iteration = record { ms = ms; waited = batch.waited; positions = batch.positions; jobs = [] };
-    milliseconds = refl;
-    answer = batch.answer;
-    iterated = no_jobs begins serves may n before.registry after.registry batch.waited batch.positions batch.dispatched;
-    led = subst (λ calls. Leads controls waits before.poller (Wait ms before.capacity batch.waited ∷ calls) after.poller) (sym (append-nil (calls_of_positions batch.positions))) batch.led;
-    same_capacity = batch.same_capacity;
   }
 
   then_jobs : (n m : ℕ) (before mid after : LoopState S P) (waited : Result (List Event) Errno) (positions : List (Position S)) (batch : Batch)

@@ -7,6 +7,7 @@ use Rattle.dispatch_tables.specs.Event.{Event}
 use Rattle.event_loop.specs.PollerCall.{Controls}
 use Rattle.event_loop.specs.LoopState.{LoopState, new_loop}
 use Rattle.event_loop.specs.Subscribers.{loop_state}
+use Rattle.event_loop.specs.EventLoop.{max_capacity}
 use Rattle.event_loop.specs.declared.error.Error.{Error}
 use Rattle.event_loop.specs.declared.error.Error.TheVariants.{ChannelSend, ChannelRecv, Epoll, FdAlreadyRegistered, InvalidId, InvalidCapacity, OutOfMemory, IdsUsedUp, TicketsUsedUp}
 use Rattle.event_loop.specs.declared.error.Error.TheVariants as error
@@ -18,10 +19,6 @@ state_of m = record (loop_state m.registry) { taken = m.channel }
 -- the number of the endpoint's descriptor
 abbrev pub endpoint_of : EventFd → ℕ
 endpoint_of event_fd = unsigned_abs (descriptor_of event_fd)
-
--- the largest capacity: as many entries of 12 bytes as 2147483647 bytes hold
-abbrev pub max_capacity : ℕ
-max_capacity = 178956970
 
 -- the event with which the endpoint's descriptor is added to the poller
 abbrev pub endpoint_event : ℕ → Event

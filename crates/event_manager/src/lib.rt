@@ -17,13 +17,14 @@ pub use calls::{Call, Reply};
 pub use endpoint::RemoteEndpoint;
 pub use endpoint::closed::Closed;
 pub use event_loop::{
-    BoxedPoller, BoxedSubscriber, Either, Error, EventOps, EventPoller, EventSet, EventSubscriber,
-    Events, Locked, MutEventSubscriber, PlainPoller, Priority, Registry, Request, Result,
-    StepInput, StepSubscriber, SubscriberId, SubscriberOps, boxed_subscriber, cancelled_at, error,
-    events, poller, priority, subscribers, utilities, wrappers,
+    BoxedPoller, BoxedSubscriber, Either, Error, EventLoop, EventOps, EventPoller, EventSet,
+    EventSubscriber, Events, Locked, MAX_READY_EVENTS_CAPACITY, MutEventSubscriber, Priority,
+    Registry, Request, Result, StepInput, StepSubscriber, SubscriberId, SubscriberOps,
+    boxed_subscriber, cancelled_at, error, events, poller, priority, subscribers, utilities,
+    wrappers,
 };
 pub use job_tickets::ledgers::{Ledgers, WithLedgers, with_ledgers};
 pub use job_tickets::naming::Naming;
 pub use job_tickets::tickets::Ticket;
 pub use jobs::{Job, NoJob};
-pub use manager::{EventManager, MAX_READY_EVENTS_CAPACITY};
+pub use manager::EventManager;

@@ -10,9 +10,10 @@ use crate::endpoint::RemoteEndpoint;
 use crate::endpoint::channel::EventManagerChannel;
 use crate::endpoint::closed::Closed;
 use crate::jobs::Job;
+use event_loop::event_loop::DEFAULT_CAPACITY;
 use event_loop::{
-    BoxedPoller, Error, EventOps, EventPoller, Events, MutEventSubscriber, Registry, Result,
-    SubscriberId, SubscriberOps,
+    BoxedPoller, Error, EventOps, EventPoller, Events, MAX_READY_EVENTS_CAPACITY,
+    MutEventSubscriber, Registry, Result, SubscriberId, SubscriberOps,
 };
 use job_tickets::ledgers::Ledgers;
 use job_tickets::naming::Naming;
@@ -21,13 +22,6 @@ use std::sync::Wait;
 use std::time::Clock;
 use vmm_sys::epoll::EventSet;
 use vmm_sys::eventfd::EventFd;
-
-/// The largest capacity of a manager: 2147483647 bytes in entries of 12 bytes each, rounded down. A manager of it asks for
-/// 40 bytes an entry: 7.2 GB.
-pub const MAX_READY_EVENTS_CAPACITY: usize = 178956970;
-
-/// The capacity of [`EventManager::new`].
-const DEFAULT_CAPACITY: usize = 256;
 
 /// An event loop over a poller, the subscribers that it serves, and the jobs that its endpoints send.
 ///
@@ -150,6 +144,10 @@ impl<S: MutEventSubscriber + Drop, J: Job<S>, N: Naming, P: EventPoller> Subscri
 
     fn remove_subscriber(&mut self, id: SubscriberId) -> Result<S> {
         self.registry.remove_subscriber(id)
+    }
+
+    fn subscriber(&self, id: SubscriberId) -> Result<&S> {
+        self.registry.subscriber(id)
     }
 
     fn subscriber_mut(&mut self, id: SubscriberId) -> Result<&mut S> {

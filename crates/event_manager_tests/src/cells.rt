@@ -5,7 +5,7 @@ use crate::counting::{
 };
 use crate::expecting::{expect, expect_ok, expect_same};
 use crate::runs::run_alone;
-use event_manager::{EventManager, EventPoller, Locked, Naming, NoJob, PlainPoller, SubscriberOps};
+use event_manager::{EventManager, EventPoller, Locked, Naming, NoJob, SubscriberOps};
 use fixtures::making::{WithManager, no_memory, with_manager};
 use fixtures::parts::{Parts, silent_parts};
 use std::cell::RefCell;
@@ -72,7 +72,7 @@ fn busy_cell_skips_the_call(rt: HostRuntime) {
         rt: &rt,
         cell: expect_ok(&rt, cell.clone()),
     };
-    let poller = PlainPoller(expect_ok(&rt, two_reports(rt.alloc())));
+    let poller = expect_ok(&rt, two_reports(rt.alloc()));
     let parts = expect_ok(&rt, silent_parts(rt, rt.alloc(), poller));
     expect_ok(&rt, with_manager(parts, body));
     expect_same(&rt, &count_in(&cell), &Some(1));
@@ -124,7 +124,7 @@ fn lock_is_waited_for_and_left_free(rt: HostRuntime) {
     let locked = expect_ok(&rt, Arc::new(rt.alloc(), Locked::new(counting_on(3), rt)));
     let turn = expect_ok(&rt, Arc::new(rt.alloc(), AtomicU64::new(0)));
     let script = expect_ok(&rt, two_reports(rt.alloc()));
-    let parts = expect_ok(&rt, silent_parts(rt, rt.alloc(), PlainPoller(script)));
+    let parts = expect_ok(&rt, silent_parts(rt, rt.alloc(), script));
     let (their_locked, their_turn) = (expect_ok(&rt, locked.clone()), expect_ok(&rt, turn.clone()));
     let runner = expect_ok(
         &rt,
@@ -161,7 +161,7 @@ fn lock_is_waited_for_and_left_free(rt: HostRuntime) {
 /// Serves a subscriber under a lock the two reports, and sets the flag when that is done.
 fn serve_locked<R: Wait + Clock + Abort + Drop>(
     rt: R,
-    parts: Parts<PlainPoller<ScriptPoller>>,
+    parts: Parts<ScriptPoller>,
     locked: Locked<SharedCounting, R>,
     over: &AtomicU64,
 ) -> event_manager::Result<()> {
@@ -178,7 +178,7 @@ fn subscriber_under_a_lock_counts_in_an_atomic(rt: HostRuntime) {
     let over = expect_ok(&rt, Arc::new(rt.alloc(), AtomicU64::new(0)));
     let theirs = expect_ok(&rt, over.clone());
     let script = expect_ok(&rt, two_reports(rt.alloc()));
-    let parts = expect_ok(&rt, silent_parts(rt, rt.alloc(), PlainPoller(script)));
+    let parts = expect_ok(&rt, silent_parts(rt, rt.alloc(), script));
     let runner = expect_ok(
         &rt,
         thread::spawn(&rt, move || serve_locked(rt, parts, locked, &theirs)),

@@ -3,9 +3,7 @@
 use crate::expecting::expect_ok;
 use crate::parts::{push_words, script_of};
 use crate::runs::run_alone;
-use event_manager::{
-    EventOps, EventPoller, EventSubscriber, Events, MutEventSubscriber, PlainPoller,
-};
+use event_manager::{EventOps, EventPoller, EventSubscriber, Events, MutEventSubscriber};
 use fixtures::parts::silent_parts;
 use std::alloc::{AllocError, Global};
 use std::process::Abort;
@@ -24,11 +22,11 @@ pub struct Counting {
 }
 
 impl MutEventSubscriber for Counting {
-    ghost use Rattle.std.specs.Prelude.{◌≡◌, [], ◌∷◌};
-    ghost use Rattle.event_manager.specs.Exchange.{Answer};
+    ghost use Rattle.std.specs.Prelude.{◌≡◌, []};
+    ghost use Rattle.event_manager.specs.Exchange.{Asks};
     ghost use Rattle.event_manager.specs.Request.TheVariants.{Add};
 
-    ghost begins = { λ v exchanges w. (answer : Answer) × (exchanges ≡ (Add v.own, answer) ∷ []) };
+    ghost begins = { λ v exchanges w. Asks (Add v.own) exchanges };
 
     ghost serves = { λ v event exchanges w. exchanges ≡ [] };
 
@@ -49,11 +47,11 @@ pub struct SharedCounting {
 }
 
 impl EventSubscriber for SharedCounting {
-    ghost use Rattle.std.specs.Prelude.{◌≡◌, [], ◌∷◌};
-    ghost use Rattle.event_manager.specs.Exchange.{Answer};
+    ghost use Rattle.std.specs.Prelude.{◌≡◌, []};
+    ghost use Rattle.event_manager.specs.Exchange.{Asks};
     ghost use Rattle.event_manager.specs.Request.TheVariants.{Add};
 
-    ghost begins_shared = { λ v exchanges. (answer : Answer) × (exchanges ≡ (Add v.own, answer) ∷ []) };
+    ghost begins_shared = { λ v exchanges. Asks (Add v.own) exchanges };
 
     ghost serves_shared = { λ v event exchanges. exchanges ≡ [] };
 
@@ -67,11 +65,11 @@ impl EventSubscriber for SharedCounting {
 }
 
 impl MutEventSubscriber for SharedCounting {
-    ghost use Rattle.std.specs.Prelude.{◌≡◌, [], ◌∷◌};
-    ghost use Rattle.event_manager.specs.Exchange.{Answer};
+    ghost use Rattle.std.specs.Prelude.{◌≡◌, []};
+    ghost use Rattle.event_manager.specs.Exchange.{Asks};
     ghost use Rattle.event_manager.specs.Request.TheVariants.{Add};
 
-    ghost begins = { λ v exchanges w. (answer : Answer) × (exchanges ≡ (Add v.own, answer) ∷ []) };
+    ghost begins = { λ v exchanges w. Asks (Add v.own) exchanges };
 
     ghost serves = { λ v event exchanges w. exchanges ≡ [] };
 
@@ -98,7 +96,7 @@ where
     R: Wait + Clock + Abort + Copy + Send + Drop,
 {
     let script = expect_ok(&rt, two_reports(alloc));
-    let parts = expect_ok(&rt, silent_parts(rt, alloc, PlainPoller(script)));
+    let parts = expect_ok(&rt, silent_parts(rt, alloc, script));
     let runs = [(None, Ok(1)), (None, Ok(1))];
     expect_ok(&rt, run_alone(&rt, parts, subscriber, &runs))
 }

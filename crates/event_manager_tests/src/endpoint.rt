@@ -4,9 +4,7 @@ use crate::expecting::{expect, expect_ok, expect_same};
 use crate::log::Watcher;
 use crate::parts::{counter_at, script_of, script_of_words};
 use crate::runs::{Run, run_alone, run_over};
-use event_manager::{
-    Error, EventOps, EventPoller, Events, MutEventSubscriber, PlainPoller, Result,
-};
+use event_manager::{Error, EventOps, EventPoller, Events, MutEventSubscriber, Result};
 use fixtures::parts::Parts;
 use std::alloc::Global;
 use std::process::Abort;
@@ -44,11 +42,11 @@ fn make_probed<R: Wait + Clock + Copy + Send + Drop>(
     alloc: Global,
     script: ScriptPoller,
     endpoint: u8,
-) -> std::result::Result<(Parts<PlainPoller<ScriptPoller>>, Probe<Epoll<R>>), Errno> {
+) -> std::result::Result<(Parts<ScriptPoller>, Probe<Epoll<R>>), Errno> {
     let epoll = Epoll::new(*rt, alloc)?;
     let event_fd = counter_at(&epoll, endpoint, 3, rt)?;
     let probe = Probe::new(epoll, &event_fd)?;
-    let parts = Parts::new(alloc, PlainPoller(script), event_fd);
+    let parts = Parts::new(alloc, script, event_fd);
     Ok((parts, probe))
 }
 
@@ -77,11 +75,11 @@ struct Looking<T> {
 }
 
 impl<T: Poller> MutEventSubscriber for Looking<T> {
-    ghost use Rattle.std.specs.Prelude.{◌≡◌, [], ◌∷◌};
-    ghost use Rattle.event_manager.specs.Exchange.{Answer};
+    ghost use Rattle.std.specs.Prelude.{◌≡◌, []};
+    ghost use Rattle.event_manager.specs.Exchange.{Asks};
     ghost use Rattle.event_manager.specs.Request.TheVariants.{Add};
 
-    ghost begins = { λ v exchanges w. (answer : Answer) × (exchanges ≡ (Add v.own, answer) ∷ []) };
+    ghost begins = { λ v exchanges w. Asks (Add v.own) exchanges };
 
     ghost serves = { λ v event exchanges w. exchanges ≡ [] };
 

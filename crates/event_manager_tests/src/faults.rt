@@ -3,8 +3,8 @@
 use crate::expecting::{expect_ok, expect_same};
 use crate::parts::script_of;
 use event_manager::{
-    Error, EventManager, EventOps, EventPoller, Events, MutEventSubscriber, Naming, NoJob,
-    PlainPoller, Request, SubscriberOps,
+    Error, EventManager, EventOps, EventPoller, Events, MutEventSubscriber, Naming, NoJob, Request,
+    SubscriberOps,
 };
 use fixtures::making::{WithManager, with_manager};
 use fixtures::parts::{Parts, silent_parts};
@@ -127,8 +127,8 @@ fn seen_with<R: Wait + Clock + Abort + Copy + Send + Drop>(
     errno: Errno,
 ) -> event_manager::Result<Seen> {
     let script = expect_ok(rt, script_of(alloc, &[3, 4]));
-    let poller = PlainPoller(FaultPoller::new(script, at, errno));
-    let parts: Parts<PlainPoller<FaultPoller>> = expect_ok(rt, silent_parts(*rt, alloc, poller));
+    let poller = FaultPoller::new(script, at, errno);
+    let parts: Parts<FaultPoller> = expect_ok(rt, silent_parts(*rt, alloc, poller));
     with_manager(parts, JoinRunAndLeave { rt })
 }
 

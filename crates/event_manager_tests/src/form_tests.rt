@@ -4,7 +4,7 @@ use crate::expecting::{expect_ok, expect_same};
 use crate::forms::{Boxable, Counting, Group, Leaving, Numbered, Renewing};
 use crate::parts::{push_words, script_of_words};
 use crate::runs::run_alone;
-use event_manager::{BoxedSubscriber, Events, MutEventSubscriber, PlainPoller, StepSubscriber};
+use event_manager::{BoxedSubscriber, Events, MutEventSubscriber, StepSubscriber};
 use fixtures::parts::silent_parts;
 use std::alloc::Global;
 use std::process::Abort;
@@ -29,7 +29,7 @@ where
     let word = (payload as u64) << 32 | FD;
     let mut script = expect_ok(&rt, script_of_words(alloc, first, &[word]));
     expect_ok(&rt, push_words(&mut script, alloc, EventSet::IN, &[word]));
-    let parts = expect_ok(&rt, silent_parts(rt, alloc, PlainPoller(script)));
+    let parts = expect_ok(&rt, silent_parts(rt, alloc, script));
     let runs = [(None, Ok(1)), (None, Ok(1))];
     expect_ok(&rt, run_alone(&rt, parts, subscriber, &runs))
 }

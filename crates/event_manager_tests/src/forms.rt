@@ -40,13 +40,13 @@ pub struct Leaving {
 }
 
 impl MutEventSubscriber for Leaving {
-    ghost use Rattle.std.specs.Prelude.{◌≡◌, [], ◌∷◌, ◌==◌, MatchBool};
-    ghost use Rattle.event_manager.specs.Exchange.{Answer};
+    ghost use Rattle.std.specs.Prelude.{◌≡◌, [], ◌==◌, MatchBool};
+    ghost use Rattle.event_manager.specs.Exchange.{Asks};
     ghost use Rattle.event_manager.specs.Request.TheVariants.{Add, Remove};
 
-    ghost begins = { λ v exchanges w. (answer : Answer) × (exchanges ≡ (Add v.own, answer) ∷ []) };
+    ghost begins = { λ v exchanges w. Asks (Add v.own) exchanges };
 
-    ghost serves = { λ v event exchanges w. MatchBool (event.set == 16) ((answer : Answer) × (exchanges ≡ (Remove event, answer) ∷ [])) (exchanges ≡ []) };
+    ghost serves = { λ v event exchanges w. MatchBool (event.set == 16) (Asks (Remove event) exchanges) (exchanges ≡ []) };
 
     fn process<P: EventPoller>(&mut self, events: Events, ops: &mut EventOps<P>) {
         self.seen = self.seen.saturating_add(1);
@@ -68,13 +68,13 @@ pub struct Numbered {
 }
 
 impl MutEventSubscriber for Numbered {
-    ghost use Rattle.std.specs.Prelude.{◌≡◌, [], ◌∷◌, ◌==◌, MatchBool};
-    ghost use Rattle.event_manager.specs.Exchange.{Answer};
+    ghost use Rattle.std.specs.Prelude.{◌≡◌, [], ◌==◌, MatchBool};
+    ghost use Rattle.event_manager.specs.Exchange.{Asks};
     ghost use Rattle.event_manager.specs.Request.TheVariants.{Add, Remove};
 
-    ghost begins = { λ v exchanges w. (answer : Answer) × (exchanges ≡ (Add v.own, answer) ∷ []) };
+    ghost begins = { λ v exchanges w. Asks (Add v.own) exchanges };
 
-    ghost serves = { λ v event exchanges w. MatchBool (event.payload == 0) ((answer : Answer) × (exchanges ≡ (Remove event, answer) ∷ [])) (exchanges ≡ []) };
+    ghost serves = { λ v event exchanges w. MatchBool (event.payload == 0) (Asks (Remove event) exchanges) (exchanges ≡ []) };
 
     fn process<P: EventPoller>(&mut self, events: Events, ops: &mut EventOps<P>) {
         self.seen = self.seen.saturating_add(1);
@@ -97,10 +97,10 @@ pub struct Renewing {
 
 impl MutEventSubscriber for Renewing {
     ghost use Rattle.std.specs.Prelude.{◌≡◌, [], ◌∷◌};
-    ghost use Rattle.event_manager.specs.Exchange.{Answer};
+    ghost use Rattle.event_manager.specs.Exchange.{Answer, Asks};
     ghost use Rattle.event_manager.specs.Request.TheVariants.{Add, Remove};
 
-    ghost begins = { λ v exchanges w. (answer : Answer) × (exchanges ≡ (Add v.own, answer) ∷ []) };
+    ghost begins = { λ v exchanges w. Asks (Add v.own) exchanges };
 
     ghost serves = { λ v event exchanges w. (first second : Answer) × (exchanges ≡ (Remove v.own, first) ∷ (Add v.own, second) ∷ []) };
 

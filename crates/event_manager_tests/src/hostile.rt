@@ -3,9 +3,7 @@
 use crate::expecting::{expect_ok, expect_same};
 use crate::parts::{push_words, script_of};
 use crate::runs::run_alone;
-use event_manager::{
-    Error, EventOps, EventPoller, Events, MutEventSubscriber, PlainPoller, Request,
-};
+use event_manager::{Error, EventOps, EventPoller, Events, MutEventSubscriber, Request};
 use fixtures::parts::silent_parts;
 use std::alloc::{AllocError, Global};
 use vmm_sys::epoll::{ControlOperation, EpollEvent, EventSet, RawFd};
@@ -23,11 +21,11 @@ impl EventPoller for Rising {
 
     ghost waits = { λ before ms capacity answer after. Unit {0} };
 
-    fn control(&mut self, _op: ControlOperation, _fd: u32, _event: Events) -> Result<(), Errno> {
+    fn ctl(&mut self, _op: ControlOperation, _fd: u32, _event: Events) -> Result<(), Errno> {
         Ok(())
     }
 
-    fn wait_into(&mut self, _ms: i32, buffer: &mut [EpollEvent]) -> Result<usize, Errno> {
+    fn wait(&mut self, _ms: i32, buffer: &mut [EpollEvent]) -> Result<usize, Errno> {
         let count = self.next.min(buffer.len());
         buffer[..count].fill(EpollEvent::new(EventSet::IN, 3));
         self.next = self.next.saturating_add(1);
@@ -75,7 +73,7 @@ fn each_wait_reports_another_number(rt: HostRuntime) {
 #[test]
 fn a_descriptor_left_at_its_first_of_256_events_has_no_other(rt: HostRuntime) {
     let script = expect_ok(&rt, script_of(rt.alloc(), &[3; 256]));
-    let parts = expect_ok(&rt, silent_parts(rt, rt.alloc(), PlainPoller(script)));
+    let parts = expect_ok(&rt, silent_parts(rt, rt.alloc(), script));
     let owner = OwnerOf3 {
         leaves_it: true,
         count: 0,
@@ -152,7 +150,7 @@ fn a_thousand_requests_at_each_event_half_of_them_refused(rt: HostRuntime) {
     // The first event of the second report cancels those behind it; so does 509 in the last, but for 3.
     let reports: [&[u64]; 4] = [&[3], &[10, 11, 12, 509, 10], &[3], &[509, 11, 3]];
     let script = expect_ok(&rt, reports_of(alloc, &reports));
-    let parts = expect_ok(&rt, silent_parts(rt, alloc, PlainPoller(script)));
+    let parts = expect_ok(&rt, silent_parts(rt, alloc, script));
     let runs = [1, 5, 1, 3].map(|count| (None, Ok(count)));
     let asking = expect_ok(&rt, make_asking(alloc));
     let left = expect_ok(&rt, run_alone(&rt, parts, asking, &runs));

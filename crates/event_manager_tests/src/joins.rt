@@ -4,8 +4,7 @@ use crate::counting::{Counting, counting_on};
 use crate::expecting::{expect, expect_ok, expect_same};
 use crate::parts::script_of;
 use event_manager::{
-    Error, EventManager, EventPoller, Naming, NoJob, PlainPoller, Result, SubscriberId,
-    SubscriberOps,
+    Error, EventManager, EventPoller, Naming, NoJob, Result, SubscriberId, SubscriberOps,
 };
 use fixtures::making::{WithManager, no_memory, with_manager};
 use fixtures::parts::silent_parts;
@@ -80,7 +79,7 @@ impl<R: Abort> WithManager for Comings<'_, R> {
 #[test]
 fn five_thousand_joins_and_leaves(rt: HostRuntime) {
     let script = expect_ok(&rt, script_of(rt.alloc(), &[]));
-    let parts = expect_ok(&rt, silent_parts(rt, rt.alloc(), PlainPoller(script)));
+    let parts = expect_ok(&rt, silent_parts(rt, rt.alloc(), script));
     let body = Comings {
         rt: &rt,
         alloc: rt.alloc(),
@@ -132,7 +131,7 @@ fn counts_with<R: Wait + Clock + Abort + Copy + Send + Drop>(
     newcomer: Counting,
 ) -> (u64, u64, u64) {
     let script = expect_ok(&rt, script_of(alloc, &[4, 6, 3]));
-    let parts = expect_ok(&rt, silent_parts(rt, alloc, PlainPoller(script)));
+    let parts = expect_ok(&rt, silent_parts(rt, alloc, script));
     let body = Replacing { rt: &rt, newcomer };
     expect_ok(&rt, with_manager(parts, body))
 }

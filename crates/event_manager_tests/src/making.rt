@@ -4,7 +4,7 @@ use crate::counting::{Counting, counting_on};
 use crate::expecting::{expect, expect_ok, expect_same};
 use crate::parts::{Recorder, script_of};
 use crate::runs::{run_alone, run_over};
-use event_manager::{Error, MAX_READY_EVENTS_CAPACITY, PlainPoller};
+use event_manager::{Error, EventLoop, MAX_READY_EVENTS_CAPACITY};
 use fixtures::parts::{Parts, silent_parts};
 use std::process::Abort;
 use std::sync::Wait;
@@ -32,7 +32,7 @@ fn capacity_above_the_limit_asks_the_poller_for_nothing(rt: HostRuntime) {
 #[test]
 fn capacity_0_is_left_to_the_wait(rt: HostRuntime) {
     let script = expect_ok(&rt, script_of(rt.alloc(), &[3]));
-    let mut parts = expect_ok(&rt, silent_parts(rt, rt.alloc(), PlainPoller(script)));
+    let mut parts = expect_ok(&rt, silent_parts(rt, rt.alloc(), script));
     parts.capacity = Some(0);
     let refused = Err(Error::Epoll(Errno::EINVAL));
     let left = expect_ok(
@@ -40,4 +40,13 @@ fn capacity_0_is_left_to_the_wait(rt: HostRuntime) {
         run_alone(&rt, parts, counting_on(3), &[(None, refused)]),
     );
     expect_same(&rt, &left.count, &0);
+}
+
+#[test]
+fn a_loop_without_jobs_has_its_capacity(rt: HostRuntime) {
+    let script = expect_ok(&rt, script_of(rt.alloc(), &[3, 4]));
+    let made = EventLoop::<Counting, _>::with_capacity(rt.alloc(), script, 1);
+    let mut event_loop = expect_ok(&rt, made);
+    expect_same(&rt, &event_loop.run(), &Ok(1));
+    expect_same(&rt, &event_loop.run(), &Ok(1));
 }

@@ -18,13 +18,12 @@ struct Growing {
 }
 
 impl MutEventSubscriber for Growing {
-    ghost use Rattle.std.specs.Prelude.{◌≡◌, [], ◌∷◌};
-    ghost use Rattle.event_manager.specs.Exchange.{Answer};
+    ghost use Rattle.event_manager.specs.Exchange.{Asks};
     ghost use Rattle.event_manager.specs.Request.TheVariants.{Add};
 
-    ghost begins = { λ v exchanges w. (answer : Answer) × (exchanges ≡ (Add v.first, answer) ∷ []) };
+    ghost begins = { λ v exchanges w. Asks (Add v.first) exchanges };
 
-    ghost serves = { λ v event exchanges w. (answer : Answer) × (exchanges ≡ (Add v.second, answer) ∷ []) };
+    ghost serves = { λ v event exchanges w. Asks (Add v.second) exchanges };
 
     fn process<P: EventPoller>(&mut self, events: Events, ops: &mut EventOps<P>) {
         self.log.note(1, events);

@@ -3,7 +3,7 @@
 use crate::expecting::{expect, expect_ok, expect_same};
 use crate::parts::{counter_at, push_words};
 use crate::runs::run_alone;
-use event_manager::{EventOps, EventPoller, Events, MutEventSubscriber, PlainPoller, Request};
+use event_manager::{EventOps, EventPoller, Events, MutEventSubscriber, Request};
 use fixtures::parts::Parts;
 use std::alloc::{AllocError, Global};
 use std::sync::Wait;
@@ -88,10 +88,10 @@ fn parts_beside<R: Wait + Clock + Copy + Send + Drop>(
     rt: R,
     alloc: Global,
     script: ScriptPoller,
-) -> Result<Parts<PlainPoller<ScriptPoller>>, Errno> {
+) -> Result<Parts<ScriptPoller>, Errno> {
     let epoll = Epoll::new(rt, alloc)?;
     let event_fd = counter_at(&epoll, 201, 0, &rt)?;
-    Ok(Parts::new(alloc, PlainPoller(script), event_fd))
+    Ok(Parts::new(alloc, script, event_fd))
 }
 
 #[test]

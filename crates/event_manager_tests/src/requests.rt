@@ -8,8 +8,8 @@ use crate::expecting::{expect, expect_ok, expect_same};
 use crate::parts::{Control, Recorder};
 use crate::runs::Runs;
 use event_manager::{
-    Error, EventOps, EventPoller, Events, MutEventSubscriber, PlainPoller, Request, Result,
-    SubscriberId, SubscriberOps,
+    Error, EventOps, EventPoller, Events, MutEventSubscriber, Request, Result, SubscriberId,
+    SubscriberOps,
 };
 use fixtures::making::with_manager;
 use fixtures::parts::{Parts, silent_parts};
@@ -147,6 +147,6 @@ fn a_request_is_answered_by_the_table(rt: HostRuntime) {
         &rt,
         script.push_refusal(ControlOperation::Delete, 4, Errno(22)),
     );
-    let parts = expect_ok(&rt, silent_parts(rt, rt.alloc(), PlainPoller(script)));
+    let parts = expect_ok(&rt, silent_parts(rt, rt.alloc(), script));
     request_and_leave(&rt, parts, &requests_and_answers());
 }

@@ -4,7 +4,7 @@ use crate::counting::counting_on;
 use crate::expecting::{expect, expect_ok, expect_same};
 use crate::parts::{Control, Recorder, script_of};
 use crate::runs::{Runs, run_alone, run_over};
-use event_manager::{BoxedSubscriber, Events, PlainPoller, Request, StepInput, StepSubscriber};
+use event_manager::{BoxedSubscriber, Events, Request, StepInput, StepSubscriber};
 use fixtures::making::with_manager;
 use fixtures::parts::silent_parts;
 use std::alloc::{AllocError, Global};
@@ -93,7 +93,7 @@ fn three_hundred_descriptors_of_one_subscriber(rt: HostRuntime) {
 fn three_hundred_requests_at_one_event(rt: HostRuntime) {
     let agreed = expect_ok(&rt, Arc::new(rt.alloc(), AtomicU64::new(0)));
     let script = expect_ok(&rt, script_of(rt.alloc(), &[400]));
-    let parts = expect_ok(&rt, silent_parts(rt, rt.alloc(), PlainPoller(script)));
+    let parts = expect_ok(&rt, silent_parts(rt, rt.alloc(), script));
     let own = Events::new_raw(400, EventSet::IN);
     let grabbing = expect_ok(&rt, make_grabbing(rt.alloc(), false, &agreed));
     let subscribers = expect_ok(&rt, vec![in rt.alloc(); grabbing]);
@@ -119,7 +119,7 @@ fn three_hundred_subscribers(rt: HostRuntime) {
         expect_ok(&rt, subscribers.push(counting_on(fd)));
     }
     let script = expect_ok(&rt, script_of(rt.alloc(), &fds));
-    let parts = expect_ok(&rt, silent_parts(rt, rt.alloc(), PlainPoller(script)));
+    let parts = expect_ok(&rt, silent_parts(rt, rt.alloc(), script));
     // The rest of the report is more than the capacity has room for.
     let left = expect_ok(
         &rt,
@@ -135,7 +135,7 @@ fn three_hundred_subscribers(rt: HostRuntime) {
 fn five_thousand_events_of_one_batch(rt: HostRuntime) {
     let fds = expect_ok(&rt, vec![in rt.alloc(); 3; 5000]);
     let script = expect_ok(&rt, script_of(rt.alloc(), &fds));
-    let mut parts = expect_ok(&rt, silent_parts(rt, rt.alloc(), PlainPoller(script)));
+    let mut parts = expect_ok(&rt, silent_parts(rt, rt.alloc(), script));
     parts.capacity = Some(100000);
     let left = expect_ok(
         &rt,

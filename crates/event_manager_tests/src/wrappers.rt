@@ -5,7 +5,7 @@ use crate::expecting::{expect, expect_ok, expect_same};
 use crate::log::{Log, got, make_watcher};
 use crate::parts::script_of;
 use crate::runs::run_over;
-use event_manager::{Either, Events, PlainPoller};
+use event_manager::{Either, Events};
 use fixtures::parts::silent_parts;
 use std::rc::Rc;
 use std::sync::Arc;
@@ -48,7 +48,7 @@ fn two_kinds_side_by_side(rt: HostRuntime) {
         vec![in rt.alloc(); Either::First(counting_on(3)), Either::Second(watcher)],
     );
     let script = expect_ok(&rt, script_of(rt.alloc(), &[4, 3, 4]));
-    let parts = expect_ok(&rt, silent_parts(rt, rt.alloc(), PlainPoller(script)));
+    let parts = expect_ok(&rt, silent_parts(rt, rt.alloc(), script));
     let left = expect_ok(&rt, run_over(&rt, parts, both, &[(None, Ok(3))]));
     expect(
         &rt,

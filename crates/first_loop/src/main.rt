@@ -2,88 +2,44 @@
 #![tactic(auto)]
 
 use anyhow::Result;
-use event_manager::{
-    EventManager, EventOps, EventPoller, EventSet, Events, Ledgers, MutEventSubscriber, Naming,
-    NoJob, PlainPoller, SubscriberOps, WithLedgers, with_ledgers,
+use event_loop::{
+    EventLoop, EventOps, EventPoller, EventSet, Events, MutEventSubscriber, SubscriberOps,
 };
-use std::alloc::Global;
-use std::sync::Wait;
-use std::time::Clock;
 use vmm_sys::epoll::Epoll;
 use vmm_sys::eventfd::EventFd;
 
-/// Asks for its bell when it joins, keeps the answer, and counts the events that it is given.
+/// How often the bell was heard, or what its addition was refused with.
 #[derive(Drop)]
 struct Doorman {
     bell: Events,
-    asked: event_manager::Result<()>,
-    heard: u64,
+    heard: event_loop::Result<u64>,
 }
 
 impl MutEventSubscriber for Doorman {
-    ghost use Rattle.std.specs.Prelude.{◌≡◌, [], ◌∷◌};
-    ghost use Rattle.event_manager.specs.Exchange.{Answer};
-    ghost use Rattle.event_manager.specs.Request.TheVariants.{Add};
+    ghost use Rattle.event_loop.specs.Exchange.{Asks, AsksNothing};
+    ghost use Rattle.event_loop.specs.declared.events.Request.TheVariants.{Add};
 
-    ghost begins = { λ v exchanges w. (answer : Answer) × (exchanges ≡ (Add v.bell, answer) ∷ []) };
+    ghost begins = { λ v exchanges w. Asks (Add v.bell) exchanges };
 
-    ghost serves = { λ v event exchanges w. exchanges ≡ [] };
+    ghost serves = { λ v event exchanges w. AsksNothing exchanges };
 
     fn process<P: EventPoller>(&mut self, _events: Events, _ops: &mut EventOps<P>) {
-        self.heard = self.heard.saturating_add(1);
+        self.heard = self.heard.map(|times| times.saturating_add(1));
     }
 
     fn init<P: EventPoller>(&mut self, ops: &mut EventOps<P>) {
-        self.asked = ops.add(self.bell);
-    }
-}
-
-/// What two runs of the loop are made of.
-#[derive(Drop)]
-struct TwoRuns<'a, R> {
-    rt: &'a R,
-    alloc: Global,
-    epoll: Epoll<R>,
-    endpoint: EventFd,
-    bell: Events,
-}
-
-impl<R: Wait + Clock + Clone + Send + Drop> WithLedgers for TwoRuns<'_, R> {
-    type Output = event_manager::Result<u64>;
-
-    fn run<N: Naming>(self, ledgers: Ledgers<N>) -> Self::Output {
-        let (alloc, poller) = (self.alloc, PlainPoller(self.epoll));
-        let mut manager = EventManager::<_, NoJob, N, _>::new(
-            alloc,
-            poller,
-            self.endpoint,
-            ledgers,
-        )?;
-        let id = manager.add_subscriber(Doorman {
-            bell: self.bell,
-            asked: Ok(()),
-            heard: 0,
-        })?;
-        manager.subscriber_mut(id)?.asked?;
-        manager.run(self.rt)?;
-        manager.run(self.rt)?;
-        Ok(manager.remove_subscriber(id)?.heard)
+        self.heard = ops.add(self.bell).map(|()| 0);
     }
 }
 
 fn main(rt: HostRuntime) -> Result<()> {
-    let alloc = rt.alloc();
-    let epoll = Epoll::new(rt, alloc)?;
-    let endpoint = EventFd::new(&epoll, 0, &rt)?;
+    let epoll = Epoll::new(rt, rt.alloc())?;
     let ringing = EventFd::new(&epoll, 1, &rt)?;
     let bell = Events::new(&ringing, EventSet::IN);
-    let heard = with_ledgers(TwoRuns {
-        rt: &rt,
-        alloc,
-        epoll,
-        endpoint,
-        bell,
-    })?;
-    println!(rt; "the bell was heard {heard} times")?;
-    Ok(())
+    let mut event_loop = EventLoop::new(rt.alloc(), epoll)?;
+    let id = event_loop.add_subscriber(Doorman { bell, heard: Ok(0) })?;
+    event_loop.run()?;
+    event_loop.run()?;
+    let heard = event_loop.remove_subscriber(id)?.heard?;
+    Ok(println!(rt; "the bell was heard {heard} times")?)
 }

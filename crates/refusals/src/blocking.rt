@@ -10,7 +10,7 @@ use crate::fault::{Fault, expect, expect_unchanged, named};
 use crate::host::Host;
 use crate::jobs::Sender;
 use crate::making::{Manager, OnTable, copy_counter, open_table};
-use event_manager::{Ledgers, Naming, PlainPoller};
+use event_manager::{Ledgers, Naming};
 use std::alloc::Global;
 use std::marker::Brand;
 use std::sync::atomic::{AtomicBool, Ordering};
@@ -31,7 +31,7 @@ const MAX_WAITS: u32 = 100;
 const CALLS: u64 = 3;
 
 /// A loop over a table, which is moved to another thread.
-type Loop<N, R> = Manager<N, PlainPoller<Epoll<R>>>;
+type Loop<N, R> = Manager<N, Epoll<R>>;
 
 /// Runs the loop until the flag is set, and closes it; answers how many tickets were issued and how many jobs taken.
 fn serve<N: Naming, R: Wait + Clock + Copy + Send + Drop>(
@@ -114,7 +114,7 @@ fn make<N: Naming, R: Host>(
     on_table: &OnTable<R>,
     ledgers: Ledgers<N>,
 ) -> Result<Loop<N, R>, Fault> {
-    let poller = PlainPoller(copy_epoll(&on_table.epoll)?);
+    let poller = copy_epoll(&on_table.epoll)?;
     let endpoint = copy_counter(&on_table.endpoint)?;
     named(
         CallName::EventManagerNew,

@@ -8,9 +8,7 @@ use crate::fault::{Fault, expect_unchanged, named};
 use crate::host::Host;
 use crate::tables::push_report;
 use crate::watcher::Watcher;
-use event_manager::{
-    EventManager, EventPoller, Ledgers, Naming, PlainPoller, WithLedgers, with_ledgers,
-};
+use event_manager::{EventManager, EventPoller, Ledgers, Naming, WithLedgers, with_ledgers};
 use std::alloc::Global;
 use vmm_sys::epoll::{Epoll, EpollEvent};
 use vmm_sys::eventfd::EventFd;
@@ -93,7 +91,7 @@ fn make_over_table<R: Host, B: Body>(
 ) -> Result<event_manager::Result<Result<(), Fault>>, Fault> {
     Ok(with_ledgers(Making {
         alloc,
-        poller: PlainPoller(copy_epoll(&on_table.epoll)?),
+        poller: copy_epoll(&on_table.epoll)?,
         endpoint: copy_counter(&on_table.endpoint)?,
         capacity,
         body,
@@ -138,7 +136,7 @@ fn make_over_script<B: Body>(
 ) -> Result<event_manager::Result<Result<(), Fault>>, Fault> {
     Ok(with_ledgers(Making {
         alloc,
-        poller: PlainPoller(script_of(entries, reports, alloc)?),
+        poller: script_of(entries, reports, alloc)?,
         endpoint: copy_counter(endpoint)?,
         capacity: None,
         body,

@@ -7,7 +7,7 @@ use crate::parts::{Pair, Parts};
 use crate::progress::Progress;
 use crate::senders::{Sender, call_all, fire_all, write_all};
 use crate::served::{Loop, Served, serve};
-use event_manager::{Ledgers, Naming, PlainPoller, SubscriberOps};
+use event_manager::{Ledgers, Naming, SubscriberOps};
 use std::alloc::Global;
 use std::marker::Brand;
 use std::sync::atomic::{AtomicBool, Ordering};
@@ -150,7 +150,7 @@ fn load_manager<N: Naming + Send + Sync, R: Host>(
     for _ in 0..DEVICES {
         parts.pairs.push(Pair::new(&epoll, &rt)?)?;
     }
-    let mut manager = Loop::<N, R>::new(alloc, PlainPoller(epoll), endpoint, ledgers)?;
+    let mut manager = Loop::<N, R>::new(alloc, epoll, endpoint, ledgers)?;
     for pair in &parts.pairs {
         parts.ids.push(manager.add_subscriber(pair.device(&rt)?)?)?;
     }

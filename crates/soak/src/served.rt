@@ -3,14 +3,14 @@
 use crate::device::Device;
 use crate::fault::{Fault, expect};
 use crate::work::Work;
-use event_manager::{EventManager, Naming, PlainPoller, SubscriberId, SubscriberOps};
+use event_manager::{EventManager, Naming, SubscriberId, SubscriberOps};
 use std::sync::Wait;
 use std::sync::atomic::{AtomicBool, Ordering};
 use std::time::Clock;
 use vmm_sys::epoll::Epoll;
 
 /// The event manager under load, over the in-process table.
-pub type Loop<N, R> = EventManager<Device<R>, Work<R>, N, PlainPoller<Epoll<R>>>;
+pub type Loop<N, R> = EventManager<Device<R>, Work<R>, N, Epoll<R>>;
 
 /// How often the loop waits at most while it is loaded, each time without a limit, which would hide a lost wake-up.
 const MAX_WAITS: u32 = 100_000_000;

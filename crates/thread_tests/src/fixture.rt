@@ -4,8 +4,7 @@ ghost use Rattle.std.specs.Prelude.{◌≡◌};
 
 use crate::expecting::expect_ok;
 use event_manager::{
-    EventManager, EventPoller, Job, Ledgers, MutEventSubscriber, Naming, PlainPoller, Registry,
-    RemoteEndpoint,
+    EventManager, EventPoller, Job, Ledgers, MutEventSubscriber, Naming, Registry, RemoteEndpoint,
 };
 use fixtures::making;
 use fixtures::parts::{Idle, on_table};
@@ -76,7 +75,7 @@ impl Task {
     }
 }
 
-pub type Loop<N, R> = EventManager<Idle, Task, N, PlainPoller<Epoll<R>>>;
+pub type Loop<N, R> = EventManager<Idle, Task, N, Epoll<R>>;
 
 pub type Sender<N> = RemoteEndpoint<Idle, Task, N>;
 
@@ -87,7 +86,7 @@ pub fn make<N: Naming, R: Wait + Clock + Abort + Copy + Send + Drop>(
     ledgers: Ledgers<N>,
 ) -> (Loop<N, R>, Epoll<R>) {
     let parts = expect_ok(&rt, on_table(rt, alloc, 0));
-    let epoll = expect_ok(&rt, parts.poller.0.try_clone());
+    let epoll = expect_ok(&rt, parts.poller.try_clone());
     let manager = expect_ok(&rt, making::make::<Idle, Task, N, _>(parts, ledgers));
     (manager, epoll)
 }

@@ -6,8 +6,7 @@ pub mod stop;
 pub mod wheel;
 
 use event_manager::{
-    Error, EventManager, Ledgers, Naming, PlainPoller, Result, SubscriberOps, WithLedgers,
-    with_ledgers,
+    Error, EventManager, Ledgers, Naming, Result, SubscriberOps, WithLedgers, with_ledgers,
 };
 use std::process::ExitCode;
 use std::sync::Wait;
@@ -50,10 +49,9 @@ impl<R: Wait + Clock + Print + AllocGlobal + Clone + Send + Drop> WithLedgers fo
             endpoint,
             wheel,
         } = self;
-        let poller = PlainPoller(epoll);
         let mut manager = EventManager::<Wheel<R>, Stop, N, _>::new(
             rt.alloc(),
-            poller,
+            epoll,
             endpoint,
             ledgers,
         )?;

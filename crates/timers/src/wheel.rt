@@ -117,14 +117,14 @@ impl<R: Wait + Print> Wheel<R> {
 /// `init` asks for nothing. The event of a one-shot timer asks for its own removal, so it is disarmed; that of any other
 /// number asks for nothing, so a periodic timer stays armed. Timers and `stopped` stay as they are.
 impl<R: Wait + Print> MutEventSubscriber for Wheel<R> {
-    ghost use Rattle.std.specs.Prelude.{◌≡◌, [], ◌∷◌, MatchBool};
-    ghost use Rattle.event_manager.specs.Exchange.{Answer};
+    ghost use Rattle.std.specs.Prelude.{◌≡◌, [], MatchBool};
+    ghost use Rattle.event_manager.specs.Exchange.{Asks};
     ghost use Rattle.event_manager.specs.Request.TheVariants.{Remove};
     ghost use Rattle.timers.specs.OneShot.{is_one_shot};
 
     ghost begins = { λ v exchanges w. (exchanges ≡ []) × (w ≡ v) };
 
-    ghost serves = { λ v event exchanges w. MatchBool (is_one_shot v.timers.items event.payload) ((answer : Answer) × (exchanges ≡ (Remove event, answer) ∷ [])) (exchanges ≡ []) × (w ≡ v) };
+    ghost serves = { λ v event exchanges w. MatchBool (is_one_shot v.timers.items event.payload) (Asks (Remove event) exchanges) (exchanges ≡ []) × (w ≡ v) };
 
     fn process<P: EventPoller>(&mut self, events: Events, ops: &mut EventOps<P>) {
         self.deliver(events.data());

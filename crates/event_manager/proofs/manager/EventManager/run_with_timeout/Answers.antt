@@ -1,7 +1,8 @@
 use Rattle.std.proofs.Common.{rules, ◌≡◌, Ok, Err}
 use Rattle.std.proofs.lemmas.Int.{to_z-of_z}
 use Rattle.event_loop.specs.Subscribers.{loop_state}
-use Rattle.event_manager.proofs.JobLemmas.{without_jobs, with_jobs}
+use Rattle.event_loop.proofs.WithoutJobs.{without_jobs}
+use Rattle.event_manager.proofs.JobLemmas.{with_jobs}
 use Rattle.event_manager.proofs.manager.EventManager.run_with_timeout.Goals as goal
 
 pub returns-then-batch : goal.returns-then-batch
