@@ -2,48 +2,49 @@
 
 use crate::devices::Device;
 use crate::fault::Fault;
+use crate::machine::Descriptors;
 use crate::statistics::ReadStatistics;
-use event_manager::{EventSet, Naming, RemoteEndpoint, SubscriberId};
+use event_manager::{EventSet, Naming, RemoteEndpoint, Sender, SubscriberId};
 use std::sync::Wait;
 use std::time::Clock;
-use vmm_sys::eventfd::EventFd;
-use vmm_sys::line::Line;
 
 /// What the guest has in its hands.
 #[derive(Drop)]
 pub struct Guest {
-    /// The counter of the first queue.
-    pub first: EventFd,
-    /// The counter of the second queue.
-    pub second: EventFd,
-    /// The other end of the console's line.
-    pub line: Line,
+    /// The other ends of the devices' descriptors.
+    pub descriptors: Descriptors,
     /// The id of the queue device.
     pub queue: SubscriberId,
     /// The id of the console.
     pub console: SubscriberId,
 }
 
-impl Guest {
+impl<R: Wait + Clock + Print + Drop> Sender<Device<R>, ReadStatistics, Result<(), Fault>, R>
+    for Guest {
     /// Does one thing after another to the devices, and prints after each what the device has counted.
     ///
     /// No contract says that the reply counts what was done before. It does, since the job's event is reported with the
     /// device's or after it, and the jobs of a report are run once all of it is handed out.
-    pub fn run<N: Naming, R: Wait + Clock + Print + Drop>(
-        &self,
+    fn send<N: Naming>(
+        self,
         endpoint: &RemoteEndpoint<Device<R>, ReadStatistics, N>,
         rt: &R,
     ) -> Result<(), Fault> {
+        let Descriptors {
+            first,
+            second,
+            line,
+        } = &self.descriptors;
         let statistics = |device| endpoint.call_blocking(ReadStatistics { device }, rt)?;
-        self.first.write(1, rt)?;
+        first.write(1, rt)?;
         println!(rt; "kick of the first queue: {}", statistics(self.queue)?)?;
-        self.second.write(2, rt)?;
+        second.write(2, rt)?;
         println!(rt; "kicks of the second queue: {}", statistics(self.queue)?)?;
-        self.line.set(EventSet::IN, rt)?;
+        line.set(EventSet::IN, rt)?;
         println!(rt; "input: {}", statistics(self.console)?)?;
-        self.line.set(EventSet::HANG_UP, rt)?;
+        line.set(EventSet::HANG_UP, rt)?;
         println!(rt; "hang-up: {}", statistics(self.console)?)?;
-        self.line.set(EventSet::IN, rt)?;
+        line.set(EventSet::IN, rt)?;
         println!(rt; "late input: {}", statistics(self.console)?)?;
         Ok(())
     }

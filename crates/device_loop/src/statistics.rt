@@ -38,15 +38,13 @@ pub struct ReadStatistics {
 impl<R: Wait + Drop> Job<Device<R>> for ReadStatistics {
     type Reply = Result<Statistics>;
 
-    ghost use Rattle.std.specs.Prelude.{◌≡◌, [], ◌∷◌, ◌⊎◌, Err};
-    ghost use Rattle.event_manager.specs.Registry.{Step, Replaced, NotReplaced};
+    ghost use Rattle.std.specs.Prelude.{◌≡◌, [], ◌⊎◌, Err};
     ghost use Rattle.event_manager.specs.Error.TheVariants.{InvalidId};
     ghost use Rattle.device_loop.specs.declared.devices.Device.{Device};
     ghost use Rattle.device_loop.specs.Devices.{statistics_of};
 
-    // The device is left as it was, and the reply is what it says; or no device has the id.
-    ghost may = { λ self steps reply. ((device : Device R) × (steps ≡ Replaced self.device device device ∷ []) × (reply ≡ statistics_of device))
-        ⊎ ((steps ≡ NotReplaced self.device ∷ []) × (reply ≡ Err InvalidId)) };
+    // It changes nothing, and replies what a device says, or that there is none.
+    ghost may = { λ self steps reply. (steps ≡ []) × (((device : Device R) × (reply ≡ statistics_of device)) ⊎ (reply ≡ Err InvalidId)) };
 
     ghost replies = { λ reply. Unit {0} };
 
@@ -55,7 +53,9 @@ impl<R: Wait + Drop> Job<Device<R>> for ReadStatistics {
         registry: &mut Registry<Device<R>, P>,
         _rt: &W,
     ) -> Result<Statistics> {
-        let device = registry.subscriber_mut(self.device)?;
-        device.statistics()
+        match registry.subscriber(self.device) {
+            Ok(device) => device.statistics(),
+            Err(error) => Err(error),
+        }
     }
 }

@@ -12,6 +12,7 @@ pub mod endpoint;
 pub mod jobs;
 pub mod laws;
 pub mod manager;
+mod senders;
 
 pub use calls::{Call, Reply};
 pub use endpoint::RemoteEndpoint;
@@ -28,3 +29,4 @@ pub use job_tickets::naming::Naming;
 pub use job_tickets::tickets::Ticket;
 pub use jobs::{Job, NoJob};
 pub use manager::EventManager;
+pub use senders::{Ended, LoopWithSenders, Sender, Senders, with_senders};

@@ -1,0 +1,298 @@
+//! A loop, and those who send jobs to it from threads of their own.
+
+ghost use Rattle.std.specs.Prelude.{◌≡◌};
+ghost use Rattle.std.specs.Thread.{IsSend, IsSync};
+
+use crate::endpoint::RemoteEndpoint;
+use crate::endpoint::closed::Closed;
+use crate::jobs::Job;
+use crate::manager::EventManager;
+use event_loop::{Error, EventPoller, MutEventSubscriber, Result};
+use job_tickets::ledgers::Ledgers;
+use job_tickets::naming::Naming;
+use std::alloc::Global;
+use std::marker::Brand;
+use std::sync::atomic::{AtomicUsize, Ordering};
+use std::sync::ledger::Blank;
+use std::sync::{Mutex, Wait};
+use std::thread;
+use std::thread::Threads;
+use std::time::Clock;
+use vmm_sys::eventfd::EventFd;
+
+/// Who sends jobs of type `J` from a thread of its own, and gives a `T` in the end.
+pub trait Sender<S: MutEventSubscriber, J: Job<S>, T, R: Wait + Clock> {
+    /// Sends what there is to send, by an endpoint of the loop beside it.
+    fn send<N: Naming>(self, endpoint: &RemoteEndpoint<S, J, N>, rt: &R) -> T;
+}
+
+/// The loop's side of [`with_senders`]: its subscribers and its senders, of type `Q`, and how long it runs.
+pub trait LoopWithSenders<S: MutEventSubscriber, J: Job<S>, Q, R: Wait + Clock> {
+    /// Lets subscribers join, and enters the senders: each gets a thread once this is over.
+    fn begin<N: Naming, P: EventPoller>(
+        &mut self,
+        manager: &mut EventManager<S, J, N, P>,
+        senders: &mut Vec<Q>,
+        rt: &R,
+    ) -> Result<()>;
+
+    /// Runs the loop beside the senders, on the thread that called `with_senders`. As it stands here: until all have ended.
+    fn run<N: Naming, P: EventPoller>(
+        &mut self,
+        manager: &mut EventManager<S, J, N, P>,
+        senders: &Senders,
+        rt: &R,
+    ) -> Result<()> {
+        senders.run_until_ended(manager, rt)
+    }
+}
+
+/// The senders beside a loop, as the loop sees them.
+#[derive(Drop)]
+pub struct Senders {
+    at_work: AtomicUsize,
+}
+
+impl Senders {
+    /// Whether all have ended. The last to end ends the loop's wait.
+    pub fn have_ended(&self) -> bool {
+        self.at_work.load(Ordering::SeqCst) == 0
+    }
+
+    /// Runs the manager until all have ended, or until a run is refused.
+    pub fn run_until_ended<S, J, N, P, R>(
+        &self,
+        manager: &mut EventManager<S, J, N, P>,
+        rt: &R,
+    ) -> Result<()>
+    where
+        S: MutEventSubscriber,
+        J: Job<S>,
+        N: Naming,
+        P: EventPoller,
+        R: Wait + Clock,
+    {
+        for _run in rt.forever() {
+            if self.have_ended() {
+                break;
+            }
+            manager.run(rt)?;
+        }
+        Ok(())
+    }
+
+    // One has ended: the last wakes the loop.
+    fn end_one<S: MutEventSubscriber, J: Job<S>, N: Naming, R: Wait + Clock>(
+        &self,
+        endpoint: &RemoteEndpoint<S, J, N>,
+        rt: &R,
+    ) {
+        if self.at_work.fetch_sub(1, Ordering::SeqCst) == 1 {
+            let _ = endpoint.kick(rt);
+        }
+    }
+}
+
+/// What came of a loop and its senders.
+#[derive(Drop)]
+pub struct Ended<T> {
+    /// What the loop's run answered.
+    pub ran: Result<()>,
+    /// What each sender gave, in their order.
+    pub sent: Vec<T>,
+    /// How many tickets were issued.
+    pub issued: u64,
+    /// How many jobs the manager took and ran.
+    pub taken: u64,
+}
+
+// What the loop's thread shares with those of the senders.
+#[derive(Drop)]
+struct Shared<S: MutEventSubscriber, J: Job<S>, N: Naming, T> {
+    endpoint: RemoteEndpoint<S, J, N>,
+    senders: Senders,
+    // What the sender of each index gave.
+    sent: Mutex<Vec<Option<T>>>,
+}
+
+impl<S: MutEventSubscriber, J: Job<S>, N: Naming, T: Drop> Shared<S, J, N, T> {
+    fn new(alloc: Global, endpoint: RemoteEndpoint<S, J, N>, senders: usize) -> Result<Self> {
+        let mut sent = Vec::new(alloc);
+        for _sender in 0..senders {
+            sent.push(None)?;
+        }
+        Ok(Shared {
+            endpoint,
+            senders: Senders {
+                at_work: AtomicUsize::new(senders),
+            },
+            sent: Mutex::new(sent),
+        })
+    }
+
+    // Keeps what the sender of this index gave.
+    fn keep<R: Wait>(&self, index: usize, sent: T, rt: &R) {
+        let mut all = self.sent.lock(rt);
+        if let Some(place) = all.get_mut(index) {
+            *place = Some(sent);
+        }
+    }
+}
+
+// What a sender's thread does.
+fn send_and_end<S, J, N, Q, T, R>(
+    shared: &Shared<S, J, N, T>,
+    index: usize,
+    sender: Q,
+    rt: &R,
+) where
+    S: MutEventSubscriber,
+    J: Job<S>,
+    N: Naming,
+    Q: Sender<S, J, T, R>,
+    T: Drop,
+    R: Wait + Clock,
+{
+    let sent = sender.send::<N>(&shared.endpoint, rt);
+    shared.keep(index, sent, rt);
+    shared.senders.end_one(&shared.endpoint, rt);
+}
+
+// Runs the loop, where the senders are started, and closes the manager whatever came of it.
+fn run_and_close<S, J, N, P, B, Q, R>(
+    body: &mut B,
+    manager: &mut Option<EventManager<S, J, N, P>>,
+    are_started: bool,
+    senders: &Senders,
+    rt: &R,
+) -> Option<(Result<()>, Closed<N>)>
+where
+    S: MutEventSubscriber + Drop,
+    J: Job<S>,
+    N: Naming,
+    P: EventPoller + Drop,
+    B: LoopWithSenders<S, J, Q, R>,
+    R: Wait + Clock,
+{
+    let mut manager = manager.take()?;
+    if !are_started {
+        manager.close(rt);
+        return None;
+    }
+    let ran = body.run(&mut manager, senders, rt);
+    Some((ran, manager.close(rt)))
+}
+
+// Starts a thread for each sender, and runs the loop beside them. `None` where a thread can't be made.
+fn run_beside<S, J, N, P, B, Q, T, R>(
+    body: &mut B,
+    manager: &mut Option<EventManager<S, J, N, P>>,
+    senders: Vec<Q>,
+    shared: &Shared<S, J, N, T>,
+    rt: &R,
+) -> Option<(Result<()>, Closed<N>)>
+where
+    S: MutEventSubscriber + Send + Drop,
+    J: Job<S> + Send,
+    J::Reply: Send,
+    N: Naming + Send + Sync,
+    P: EventPoller + Drop,
+    B: LoopWithSenders<S, J, Q, R>,
+    Q: Sender<S, J, T, R> + Send + Drop,
+    T: Send + Drop,
+    R: Threads + Wait + Clock + Sync,
+{
+    thread::scope(thread::scope_env(), rt, |scope|
+        requires { IsSend Q.row × IsSync R.row }
+    {
+        let mut are_started = true;
+        for (index, sender) in senders.into_iter().enumerate() {
+            if scope.spawn(move || send_and_end(shared, index, sender, rt)).is_err() {
+                are_started = false;
+            }
+        }
+        run_and_close(body, manager, are_started, &shared.senders, rt)
+    })
+}
+
+// What all senders gave, in their order.
+fn take_all<T: Drop>(places: Vec<Option<T>>, given: &mut Vec<T>) -> Result<()> {
+    for place in places {
+        if let Some(gave) = place {
+            given.push(gave)?;
+        }
+    }
+    Ok(())
+}
+
+// As `with_senders`, with these ledgers.
+fn run_named<S, J, N, P, B, Q, T, R>(
+    rt: &R,
+    alloc: Global,
+    poller: P,
+    event_fd: EventFd,
+    body: &mut B,
+    tickets: Blank,
+    taken: Blank,
+) -> Result<Ended<T>>
+where
+    S: MutEventSubscriber + Send + Drop,
+    J: Job<S> + Send,
+    J::Reply: Send,
+    N: Naming + Send + Sync,
+    P: EventPoller + Drop,
+    B: LoopWithSenders<S, J, Q, R>,
+    Q: Sender<S, J, T, R> + Send + Drop,
+    T: Send + Drop,
+    R: Threads + Wait + Clock + Sync,
+    requires tickets { (tickets.name ≡ N.tickets) × (tickets.parts ≡ 9223372036854775808) }
+    requires taken { (taken.name ≡ N.taken) × (taken.parts ≡ 1) }
+{
+    let ledgers = Ledgers::<N>::new(tickets, taken);
+    let mut manager = EventManager::<S, J, N, P>::new(alloc, poller, event_fd, ledgers)?;
+    let mut senders = Vec::new(alloc);
+    body.begin(&mut manager, &mut senders, rt)?;
+    let mut sent = Vec::new(alloc);
+    sent.reserve(senders.len())?;
+    let shared = Shared::new(alloc, manager.remote_endpoint()?, senders.len())?;
+    let mut held = Some(manager);
+    let Some((ran, closed)) = run_beside(body, &mut held, senders, &shared, rt) else {
+        return Err(Error::OutOfMemory);
+    };
+    let Shared { sent: places, .. } = shared;
+    take_all(places.into_inner(), &mut sent)?;
+    Ok(Ended {
+        ran,
+        sent,
+        issued: closed.issued(),
+        taken: closed.taken(),
+    })
+}
+
+/// Makes a manager over the poller, lets the body's subscribers join, and runs its loop on this thread, beside a thread for
+/// each of its senders. Whatever ends the loop, the manager is then closed, so that no sender waits for a reply any more;
+/// and what loop and senders gave is answered once all senders have ended.
+///
+/// Refused with what the making of the manager, `begin` or [`EventManager::remote_endpoint`] is refused with, and no sender begins; with
+/// `OutOfMemory` where there is no room for what the senders give, or no thread for one of them: then the loop isn't run,
+/// and what the others send is refused.
+pub fn with_senders<S, J, P, B, Q, T, R>(
+    rt: &R,
+    alloc: Global,
+    poller: P,
+    event_fd: EventFd,
+    body: &mut B,
+) -> Result<Ended<T>>
+where
+    S: MutEventSubscriber + Send + Drop,
+    J: Job<S> + Send,
+    J::Reply: Send,
+    P: EventPoller + Drop,
+    B: LoopWithSenders<S, J, Q, R>,
+    Q: Sender<S, J, T, R> + Send + Drop,
+    T: Send + Drop,
+    R: Threads + Wait + Clock + Sync,
+{
+    let (tickets, taken) = (Blank::new(9223372036854775808), Blank::new(1));
+    run_named::<S, J, Brand, P, B, Q, T, R>(rt, alloc, poller, event_fd, body, tickets, taken)
+}
