@@ -6,6 +6,7 @@ use crate::statistics::ReadStatistics;
 use event_manager::{
     Error, EventManager, EventPoller, LoopWithSenders, Naming, Result, SubscriberOps,
 };
+use std::alloc::Global;
 use std::sync::Wait;
 use std::time::Clock;
 use vmm_sys::epoll::Epoll;
@@ -58,10 +59,10 @@ impl<R: Wait + Clock + Print + Copy + Drop> LoopWithSenders<Device<R>, ReadStati
     for Machine {
     fn begin<N: Naming, P: EventPoller>(
         &mut self,
-        manager: &mut EventManager<Device<R>, ReadStatistics, N, P>,
-        senders: &mut Vec<Guest>,
         rt: &R,
-    ) -> Result<()> {
+        alloc: Global,
+        manager: &mut EventManager<Device<R>, ReadStatistics, N, P>,
+    ) -> Result<Vec<Guest>> {
         let Descriptors {
             first,
             second,
@@ -69,11 +70,11 @@ impl<R: Wait + Clock + Print + Copy + Drop> LoopWithSenders<Device<R>, ReadStati
         } = &self.descriptors;
         let queue = QueueDevice::new(first, second, *rt).map_err(Error::EventFd)?;
         let console = Console::new(line, *rt).map_err(Error::EventFd)?;
-        senders.push(Guest {
+        let guest = Guest {
             descriptors: self.descriptors.try_clone().map_err(Error::EventFd)?,
             queue: manager.add_subscriber(Device::Queue(queue))?,
             console: manager.add_subscriber(Device::Console(console))?,
-        })?;
-        Ok(())
+        };
+        Ok(vec![in alloc; guest]?)
     }
 }

@@ -28,20 +28,20 @@ pub trait Sender<S: MutEventSubscriber, J: Job<S>, T, R: Wait + Clock> {
 
 /// The loop's side of [`with_senders`]: its subscribers and its senders, of type `Q`, and how long it runs.
 pub trait LoopWithSenders<S: MutEventSubscriber, J: Job<S>, Q, R: Wait + Clock> {
-    /// Lets subscribers join, and enters the senders: each gets a thread once this is over.
+    /// Lets subscribers join, and answers the senders: each gets a thread once this is over.
     fn begin<N: Naming, P: EventPoller>(
         &mut self,
-        manager: &mut EventManager<S, J, N, P>,
-        senders: &mut Vec<Q>,
         rt: &R,
-    ) -> Result<()>;
+        alloc: Global,
+        manager: &mut EventManager<S, J, N, P>,
+    ) -> Result<Vec<Q>>;
 
     /// Runs the loop beside the senders, on the thread that called `with_senders`. As it stands here: until all have ended.
     fn run<N: Naming, P: EventPoller>(
         &mut self,
+        rt: &R,
         manager: &mut EventManager<S, J, N, P>,
         senders: &Senders,
-        rt: &R,
     ) -> Result<()> {
         senders.run_until_ended(manager, rt)
     }
@@ -140,12 +140,8 @@ impl<S: MutEventSubscriber, J: Job<S>, N: Naming, T: Drop> Shared<S, J, N, T> {
 }
 
 // What a sender's thread does.
-fn send_and_end<S, J, N, Q, T, R>(
-    shared: &Shared<S, J, N, T>,
-    index: usize,
-    sender: Q,
-    rt: &R,
-) where
+fn send_and_end<S, J, N, Q, T, R>(shared: &Shared<S, J, N, T>, index: usize, sender: Q, rt: &R)
+where
     S: MutEventSubscriber,
     J: Job<S>,
     N: Naming,
@@ -179,7 +175,7 @@ where
         manager.close(rt);
         return None;
     }
-    let ran = body.run(&mut manager, senders, rt);
+    let ran = body.run(rt, &mut manager, senders);
     Some((ran, manager.close(rt)))
 }
 
@@ -202,17 +198,24 @@ where
     T: Send + Drop,
     R: Threads + Wait + Clock + Sync,
 {
-    thread::scope(thread::scope_env(), rt, |scope|
-        requires { IsSend Q.row × IsSync R.row }
-    {
-        let mut are_started = true;
-        for (index, sender) in senders.into_iter().enumerate() {
-            if scope.spawn(move || send_and_end(shared, index, sender, rt)).is_err() {
-                are_started = false;
+    thread::scope(
+        thread::scope_env(),
+        rt,
+        |scope|
+            requires { IsSend Q.row × IsSync R.row }
+        {
+            let mut are_started = true;
+            for (index, sender) in senders.into_iter().enumerate() {
+                if scope
+                    .spawn(move || send_and_end(shared, index, sender, rt))
+                    .is_err()
+                {
+                    are_started = false;
+                }
             }
-        }
-        run_and_close(body, manager, are_started, &shared.senders, rt)
-    })
+            run_and_close(body, manager, are_started, &shared.senders, rt)
+        },
+    )
 }
 
 // What all senders gave, in their order.
@@ -250,8 +253,7 @@ where
 {
     let ledgers = Ledgers::<N>::new(tickets, taken);
     let mut manager = EventManager::<S, J, N, P>::new(alloc, poller, event_fd, ledgers)?;
-    let mut senders = Vec::new(alloc);
-    body.begin(&mut manager, &mut senders, rt)?;
+    let senders = body.begin(rt, alloc, &mut manager)?;
     let mut sent = Vec::new(alloc);
     sent.reserve(senders.len())?;
     let shared = Shared::new(alloc, manager.remote_endpoint()?, senders.len())?;
