@@ -159,14 +159,8 @@ impl Registrations {
         ensures err { IfErr result (λ e. (e ≡ Error.OutOfMemory) × (self.new ≡ self.old)) }
     {
         let fd = events.number();
-        match self.cancelled.reserve(self.owned + 1) {
-            Ok(()) => {}
-            Err(_) => return Err(Error::OutOfMemory),
-        }
-        match self.owners.insert(fd, owner) {
-            Ok(()) => {}
-            Err(_) => return Err(Error::OutOfMemory),
-        }
+        self.cancelled.reserve(self.owned + 1)?;
+        self.owners.insert(fd, owner)?;
         match self.watched.insert(owner.id, fd) {
             Ok(()) => {
                 self.owned += 1;

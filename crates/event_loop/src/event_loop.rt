@@ -38,10 +38,8 @@ impl<S: MutEventSubscriber, P: EventPoller> EventLoop<S, P> {
         ensures made { IfOk result (λ made. seen_of made ≡ new_loop no_descriptor poller 256) }
         ensures refusals { IfErr result (λ error. error ≡ Error.OutOfMemory) }
     {
-        match Registry::without_endpoint(alloc, poller, DEFAULT_CAPACITY) {
-            Ok(registry) => Ok(EventLoop { registry }),
-            Err(error) => Err(error),
-        }
+        let registry = Registry::without_endpoint(alloc, poller, DEFAULT_CAPACITY)?;
+        Ok(EventLoop { registry })
     }
 
     /// A loop with no subscriber, whose batches have up to `capacity` events. The poller is asked for nothing. Capacity 0
@@ -58,10 +56,8 @@ impl<S: MutEventSubscriber, P: EventPoller> EventLoop<S, P> {
         if capacity > MAX_READY_EVENTS_CAPACITY {
             return Err(Error::InvalidCapacity);
         }
-        match Registry::without_endpoint(alloc, poller, capacity) {
-            Ok(registry) => Ok(EventLoop { registry }),
-            Err(error) => Err(error),
-        }
+        let registry = Registry::without_endpoint(alloc, poller, capacity)?;
+        Ok(EventLoop { registry })
     }
 
     /// [`run_with_timeout`](EventLoop::run_with_timeout) without a limit.

@@ -23,7 +23,7 @@ use vmm_sys::epoll::ControlOperation;
 use vmm_sys::errno::Errno;
 
 /// The number under which a registry holds a subscriber: 1 for the first, then one more each time, never again.
-#[derive(Clone, Copy, PartialEq, Eq, Hash, Debug)]
+#[derive(Clone, Copy, PartialEq, Eq, PartialOrd, Ord, Hash, Debug)]
 pub struct SubscriberId {
     number: u64,
 }
@@ -146,16 +146,12 @@ impl<S: MutEventSubscriber, P: EventPoller> Registry<S, P> {
         ensures made { IfOk result (λ made. loop_state made ≡ new_loop no_descriptor poller capacity) }
         ensures refusals { IfErr result (λ error. error ≡ Error.OutOfMemory) }
     {
-        match Registrations::new(alloc, NO_DESCRIPTOR, capacity) {
-            Ok(registrations) => {
-                let epoll = EpollWrapper {
-                    registrations,
-                    poller,
-                };
-                Ok(Registry::over(alloc, epoll))
-            }
-            Err(_) => Err(Error::OutOfMemory),
-        }
+        let registrations = Registrations::new(alloc, NO_DESCRIPTOR, capacity)?;
+        let epoll = EpollWrapper {
+            registrations,
+            poller,
+        };
+        Ok(Registry::over(alloc, epoll))
     }
 
     /// No subscriber, over these registrations and this poller.
@@ -255,13 +251,9 @@ impl<S: MutEventSubscriber, P: EventPoller> Registry<S, P> {
             return Err(Error::IdsUsedUp);
         }
         let id = self.next;
-        let place = match self.subscribers.insert(id, subscriber) {
-            Ok(place) => place,
-            Err(_) => return Err(Error::OutOfMemory),
-        };
-        // Never none: the id was inserted just now.
+        let place = self.subscribers.insert(id, subscriber)?;
         let Some(held) = self.subscribers.get_mut_at(place, id) else {
-            return Err(Error::OutOfMemory);
+            unreachable!()
         };
         self.ops.id = id;
         self.ops.place = place;

@@ -1,5 +1,6 @@
-use Rattle.std.proofs.Common.{◌≡◌, Some, None, refl, ap, ◌∙◌, inr, arith, ◌+◌, subst, []}
+use Rattle.std.proofs.Common.{rules, ◌≡◌, Some, None, refl, sym, ap, ◌∙◌, inr, arith, ◌+◌, subst, []}
 use Rattle.std.specs.FinMap.{insert, get}
+use Rattle.std.specs.Option.{option_copied_mut}
 use Rattle.dispatch_tables.proofs.MapEntries.{insert_twice, get_same, some_is}
 use Rattle.event_loop.proofs.ExchangeLemmas.{idle_fits}
 use Rattle.event_loop.specs.Registry.{Joined, NotJoined}
@@ -8,16 +9,16 @@ use Rattle.event_loop.specs.declared.error.Error.TheVariants.{OutOfMemory}
 use Rattle.event_loop.specs.RegistrationState.{registrations_of}
 use Rattle.event_loop.proofs.subscribers.Registry.join.Goals as goal
 
-pub returns-in-Err : goal.returns-in-Err
-returns-in-Err g c =
+pub returns-in_err-place : goal.returns-in_err-place
+returns-in_err-place g c =
     let old = c.args.self.now in
-    let same = ap (λ values. idle (record { values = values; next = old.next; registrations = registrations_of old.ops.epoll.registrations })) c.in-Err.ensures.err in
-    (NotJoined c.args.subscriber OutOfMemory, refl, record { stepped = (inr (omega (arith, c.if-self.false), refl), same); led = refl; same_taken = refl; same_capacity = refl })
+    let same = ap (λ values. idle (record { values = values; next = old.next; registrations = registrations_of old.ops.epoll.registrations })) c.in_err-place.ensures.err in
+    (NotJoined c.args.subscriber OutOfMemory, search rules, record { stepped = (inr (omega (arith, c.if-self.false), refl), same); led = refl; same_taken = refl; same_capacity = refl })
 
-pub returns-in_default : goal.returns-in_default
-returns-in_default g c =
+pub unreachable-requires : goal.unreachable-requires
+unreachable-requires g c =
     let id = c.args.self.now.next in
-    absurd (none_some _ (c.in_default.ensures.value ∙ ap (λ m. get m id) c.in-Ok.ensures.ok ∙ get_same _ id c.args.subscriber))
+    none_some _ (ap option_copied_mut (sym c.in_default.is) ∙ c.get_mut_at.ensures.value ∙ ap (λ m. get m id) c.in_ok-place.ensures.ok ∙ get_same _ id c.args.subscriber)
   where
     none_some : {A : Type 0} (x : A) → None ≡ Some x → ⊥
     none_some x e = cc
@@ -26,7 +27,7 @@ pub returns : goal.returns
 returns g c =
     let called = c.init.ensures in
     let id = c.args.self.now.next in
-    let first = c.in-Ok.ensures.ok in
+    let first = c.in_ok-place.ensures.ok in
     let found = c.in-Some.ensures.value in
     let values = ap (λ m. insert m id c.init.new.self) first ∙ insert_twice _ id c.args.subscriber c.init.new.self in
     let was = some_is _ _ (found ∙ ap (λ m. get m id) first ∙ get_same _ id c.args.subscriber) in
