@@ -18,7 +18,7 @@ use std::alloc::Global;
 pub const MAX_READY_EVENTS_CAPACITY: usize = 178956970;
 
 /// The capacity of a loop that is made without one.
-pub const DEFAULT_CAPACITY: usize = 256;
+const DEFAULT_CAPACITY: usize = 256;
 
 /// An event loop over a poller, and the subscribers that it serves.
 ///

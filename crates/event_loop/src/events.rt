@@ -138,7 +138,7 @@ impl Events {
 }
 
 /// Whether the events are equal: exactly where descriptor, data and set are. So equality is an equivalence.
-pub fn are_equal(a: &Events, b: &Events) -> bool
+pub fn events_are_equal(a: &Events, b: &Events) -> bool
     ensures { IsTrue result ↔ (a.now ≡ b.now) }
 {
     // Read, so that the prover knows of each that its descriptor is one from 0 up.

@@ -5,24 +5,23 @@
 //! of a manager gets.
 #![tactic(auto)]
 
-pub mod boxed_subscriber;
-pub mod epoll;
-pub mod error;
-pub mod event_loop;
-pub mod events;
-pub mod poller;
-pub mod subscriber_ops;
-pub mod subscribers;
+mod boxed_subscriber;
+mod epoll;
+mod error;
+mod event_loop;
+mod events;
+mod poller;
+mod subscriber_ops;
+mod subscribers;
 pub mod utilities;
-pub mod wrappers;
+mod wrappers;
 
 pub use boxed_subscriber::{BoxedSubscriber, StepInput, StepSubscriber};
 pub use dispatch_tables::cancelled::cancelled_at;
-pub use dispatch_tables::priority;
 pub use dispatch_tables::priority::Priority;
 pub use error::{Error, Result};
 pub use event_loop::{EventLoop, MAX_READY_EVENTS_CAPACITY};
-pub use events::{EventOps, Events, Request};
+pub use events::{EventOps, Events, Request, events_are_equal};
 pub use poller::{BoxedPoller, EventPoller};
 pub use subscriber_ops::SubscriberOps;
 pub use subscribers::{Batch, EventSubscriber, MutEventSubscriber, Registry, SubscriberId};

@@ -45,7 +45,11 @@ pub trait EventPoller {
         ensures answer { waits self.old ms (length buffer.old) (report_of result buffer.new) self.new };
 }
 
-/// A `vmm_sys` poller of any type, in a box. The caller makes the box.
+/// A `vmm_sys` poller of any type, in a box. The caller makes the box where the type is known, as
+/// `let poller: Box<dyn Poller + Send> = Box::new(alloc, script)?;`.
+///
+/// A function that is generic over the poller, or over the `R` of an `Epoll<R>`, can't: the checker refuses a trait object
+/// of a type that isn't known there. So this type has no maker, and an `Epoll<R>` of a generic `R` is handed in as it is.
 #[derive(Drop)]
 pub struct BoxedPoller(pub Box<dyn Poller + Send>);
 

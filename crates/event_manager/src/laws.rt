@@ -20,6 +20,7 @@ ghost use Rattle.event_manager.specs.Guarantees.{AreGiven, steps_of, RemovedStay
 ghost use Rattle.event_manager.specs.Example.{any_begins, any_serves, any_may, joins, iterates};
 
 use crate::jobs::Job;
+pub use event_loop::events_are_equal;
 use event_loop::{MutEventSubscriber, Priority, SubscriberId};
 use std::cmp::Ordering;
 use std::hash::{Hash, Hasher};

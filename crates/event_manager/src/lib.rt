@@ -21,8 +21,7 @@ pub use event_loop::{
     BoxedPoller, BoxedSubscriber, Either, Error, EventLoop, EventOps, EventPoller, EventSet,
     EventSubscriber, Events, Locked, MAX_READY_EVENTS_CAPACITY, MutEventSubscriber, Priority,
     Registry, Request, Result, StepInput, StepSubscriber, SubscriberId, SubscriberOps,
-    boxed_subscriber, cancelled_at, error, events, poller, priority, subscribers, utilities,
-    wrappers,
+    cancelled_at, utilities,
 };
 pub use job_tickets::ledgers::{Ledgers, WithLedgers, with_ledgers};
 pub use job_tickets::naming::Naming;

@@ -10,7 +10,6 @@ use crate::endpoint::RemoteEndpoint;
 use crate::endpoint::channel::EventManagerChannel;
 use crate::endpoint::closed::Closed;
 use crate::jobs::Job;
-use event_loop::event_loop::DEFAULT_CAPACITY;
 use event_loop::{
     BoxedPoller, Error, EventOps, EventPoller, Events, MAX_READY_EVENTS_CAPACITY,
     MutEventSubscriber, Registry, Result, SubscriberId, SubscriberOps,
@@ -22,6 +21,9 @@ use std::sync::Wait;
 use std::time::Clock;
 use vmm_sys::epoll::EventSet;
 use vmm_sys::eventfd::EventFd;
+
+/// The capacity of [`EventManager::new`].
+const DEFAULT_CAPACITY: usize = 256;
 
 /// An event loop over a poller, the subscribers that it serves, and the jobs that its endpoints send.
 ///

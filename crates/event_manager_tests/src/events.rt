@@ -1,7 +1,7 @@
 //! Events and their words.
 
 use crate::expecting::{expect_ok, expect_same};
-use event_manager::events::are_equal;
+use event_manager::laws::events_are_equal;
 use event_manager::{Error, Events};
 use vmm_sys::epoll::EventSet;
 use vmm_sys::errno::Errno;
@@ -14,7 +14,7 @@ fn word_has_the_data_above_the_descriptor(rt: HostRuntime) {
         expect_same(&rt, &(entry.data(), entry.events()), &(word, 1));
         expect_same(&rt, &(events.fd(), events.data()), &(5, data));
         let same = Events::with_data_raw(5, 42, EventSet::IN);
-        expect_same(&rt, &are_equal(&events, &same), &(data == 42));
+        expect_same(&rt, &events_are_equal(&events, &same), &(data == 42));
     }
 }
 
