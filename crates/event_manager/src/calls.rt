@@ -3,7 +3,7 @@
 use event_loop::{Request, Result, SubscriberId};
 
 /// A call of a manager, as one of a list.
-#[derive(Drop)]
+#[derive(PartialEq, Eq, Debug, Drop)]
 pub enum Call<S> {
     /// `add_subscriber`.
     Add(S),
@@ -18,7 +18,7 @@ pub enum Call<S> {
 }
 
 /// The reply to a [`Call`].
-#[derive(Drop)]
+#[derive(PartialEq, Eq, Debug, Drop)]
 pub enum Reply<S> {
     /// What `add_subscriber` answered.
     Added(Result<SubscriberId>),

@@ -6,6 +6,7 @@ ghost use Rattle.job_tickets.specs.Weights.{weight, weight_to, weigh, one_to};
 
 use crate::naming::{Naming, Tickets};
 use crate::weights::add_weight;
+use std::fmt;
 use std::marker::Model;
 use std::sync::ledger::{Blank, Book, Share};
 
@@ -34,6 +35,12 @@ impl<N: Naming> Ticket<N> {
         ensures { result ≡ self.now }
     {
         self.number
+    }
+}
+
+impl<N: Naming> fmt::Debug for Ticket<N> {
+    fn fmt<W: fmt::Write>(&self, f: &mut fmt::Formatter<W>) -> fmt::Result {
+        write!(f, "Ticket({})", self.number)
     }
 }
 

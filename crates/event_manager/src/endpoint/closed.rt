@@ -6,6 +6,7 @@ ghost use Rattle.job_tickets.specs.Weights.{one_to};
 
 use job_tickets::naming::Naming;
 use job_tickets::tickets::{Register, Ticket};
+use std::fmt;
 use std::marker::Model;
 
 /// What is known of a manager that was closed. Contracts see how many tickets were issued and how many jobs taken.
@@ -21,6 +22,13 @@ impl<N: Naming> Model for Closed<N> {
     ghost Value = { ClosedState };
 
     ghost view = { λ c. record { issued = c.register; taken = c.taken } };
+}
+
+impl<N: Naming> fmt::Debug for Closed<N> {
+    fn fmt<W: fmt::Write>(&self, f: &mut fmt::Formatter<W>) -> fmt::Result {
+        let (issued, taken) = (self.issued(), self.taken());
+        write!(f, "Closed {{ issued: {issued}, taken: {taken} }}")
+    }
 }
 
 impl<N: Naming> Closed<N> {
