@@ -36,10 +36,9 @@ impl Reacting {
 }
 
 impl MutEventSubscriber for Reacting {
-    ghost use Rattle.event_manager.specs.Exchange.{Asks};
-    ghost use Rattle.event_manager.specs.Request.TheVariants.{Add};
+    ghost use Rattle.event_manager.specs.Exchange.{Asks, AsksToAdd};
 
-    ghost begins = { λ v exchanges w. Asks (Add v.own) exchanges };
+    ghost begins = { λ v exchanges w. AsksToAdd v.own exchanges };
 
     ghost serves = { λ v event exchanges w. MatchOption v.reaction (exchanges ≡ []) (λ request. Asks request exchanges) };
 

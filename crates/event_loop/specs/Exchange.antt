@@ -92,6 +92,12 @@ Exchanges = List (Request × Answer)
 abbrev pub Asks : Request → Exchanges → Type 0
 Asks request exchanges = (answer : Answer) × (exchanges ≡ (request, answer) ∷ [])
 
+-- just an addition was asked for, just a change of the set, just a removal
+abbrev pub AsksToAdd AsksToModify AsksToRemove : Event → Exchanges → Type 0
+AsksToAdd event exchanges = Asks (Add event) exchanges
+AsksToModify event exchanges = Asks (Modify event) exchanges
+AsksToRemove event exchanges = Asks (Remove event) exchanges
+
 -- no request was made
 abbrev pub AsksNothing : Exchanges → Type 0
 AsksNothing exchanges = exchanges ≡ []

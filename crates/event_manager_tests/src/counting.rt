@@ -23,10 +23,9 @@ pub struct Counting {
 
 impl MutEventSubscriber for Counting {
     ghost use Rattle.std.specs.Prelude.{◌≡◌, []};
-    ghost use Rattle.event_manager.specs.Exchange.{Asks};
-    ghost use Rattle.event_manager.specs.Request.TheVariants.{Add};
+    ghost use Rattle.event_manager.specs.Exchange.{AsksToAdd};
 
-    ghost begins = { λ v exchanges w. Asks (Add v.own) exchanges };
+    ghost begins = { λ v exchanges w. AsksToAdd v.own exchanges };
 
     ghost serves = { λ v event exchanges w. exchanges ≡ [] };
 
@@ -48,10 +47,9 @@ pub struct SharedCounting {
 
 impl EventSubscriber for SharedCounting {
     ghost use Rattle.std.specs.Prelude.{◌≡◌, []};
-    ghost use Rattle.event_manager.specs.Exchange.{Asks};
-    ghost use Rattle.event_manager.specs.Request.TheVariants.{Add};
+    ghost use Rattle.event_manager.specs.Exchange.{AsksToAdd};
 
-    ghost begins_shared = { λ v exchanges. Asks (Add v.own) exchanges };
+    ghost begins_shared = { λ v exchanges. AsksToAdd v.own exchanges };
 
     ghost serves_shared = { λ v event exchanges. exchanges ≡ [] };
 
@@ -66,10 +64,9 @@ impl EventSubscriber for SharedCounting {
 
 impl MutEventSubscriber for SharedCounting {
     ghost use Rattle.std.specs.Prelude.{◌≡◌, []};
-    ghost use Rattle.event_manager.specs.Exchange.{Asks};
-    ghost use Rattle.event_manager.specs.Request.TheVariants.{Add};
+    ghost use Rattle.event_manager.specs.Exchange.{AsksToAdd};
 
-    ghost begins = { λ v exchanges w. Asks (Add v.own) exchanges };
+    ghost begins = { λ v exchanges w. AsksToAdd v.own exchanges };
 
     ghost serves = { λ v event exchanges w. exchanges ≡ [] };
 

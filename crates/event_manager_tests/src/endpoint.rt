@@ -76,10 +76,9 @@ struct Looking<T> {
 
 impl<T: Poller> MutEventSubscriber for Looking<T> {
     ghost use Rattle.std.specs.Prelude.{◌≡◌, []};
-    ghost use Rattle.event_manager.specs.Exchange.{Asks};
-    ghost use Rattle.event_manager.specs.Request.TheVariants.{Add};
+    ghost use Rattle.event_manager.specs.Exchange.{AsksToAdd};
 
-    ghost begins = { λ v exchanges w. Asks (Add v.own) exchanges };
+    ghost begins = { λ v exchanges w. AsksToAdd v.own exchanges };
 
     ghost serves = { λ v event exchanges w. exchanges ≡ [] };
 

@@ -41,12 +41,11 @@ pub struct Leaving {
 
 impl MutEventSubscriber for Leaving {
     ghost use Rattle.std.specs.Prelude.{◌≡◌, [], ◌==◌, MatchBool};
-    ghost use Rattle.event_manager.specs.Exchange.{Asks};
-    ghost use Rattle.event_manager.specs.Request.TheVariants.{Add, Remove};
+    ghost use Rattle.event_manager.specs.Exchange.{AsksToAdd, AsksToRemove};
 
-    ghost begins = { λ v exchanges w. Asks (Add v.own) exchanges };
+    ghost begins = { λ v exchanges w. AsksToAdd v.own exchanges };
 
-    ghost serves = { λ v event exchanges w. MatchBool (event.set == 16) (Asks (Remove event) exchanges) (exchanges ≡ []) };
+    ghost serves = { λ v event exchanges w. MatchBool (event.set == 16) (AsksToRemove event exchanges) (exchanges ≡ []) };
 
     fn process<P: EventPoller>(&mut self, events: Events, ops: &mut EventOps<P>) {
         self.seen = self.seen.saturating_add(1);
@@ -69,12 +68,11 @@ pub struct Numbered {
 
 impl MutEventSubscriber for Numbered {
     ghost use Rattle.std.specs.Prelude.{◌≡◌, [], ◌==◌, MatchBool};
-    ghost use Rattle.event_manager.specs.Exchange.{Asks};
-    ghost use Rattle.event_manager.specs.Request.TheVariants.{Add, Remove};
+    ghost use Rattle.event_manager.specs.Exchange.{AsksToAdd, AsksToRemove};
 
-    ghost begins = { λ v exchanges w. Asks (Add v.own) exchanges };
+    ghost begins = { λ v exchanges w. AsksToAdd v.own exchanges };
 
-    ghost serves = { λ v event exchanges w. MatchBool (event.payload == 0) (Asks (Remove event) exchanges) (exchanges ≡ []) };
+    ghost serves = { λ v event exchanges w. MatchBool (event.payload == 0) (AsksToRemove event exchanges) (exchanges ≡ []) };
 
     fn process<P: EventPoller>(&mut self, events: Events, ops: &mut EventOps<P>) {
         self.seen = self.seen.saturating_add(1);
@@ -97,10 +95,10 @@ pub struct Renewing {
 
 impl MutEventSubscriber for Renewing {
     ghost use Rattle.std.specs.Prelude.{◌≡◌, [], ◌∷◌};
-    ghost use Rattle.event_manager.specs.Exchange.{Answer, Asks};
+    ghost use Rattle.event_manager.specs.Exchange.{Answer, AsksToAdd};
     ghost use Rattle.event_manager.specs.Request.TheVariants.{Add, Remove};
 
-    ghost begins = { λ v exchanges w. Asks (Add v.own) exchanges };
+    ghost begins = { λ v exchanges w. AsksToAdd v.own exchanges };
 
     ghost serves = { λ v event exchanges w. (first second : Answer) × (exchanges ≡ (Remove v.own, first) ∷ (Add v.own, second) ∷ []) };
 

@@ -129,10 +129,9 @@ pub struct Watcher {
 
 impl MutEventSubscriber for Watcher {
     ghost use Rattle.std.specs.Prelude.{◌≡◌, []};
-    ghost use Rattle.event_manager.specs.Exchange.{Asks};
-    ghost use Rattle.event_manager.specs.Request.TheVariants.{Add};
+    ghost use Rattle.event_manager.specs.Exchange.{AsksToAdd};
 
-    ghost begins = { λ v exchanges w. Asks (Add v.own) exchanges };
+    ghost begins = { λ v exchanges w. AsksToAdd v.own exchanges };
 
     ghost serves = { λ v event exchanges w. exchanges ≡ [] };
 

@@ -18,12 +18,11 @@ struct Growing {
 }
 
 impl MutEventSubscriber for Growing {
-    ghost use Rattle.event_manager.specs.Exchange.{Asks};
-    ghost use Rattle.event_manager.specs.Request.TheVariants.{Add};
+    ghost use Rattle.event_manager.specs.Exchange.{AsksToAdd};
 
-    ghost begins = { λ v exchanges w. Asks (Add v.first) exchanges };
+    ghost begins = { λ v exchanges w. AsksToAdd v.first exchanges };
 
-    ghost serves = { λ v event exchanges w. Asks (Add v.second) exchanges };
+    ghost serves = { λ v event exchanges w. AsksToAdd v.second exchanges };
 
     fn process<P: EventPoller>(&mut self, events: Events, ops: &mut EventOps<P>) {
         self.log.note(1, events);

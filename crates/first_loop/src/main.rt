@@ -16,10 +16,9 @@ struct Doorman {
 }
 
 impl MutEventSubscriber for Doorman {
-    ghost use Rattle.event_loop.specs.Exchange.{Asks, AsksNothing};
-    ghost use Rattle.event_loop.specs.declared.events.Request.TheVariants.{Add};
+    ghost use Rattle.event_loop.specs.Exchange.{AsksNothing, AsksToAdd};
 
-    ghost begins = { λ v exchanges w. Asks (Add v.bell) exchanges };
+    ghost begins = { λ v exchanges w. AsksToAdd v.bell exchanges };
 
     ghost serves = { λ v event exchanges w. AsksNothing exchanges };
 

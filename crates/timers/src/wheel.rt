@@ -118,13 +118,12 @@ impl<R: Wait + Print> Wheel<R> {
 /// number asks for nothing, so a periodic timer stays armed. Timers and `stopped` stay as they are.
 impl<R: Wait + Print> MutEventSubscriber for Wheel<R> {
     ghost use Rattle.std.specs.Prelude.{◌≡◌, [], MatchBool};
-    ghost use Rattle.event_manager.specs.Exchange.{Asks};
-    ghost use Rattle.event_manager.specs.Request.TheVariants.{Remove};
+    ghost use Rattle.event_manager.specs.Exchange.{AsksToRemove};
     ghost use Rattle.timers.specs.OneShot.{is_one_shot};
 
     ghost begins = { λ v exchanges w. (exchanges ≡ []) × (w ≡ v) };
 
-    ghost serves = { λ v event exchanges w. MatchBool (is_one_shot v.timers.items event.payload) (Asks (Remove event) exchanges) (exchanges ≡ []) × (w ≡ v) };
+    ghost serves = { λ v event exchanges w. MatchBool (is_one_shot v.timers.items event.payload) (AsksToRemove event exchanges) (exchanges ≡ []) × (w ≡ v) };
 
     fn process<P: EventPoller>(&mut self, events: Events, ops: &mut EventOps<P>) {
         self.deliver(events.data());

@@ -1,0 +1,114 @@
+//! The acceptor, and what it can be asked.
+
+use crate::connection::Connection;
+use event_manager::{
+    Either, Error, EventOps, EventPoller, EventSet, Events, Job, MutEventSubscriber, Registry,
+    Result, SubscriberId, SubscriberOps,
+};
+use std::sync::Wait;
+use std::time::Clock;
+use vmm_sys::eventfd::EventFd;
+
+/// Who is served: the acceptor, and its connections.
+pub type Peer<R> = Either<Acceptor<R>, Connection<R>>;
+
+/// What came of the connections so far.
+#[derive(Clone, Copy, PartialEq, Eq, Debug)]
+pub struct Statistics {
+    /// How many have joined.
+    pub joined: u64,
+    /// How many of them have left.
+    pub left: u64,
+    /// How many bytes those that left had read.
+    pub bytes: u64,
+}
+
+/// Accepts a connection at each event of its listener, and keeps it until the loop lets it join.
+#[derive(Drop)]
+pub struct Acceptor<R> {
+    listener: EventFd,
+    knocks: Events,
+    // Who comes next, the last first.
+    coming: Vec<Connection<R>>,
+    accepted: Option<Connection<R>>,
+    statistics: Statistics,
+    asked: Result<()>,
+    rt: R,
+}
+
+impl<R: Wait + Drop> Acceptor<R> {
+    /// An acceptor to which these come, the last first.
+    pub fn new(listener: EventFd, coming: Vec<Connection<R>>, rt: R) -> Self {
+        let knocks = Events::new(&listener, EventSet::IN);
+        Acceptor {
+            listener,
+            knocks,
+            coming,
+            accepted: None,
+            statistics: Statistics {
+                joined: 0,
+                left: 0,
+                bytes: 0,
+            },
+            asked: Ok(()),
+            rt,
+        }
+    }
+
+    /// Who was accepted and has not joined yet. From now on it counts as joined.
+    pub fn take_accepted(&mut self) -> Option<Connection<R>> {
+        let connection = self.accepted.take()?;
+        self.statistics.joined = self.statistics.joined.saturating_add(1);
+        Some(connection)
+    }
+
+    /// Counts one that left.
+    pub fn count_left(&mut self, connection: &Connection<R>) {
+        let Statistics { left, bytes, .. } = &mut self.statistics;
+        *left = left.saturating_add(1);
+        *bytes = bytes.saturating_add(connection.bytes());
+    }
+}
+
+impl<R: Wait + Drop> MutEventSubscriber for Acceptor<R> {
+    ghost use Rattle.event_manager.specs.Exchange.{AsksNothing, AsksToAdd};
+
+    ghost begins = { λ v exchanges w. AsksToAdd v.knocks exchanges };
+
+    ghost serves = { λ v event exchanges w. AsksNothing exchanges };
+
+    fn process<P: EventPoller>(&mut self, _events: Events, _ops: &mut EventOps<P>) {
+        let _ = self.listener.read(&self.rt);
+        self.accepted = self.coming.pop();
+    }
+
+    fn init<P: EventPoller>(&mut self, ops: &mut EventOps<P>) {
+        self.asked = ops.add(self.knocks);
+    }
+}
+
+/// Replies the statistics of the acceptor of the id; or the refusal of its request. `InvalidId` where no acceptor has it.
+#[derive(Drop)]
+pub struct ReadStatistics(pub SubscriberId);
+
+impl<R: Wait + Drop> Job<Peer<R>> for ReadStatistics {
+    type Reply = Result<Statistics>;
+
+    ghost use Rattle.std.specs.Prelude.{◌≡◌, []};
+
+    // It changes nothing.
+    ghost may = { λ self steps reply. steps ≡ [] };
+
+    ghost replies = { λ reply. Unit {0} };
+
+    fn call<P: EventPoller, W: Wait + Clock>(
+        self,
+        registry: &mut Registry<Peer<R>, P>,
+        _rt: &W,
+    ) -> Result<Statistics> {
+        match registry.subscriber(self.0)? {
+            Either::First(acceptor) => acceptor.asked.map(|()| acceptor.statistics),
+            Either::Second(_) => Err(Error::InvalidId),
+        }
+    }
+}

@@ -1,0 +1,21 @@
+//! Why the program ends with a failure.
+
+use std::io;
+use thiserror::Error;
+use vmm_sys::errno::Errno;
+
+/// Its text is what the program prints on standard error after `server: `.
+#[derive(Debug, Drop, Error)]
+pub enum Fault {
+    /// The loop, or what was asked of it, was refused.
+    #[error(transparent)]
+    Manager(#[from] event_manager::Error),
+
+    /// A descriptor could not be opened or used.
+    #[error("a descriptor: {0}")]
+    Descriptor(#[from] Errno),
+
+    /// What the client was told could not be written.
+    #[error("cannot write: {0}")]
+    Output(#[from] io::Error),
+}
