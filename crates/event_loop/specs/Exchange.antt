@@ -92,10 +92,14 @@ Exchanges = List (Request × Answer)
 abbrev pub Asks : Request → Exchanges → Type 0
 Asks request exchanges = (answer : Answer) × (exchanges ≡ (request, answer) ∷ [])
 
--- just an addition was asked for, just a change of the set, just a removal
-abbrev pub AsksToAdd AsksToModify AsksToRemove : Event → Exchanges → Type 0
+-- just an addition was asked for; just a change of the set; just a removal
+abbrev pub AsksToAdd : Event → Exchanges → Type 0
 AsksToAdd event exchanges = Asks (Add event) exchanges
+
+abbrev pub AsksToModify : Event → Exchanges → Type 0
 AsksToModify event exchanges = Asks (Modify event) exchanges
+
+abbrev pub AsksToRemove : Event → Exchanges → Type 0
 AsksToRemove event exchanges = Asks (Remove event) exchanges
 
 -- no request was made
