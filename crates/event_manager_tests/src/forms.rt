@@ -14,14 +14,13 @@ pub struct Counting {
 }
 
 impl MutEventSubscriber for Counting {
-    ghost use Rattle.std.specs.Prelude.{◌≡◌, [], ◌∷◌};
+    ghost use Rattle.std.specs.Prelude.{◌≡◌};
     ghost use Rattle.event_manager.specs.CounterEvents.{next_count};
-    ghost use Rattle.event_manager.specs.Exchange.{Answer};
-    ghost use Rattle.event_manager.specs.Request.TheVariants.{Add};
+    ghost use Rattle.event_manager.specs.Exchange.{AsksNothing, AsksToAdd};
 
-    ghost begins = { λ v exchanges w. (answer : Answer) × (exchanges ≡ (Add v.own, answer) ∷ []) × (w ≡ v) };
+    ghost begins = { λ v exchanges w. AsksToAdd v.own exchanges × (w ≡ v) };
 
-    ghost serves = { λ v event exchanges w. (exchanges ≡ []) × (w ≡ record v { seen = next_count v.seen }) };
+    ghost serves = { λ v event exchanges w. AsksNothing exchanges × (w ≡ record v { seen = next_count v.seen }) };
 
     fn process<P: EventPoller>(&mut self, _events: Events, _ops: &mut EventOps<P>) {
         self.seen = self.seen.saturating_add(1);
@@ -40,12 +39,12 @@ pub struct Leaving {
 }
 
 impl MutEventSubscriber for Leaving {
-    ghost use Rattle.std.specs.Prelude.{◌≡◌, [], ◌==◌, MatchBool};
-    ghost use Rattle.event_manager.specs.Exchange.{AsksToAdd, AsksToRemove};
+    ghost use Rattle.std.specs.Prelude.{◌==◌, MatchBool};
+    ghost use Rattle.event_manager.specs.Exchange.{AsksNothing, AsksToAdd, AsksToRemove};
 
     ghost begins = { λ v exchanges w. AsksToAdd v.own exchanges };
 
-    ghost serves = { λ v event exchanges w. MatchBool (event.set == 16) (AsksToRemove event exchanges) (exchanges ≡ []) };
+    ghost serves = { λ v event exchanges w. MatchBool (event.set == 16) (AsksToRemove event exchanges) (AsksNothing exchanges) };
 
     fn process<P: EventPoller>(&mut self, events: Events, ops: &mut EventOps<P>) {
         self.seen = self.seen.saturating_add(1);
@@ -67,12 +66,12 @@ pub struct Numbered {
 }
 
 impl MutEventSubscriber for Numbered {
-    ghost use Rattle.std.specs.Prelude.{◌≡◌, [], ◌==◌, MatchBool};
-    ghost use Rattle.event_manager.specs.Exchange.{AsksToAdd, AsksToRemove};
+    ghost use Rattle.std.specs.Prelude.{◌==◌, MatchBool};
+    ghost use Rattle.event_manager.specs.Exchange.{AsksNothing, AsksToAdd, AsksToRemove};
 
     ghost begins = { λ v exchanges w. AsksToAdd v.own exchanges };
 
-    ghost serves = { λ v event exchanges w. MatchBool (event.payload == 0) (AsksToRemove event exchanges) (exchanges ≡ []) };
+    ghost serves = { λ v event exchanges w. MatchBool (event.payload == 0) (AsksToRemove event exchanges) (AsksNothing exchanges) };
 
     fn process<P: EventPoller>(&mut self, events: Events, ops: &mut EventOps<P>) {
         self.seen = self.seen.saturating_add(1);
