@@ -13,6 +13,7 @@ pub mod LentSteps
 pub mod Accounts
 pub mod QueueLemmas
 pub mod JobLemmas
+pub mod UnknownIds
 pub mod TraceSoFar
 pub mod OneStep
 pub use Rattle.event_loop.proofs.ExchangeLemmas
