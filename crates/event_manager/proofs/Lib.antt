@@ -15,6 +15,7 @@ pub mod QueueLemmas
 pub mod JobLemmas
 pub mod UnknownIds
 pub mod TraceSoFar
+pub mod CallsApart
 pub mod OneStep
 pub use Rattle.event_loop.proofs.ExchangeLemmas
 pub use Rattle.event_loop.proofs.RequestsSoFar
