@@ -11,11 +11,17 @@ use Rattle.event_loop.specs.declared.error.Error.{Error}
 use Rattle.event_loop.specs.declared.error.Error.TheVariants.{InvalidId}
 use Rattle.event_manager.specs.Trace.{Effect, Stepped, Iterated, Entry, Matches, HasEffect, IsTrace, calls_of_effect, calls_of_trace}
 use Rattle.event_manager.specs.Driven.{IsAsk, IsReplacement, HasCalled, IsTraceOf, IsDriven}
+use Rattle.event_manager.specs.Guarantees.{RemovedStayUnknown}
 use Rattle.event_manager.specs.declared.calls.Call.{Call}
 use Rattle.event_manager.specs.declared.calls.Call.TheVariants as call
 use Rattle.event_manager.specs.declared.calls.Reply.{Reply}
 use Rattle.event_manager.specs.declared.calls.Reply.TheVariants as reply
 use Rattle.event_manager.proofs.TraceSoFar.{driven_by}
+
+-- this holds of a list with one reply to each of the calls
+abbrev pub HasReplies : {V : Type 0} → List (Call V) → (List (Reply V) → Type 0) → Type 0
+HasReplies [] holds = holds []
+HasReplies {V} (c ∷ calls) holds = (r : Reply V) × HasReplies calls (λ replies. holds (r ∷ replies))
 
 module _ {S J R : Type 0} (begins : S → Exchanges → S → Type 0) (serves : S → Event → Exchanges → S → Type 0) (may : J → List (Step S) → R → Type 0) where
   module _ {P : Type 0} (controls : Controls P) (waits : Waits P) where
@@ -44,6 +50,10 @@ has_first (entry ∷ rest) are = (entry, rest, refl)
 has_none : {S J R : Type 0} (trace : List (Entry S J R)) → map (λ e. e.call) trace ≡ [] → trace ≡ []
 has_none [] are = refl
 has_none {S} (entry ∷ rest) are = let s : ◌≡◌ {A = List (Call S)} (entry.call ∷ map (λ e. e.call) rest) [] = are in cc
+
+replied_in : {S J R : Type 0} (trace : List (Entry S J R)) (holds : List (Reply S) → Type 0) → holds (map (λ e. e.reply) trace) → HasReplies (map (λ e. e.call) trace) holds
+replied_in [] holds h = h
+replied_in (entry ∷ trace) holds h = (entry.reply, replied_in trace (λ replies. holds (entry.reply ∷ replies)) h)
 
 module _ {P : Type 0} (controls : Controls P) (waits : Waits P) where
   leads_apart : (before : P) (first more : List PollerCall) (after : P) → Leads controls waits before (first ++ more) after → (mid : P) × Leads controls waits before first mid × Leads controls waits mid more after
@@ -102,3 +112,14 @@ module _ {S J R P : Type 0} {begins : S → Exchanges → S → Type 0} {serves 
   none_called {before} {after} {replies} driven =
       let of = subst (λ es. IsTraceOf begins serves may controls waits before [] replies after es) (has_none driven.trace driven.is_trace_of.calls_are) driven.is_trace_of in
       (sym of.replies_are, λ k. record { registry = (of.is_trace k).registry; taken = (of.is_trace k).taken; poller = of.led k; capacity = of.same_capacity k })
+
+  -- what holds of the replies to known calls
+  pub with_replies : {before after : LoopState S P} {calls known : List (Call S)} {replies : List (Reply S)} → IsDriven begins serves may controls waits before calls replies after → calls ≡ known → (holds : List (Reply S) → Type 0) → holds replies → HasReplies known holds
+  with_replies driven are holds h =
+      let of = driven.is_trace_of in
+      subst (λ cs. HasReplies cs holds) (of.calls_are ∙ are) (replied_in driven.trace holds (subst holds (sym of.replies_are) h))
+
+  -- the replies to known calls: what was removed is unknown
+  pub unknown_to : {before after : LoopState S P} {calls known : List (Call S)} {replies : List (Reply S)} → IsDriven begins serves may controls waits before calls replies after → calls ≡ known → AreBelow before.registry.next before.registry.values
+      → HasReplies known (λ told. (replies ≡ told) × RemovedStayUnknown known told)
+  unknown_to {known = known} {replies} driven are below = with_replies driven are (λ told. (replies ≡ told) × RemovedStayUnknown known told) (refl, subst (λ cs. RemovedStayUnknown cs replies) are (driven.unknown below))
