@@ -2,13 +2,20 @@
 
 use crate::driving::{replies_to, told_by_quiet, two_ids};
 use crate::expecting::{expect_ok, expect_same};
+use crate::leaving::remove_then_ask;
 use crate::subscribers::{Quiet, wanted};
-use crate::told::Told;
+use crate::told::{Told, tell};
+use event_manager::drive::drive;
 use event_manager::{
-    Call, Error, EventOps, EventPoller, Events, MutEventSubscriber, Reply, Request,
+    Call, Error, EventManager, EventOps, EventPoller, Events, MutEventSubscriber, Naming, NoJob,
+    Reply, Request, Result, SubscriberOps,
 };
-use std::alloc::AllocError;
+use fixtures::making::{WithManager, with_manager};
+use fixtures::parts::silent_parts;
+use std::alloc::{AllocError, Global};
 use std::rc::Rc;
+use std::sync::Wait;
+use std::time::Clock;
 use vmm_sys::script_poller::ScriptPoller;
 
 #[test]
@@ -96,7 +103,7 @@ impl MutEventSubscriber for Counting {
     }
 }
 
-fn count_holders(held: &Rc<u64>) -> Result<Counting, AllocError> {
+fn count_holders(held: &Rc<u64>) -> std::result::Result<Counting, AllocError> {
     Ok(Counting {
         held: held.clone()?,
         holders: 0,
@@ -123,4 +130,53 @@ fn a_refused_set_drops_the_new_value_before_the_next_call(rt: HostRuntime) {
     };
     // The test's and its own.
     expect_same(&rt, &left.holders, &2);
+}
+
+/// Joins one and makes requests for it in one list, by the id that the join will give; then lets it leave.
+#[derive(Drop)]
+struct JoinAndLeave<'a, R> {
+    rt: &'a R,
+    alloc: Global,
+}
+
+impl<R: Wait + Clock> WithManager for JoinAndLeave<'_, R> {
+    type Subscriber = Quiet;
+
+    type Output = Vec<Reply<Quiet>>;
+
+    fn run<N: Naming, P: EventPoller>(
+        self,
+        manager: &mut EventManager<Quiet, NoJob, N, P>,
+    ) -> Result<Vec<Reply<Quiet>>> {
+        let JoinAndLeave { rt, alloc } = self;
+        let id = manager.next_id();
+        let requests = vec![in alloc; Request::Add(wanted(3))]?;
+        let calls = vec![in alloc; Call::Add(Quiet(11)), Call::Ask(id, requests)]?;
+        let mut replies = Vec::new(alloc);
+        drive(manager, calls, &mut replies, rt)?;
+        let requests = vec![in alloc; Request::Add(wanted(4))]?;
+        remove_then_ask(alloc, manager, id, requests, &mut replies, rt)?;
+        Ok(replies)
+    }
+}
+
+#[test]
+fn a_call_names_the_id_that_an_earlier_one_gives(rt: HostRuntime) {
+    let parts = silent_parts(rt, rt.alloc(), ScriptPoller::new(rt.alloc()));
+    let body = JoinAndLeave {
+        rt: &rt,
+        alloc: rt.alloc(),
+    };
+    let replies = expect_ok(&rt, with_manager(expect_ok(&rt, parts), body));
+    let agreed = expect_ok(&rt, vec![in rt.alloc(); Ok(())]);
+    let expected = expect_ok(
+        &rt,
+        vec![in rt.alloc();
+            Told::Added(Ok(1)),
+            Told::Asked(Ok(agreed)),
+            Told::Removed(Ok(11)),
+            Told::Asked(Err(Error::InvalidId)),
+        ],
+    );
+    expect_same(&rt, &expect_ok(&rt, tell(rt.alloc(), replies)), &expected);
 }

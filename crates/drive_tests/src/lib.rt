@@ -1,4 +1,4 @@
-//! Tests of lists of calls, over a script.
+//! Tests of lists of calls, over a script, and a program's own contract over one.
 #![tactic(auto)]
 
 #[cfg(test)]
@@ -7,6 +7,7 @@ mod driving;
 mod expecting;
 #[cfg(test)]
 mod ids;
+pub mod leaving;
 #[cfg(test)]
 mod lists;
 #[cfg(test)]

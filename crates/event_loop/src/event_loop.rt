@@ -97,6 +97,10 @@ impl<S: MutEventSubscriber + Drop, P: EventPoller> SubscriberOps for EventLoop<S
         self.registry.add_subscriber(subscriber)
     }
 
+    fn next_id(&self) -> SubscriberId {
+        self.registry.next_id()
+    }
+
     fn remove_subscriber(&mut self, id: SubscriberId) -> Result<S> {
         self.registry.remove_subscriber(id)
     }

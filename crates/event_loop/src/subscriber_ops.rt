@@ -38,6 +38,12 @@ pub trait SubscriberOps {
         ensures { (step : Step Self.Subscriber) × IsJoin subscriber result step
             × HasStepped Self.Subscriber.begins Self.Poller.controls Self.Poller.waits (seen self.old) step (seen self.new) };
 
+    /// The id that the next `add_subscriber` gives where it isn't refused, for calls that are to name it before it is given.
+    ///
+    /// Where its number is `u64::MAX` the ids are used up: it is never given, and each join is refused with `IdsUsedUp`.
+    fn next_id(&self) -> SubscriberId
+        ensures { result ≡ (seen self.now).registry.next };
+
     /// Takes the subscriber of the id out, and answers it. The poller is asked one Delete (with the empty set, data 0 and
     /// descriptor 0 as event) for each of its descriptors; the answers are ignored, and all its descriptors are free.
     /// The id is never given again. Takes no memory.
@@ -80,6 +86,10 @@ impl<S: MutEventSubscriber + Drop, P: EventPoller> SubscriberOps for Registry<S,
 
     fn add_subscriber(&mut self, subscriber: S) -> Result<SubscriberId> {
         self.join(subscriber)
+    }
+
+    fn next_id(&self) -> SubscriberId {
+        SubscriberId { number: self.next }
     }
 
     fn remove_subscriber(&mut self, id: SubscriberId) -> Result<S> {

@@ -25,7 +25,7 @@ use vmm_sys::errno::Errno;
 /// The number under which a registry holds a subscriber: 1 for the first, then one more each time, never again.
 #[derive(Clone, Copy, PartialEq, Eq, PartialOrd, Ord, Hash, Debug)]
 pub struct SubscriberId {
-    number: u64,
+    pub(crate) number: u64,
 }
 
 impl Model for SubscriberId {

@@ -13,7 +13,9 @@ pub mod LentSteps
 pub mod Accounts
 pub mod QueueLemmas
 pub mod JobLemmas
+pub mod UnknownIds
 pub mod TraceSoFar
+pub mod CallsApart
 pub mod OneStep
 pub use Rattle.event_loop.proofs.ExchangeLemmas
 pub use Rattle.event_loop.proofs.RequestsSoFar

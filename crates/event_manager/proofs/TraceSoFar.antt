@@ -9,7 +9,7 @@ use Rattle.event_loop.specs.Registry.{Step}
 use Rattle.event_loop.specs.Iteration.{ManagerState}
 use Rattle.event_loop.specs.LoopState.{LoopState, HasStepped, IsJoin, IsLeave, IsLoopIteration, manager_state}
 use Rattle.event_manager.specs.Trace.{Effect, Stepped, Iterated, Entry, Matches, HasEffect, IsTrace, calls_of_effect, calls_of_trace}
-use Rattle.event_manager.specs.Driven.{IsAsk, IsReplacement, HasCalled, IsGuaranteed, IsDriven}
+use Rattle.event_manager.specs.Driven.{IsAsk, IsReplacement, HasCalled, IsGuaranteed, IsTraceOf, IsDriven}
 use Rattle.event_loop.specs.declared.error.Error.{Error}
 use Rattle.event_loop.specs.declared.events.Request.{Request}
 use Rattle.event_manager.specs.declared.calls.Call.{Call}
@@ -21,6 +21,7 @@ use Rattle.event_manager.proofs.Isolation.{isolated_step, isolated_delivery, lef
 use Rattle.event_manager.proofs.Soundness.{trace_follows}
 use Rattle.event_manager.proofs.ProjectedTrace.{non_interference}
 use Rattle.event_manager.proofs.ProjectionKept.{projection_keeps}
+use Rattle.event_manager.proofs.UnknownIds.{removed_unknown}
 
 -- call and reply of each step are those of the call that made it
 module _ {V : Type 0} (J R : Type 0) where
@@ -100,14 +101,18 @@ module _ {S J R P : Type 0} (begins : S → Exchanges → S → Type 0) (serves 
         leave_frees = λ from onto i value calls h. left_frees begins from onto i value calls h;
       }
 
+  -- a trace is driven
+  pub driven_by : (before : LoopState S P) (trace : List (Entry S J R)) (after : LoopState S P) → IsTraceOf begins serves may controls waits before (map (λ e. e.call) trace) (map (λ e. e.reply) trace) after trace
+      → IsDriven begins serves may controls waits before (map (λ e. e.call) trace) (map (λ e. e.reply) trace) after
+  driven_by before trace after of =
+      let holds = guaranteed (manager_state before) trace (manager_state after) of.is_trace in
+      record { trace = trace; is_trace_of = of; guaranteed = holds; unknown = λ below. removed_unknown begins serves may (manager_state before) trace (manager_state after) of.is_trace (holds.removed below) }
+
   pub all_traced : (before after : LoopState S P) (calls : List (Call S)) (old replies : List (Reply S)) → IsTracedSoFar before after calls [] old replies
       → (new : List (Reply S)) × (replies ≡ old ++ new) × IsDriven begins serves may controls waits before calls new after
   all_traced before after calls old replies so_far = (
     map (λ e. e.reply) so_far.trace,
     so_far.replies_are,
-    record {
-      trace = so_far.trace;
-      is_trace_of = record { calls_are = sym (append-nil (map (λ e. e.call) so_far.trace)) ∙ so_far.calls_are; replies_are = refl; is_trace = so_far.is_trace; led = so_far.led; same_capacity = so_far.same_capacity };
-      guaranteed = guaranteed (manager_state before) so_far.trace (manager_state after) so_far.is_trace;
-    },
+    subst (λ cs. IsDriven begins serves may controls waits before cs (map (λ e. e.reply) so_far.trace) after) (sym (append-nil (map (λ e. e.call) so_far.trace)) ∙ so_far.calls_are)
+        (driven_by before so_far.trace after (record { calls_are = refl; replies_are = refl; is_trace = so_far.is_trace; led = so_far.led; same_capacity = so_far.same_capacity })),
   )

@@ -10,7 +10,7 @@ use Rattle.event_loop.specs.Iteration.{ManagerState}
 use Rattle.event_loop.specs.LoopState.{LoopState, manager_state}
 use Rattle.event_manager.specs.Trace.{Effect, Entry, HasEffect, IsTrace, calls_of_effect, calls_of_trace}
 use Rattle.event_manager.specs.Projection.{NonInterference, ProjectionKeeps, names}
-use Rattle.event_manager.specs.Guarantees.{IsSound, HavePriorities, AreGiven, RemovedStayGone, IsUntouched, FreesExactly, steps_of}
+use Rattle.event_manager.specs.Guarantees.{IsSound, HavePriorities, AreGiven, RemovedStayGone, RemovedStayUnknown, IsUntouched, FreesExactly, steps_of}
 use Rattle.event_loop.specs.declared.error.Error.{Error}
 use Rattle.event_loop.specs.declared.error.Error.TheVariants.{InvalidId}
 use Rattle.event_loop.specs.declared.events.Request.{Request}
@@ -70,8 +70,10 @@ module _ {S J R : Type 0} (begins : S → Exchanges → S → Type 0) (serves : 
         → (j : ℕ) → j ≢ i → IsUntouched j (record from { registrations = record from.registrations { pending = still_pending earlier later } }) onto
     pub leave_frees : (from onto : Registry S) (i : ℕ) (value : S) (calls : List PollerCall) → Steps begins from (Left i value calls) onto → FreesExactly i from.registrations onto.registrations
 
-  -- the calls with their replies are a trace, of which the guarantees hold
+  -- The calls with their replies are a trace, of which the guarantees hold. By the replies alone, where each held id is below the next: what a call removed is unknown
+  -- from then on.
   pub record IsDriven {P : Type 0} (controls : Controls P) (waits : Waits P) (before : LoopState S P) (calls : List (Call S)) (replies : List (Reply S)) (after : LoopState S P) : Type 0 where
     pub trace : List (Entry S J R)
     pub is_trace_of : IsTraceOf controls waits before calls replies after trace
     pub guaranteed : IsGuaranteed (manager_state before) trace (manager_state after)
+    pub unknown : AreBelow before.registry.next before.registry.values → RemovedStayUnknown calls replies

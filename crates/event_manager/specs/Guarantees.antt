@@ -1,11 +1,17 @@
 -- What users rely on, of every trace.
-use Rattle.std.specs.Prelude.{◌≡◌, ◌≢◌, ℕ, ◌+◌, ◌≤◌, List, [], ◌∷◌, ◌++◌, filter, ◌↔◌, Option, Some, None, IfSome, MatchOption, if◌then◌else◌}
+use Rattle.std.specs.Prelude.{◌≡◌, ◌≢◌, ℕ, ◌+◌, ◌≤◌, List, [], ◌∷◌, ◌++◌, filter, ◌↔◌, Option, Some, None, IfSome, MatchOption, if◌then◌else◌, Ok, Err}
+use Rattle.std.specs.List.{AllZip}
 use Rattle.std.specs.FinMap as map
 use Rattle.dispatch_tables.specs.Event.{Event}
 use Rattle.event_loop.specs.Registrations.{Registrations, Owns, IsFree}
 use Rattle.event_loop.specs.Registry.{Registry, Step, HasId, is_id, acts_on, given_by, removed_by}
 use Rattle.event_loop.specs.Iteration.{JobRun}
+use Rattle.event_loop.specs.declared.error.Error.TheVariants.{InvalidId}
 use Rattle.event_manager.specs.Trace.{Effect, Stepped, Iterated, Entry}
+use Rattle.event_manager.specs.declared.calls.Call.{Call}
+use Rattle.event_manager.specs.declared.calls.Call.TheVariants as call
+use Rattle.event_manager.specs.declared.calls.Reply.{Reply}
+use Rattle.event_manager.specs.declared.calls.Reply.TheVariants as reply
 
 -- the pending events of id j: those on its descriptors
 abbrev pub pending_of : ℕ → Registrations → List Event
@@ -57,6 +63,21 @@ AreRefusedTo i (step ∷ steps) = IfSome (acts_on step) (λ id. id ≢ i) × Are
 abbrev pub RemovedStayGone : {V : Type 0} → List (Step V) → Type 0
 RemovedStayGone [] = Unit {0}
 RemovedStayGone (step ∷ steps) = IfSome (removed_by step) (λ id. AreRefusedTo id steps) × RemovedStayGone steps
+
+-- By its reply id i is unknown at the call: one of that id is refused with InvalidId, and no join is given it.
+abbrev pub IsUnknown : {V : Type 0} → ℕ → Call V → Reply V → Type 0
+IsUnknown i (call.Add value) r = r ≢ reply.Added (Ok i)
+IsUnknown i (call.Remove id) r = id ≡ i → r ≡ reply.Removed (Err InvalidId)
+IsUnknown i (call.Set id value) r = id ≡ i → r ≡ reply.Set (Err InvalidId)
+IsUnknown i (call.Ask id requests) r = id ≡ i → r ≡ reply.Asked (Err InvalidId)
+IsUnknown i (call.Run ms) r = Unit {0}
+
+-- there is a reply to each call, and an id that a call removed is unknown at each later one
+abbrev pub RemovedStayUnknown : {V : Type 0} → List (Call V) → List (Reply V) → Type 0
+RemovedStayUnknown [] replies = replies ≡ []
+RemovedStayUnknown (c ∷ calls) [] = ⊥
+RemovedStayUnknown {V} (c ∷ calls) (r ∷ replies) =
+    ((id : ℕ) (value : V) → c ≡ call.Remove id → r ≡ reply.Removed (Ok value) → AllZip (IsUnknown id) calls replies) × RemovedStayUnknown calls replies
 
 -- exactly the descriptors of id i became free
 abbrev pub FreesExactly : ℕ → Registrations → Registrations → Type 0

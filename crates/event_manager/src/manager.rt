@@ -144,6 +144,10 @@ impl<S: MutEventSubscriber + Drop, J: Job<S>, N: Naming, P: EventPoller> Subscri
         self.registry.add_subscriber(subscriber)
     }
 
+    fn next_id(&self) -> SubscriberId {
+        self.registry.next_id()
+    }
+
     fn remove_subscriber(&mut self, id: SubscriberId) -> Result<S> {
         self.registry.remove_subscriber(id)
     }

@@ -1,0 +1,125 @@
+-- A list of calls that was driven, taken apart: each call did what the single call promises.
+use Rattle.std.proofs.Common.{◌≡◌, ℕ, ℤ, List, [], ◌∷◌, ◌++◌, refl, sym, ap, subst, ◌∙◌, map, Vec, Result, Ok, Err}
+use Rattle.std.specs.declared.alloc.Global.{Global}
+use Rattle.dispatch_tables.specs.Event.{Event}
+use Rattle.event_loop.specs.PollerCall.{PollerCall, Control, Wait, Controls, Waits, Leads}
+use Rattle.event_loop.specs.Exchange.{Exchanges, Answer}
+use Rattle.event_loop.specs.Registry.{Step, Joined, NotJoined, Left, NotLeft, Replaced, NotReplaced, Requested, NotRequested, AreBelow}
+use Rattle.event_loop.specs.Iteration.{ManagerState, answer_of}
+use Rattle.event_loop.specs.LoopState.{LoopState, HasStepped, IsJoin, IsLeave, IsLoopIteration, manager_state}
+use Rattle.event_loop.specs.declared.error.Error.{Error}
+use Rattle.event_loop.specs.declared.error.Error.TheVariants.{InvalidId}
+use Rattle.event_manager.specs.Trace.{Effect, Stepped, Iterated, Entry, Matches, HasEffect, IsTrace, calls_of_effect, calls_of_trace}
+use Rattle.event_manager.specs.Driven.{IsAsk, IsReplacement, HasCalled, IsTraceOf, IsDriven}
+use Rattle.event_manager.specs.Guarantees.{RemovedStayUnknown}
+use Rattle.event_manager.specs.declared.calls.Call.{Call}
+use Rattle.event_manager.specs.declared.calls.Call.TheVariants as call
+use Rattle.event_manager.specs.declared.calls.Reply.{Reply}
+use Rattle.event_manager.specs.declared.calls.Reply.TheVariants as reply
+use Rattle.event_manager.proofs.TraceSoFar.{driven_by}
+
+-- this holds of a list with one reply to each of the calls
+abbrev pub HasReplies : {V : Type 0} → List (Call V) → (List (Reply V) → Type 0) → Type 0
+HasReplies [] holds = holds []
+HasReplies {V} (c ∷ calls) holds = (r : Reply V) × HasReplies calls (λ replies. holds (r ∷ replies))
+
+module _ {S J R : Type 0} (begins : S → Exchanges → S → Type 0) (serves : S → Event → Exchanges → S → Type 0) (may : J → List (Step S) → R → Type 0) where
+  module _ {P : Type 0} (controls : Controls P) (waits : Waits P) where
+    -- the call was made by itself, and had this reply
+    abbrev pub IsCalled : LoopState S P → Call S → Reply S → LoopState S P → Type 0
+    IsCalled before (call.Add value) r after = (result : Result ℕ Error) × (r ≡ reply.Added result) × (step : Step S) × IsJoin value result step × HasStepped begins controls waits before step after
+    IsCalled before (call.Remove id) r after = (result : Result S Error) × (r ≡ reply.Removed result) × (step : Step S) × IsLeave id result step × HasStepped begins controls waits before step after
+    IsCalled before (call.Set id value) r after = (result : Result S Error) × (r ≡ reply.Set result) × (step : Step S) × IsReplacement id value result step × HasStepped begins controls waits before step after
+    IsCalled before (call.Ask id requests) r after =
+        (result : Result (Vec Answer Global) Error) × (r ≡ reply.Asked result) × (step : Step S) × IsAsk id requests.items result step × HasStepped begins controls waits before step after
+    IsCalled before (call.Run ms) r after = (result : Result ℕ Error) × (r ≡ reply.Ran result) × IsLoopIteration begins serves may controls waits before ms result after
+
+    -- the first of the calls was made, and then the others
+    pub record AreCalled (before : LoopState S P) (c : Call S) (calls : List (Call S)) (replies : List (Reply S)) (after : LoopState S P) : Type 0 where
+      pub reply : Reply S
+      pub others : List (Reply S)
+      pub replies_are : replies ≡ reply ∷ others
+      pub between : LoopState S P
+      pub first : IsCalled before c reply between
+      pub driven : IsDriven begins serves may controls waits between calls others after
+
+has_first : {S J R : Type 0} {c : Call S} {calls : List (Call S)} (trace : List (Entry S J R)) → map (λ e. e.call) trace ≡ c ∷ calls → (entry : Entry S J R) × (rest : List (Entry S J R)) × (trace ≡ entry ∷ rest)
+has_first {S} {c = c} {calls = calls} [] are = let s : ◌≡◌ {A = List (Call S)} [] (c ∷ calls) = are in cc
+has_first (entry ∷ rest) are = (entry, rest, refl)
+
+has_none : {S J R : Type 0} (trace : List (Entry S J R)) → map (λ e. e.call) trace ≡ [] → trace ≡ []
+has_none [] are = refl
+has_none {S} (entry ∷ rest) are = let s : ◌≡◌ {A = List (Call S)} (entry.call ∷ map (λ e. e.call) rest) [] = are in cc
+
+replied_in : {S J R : Type 0} (trace : List (Entry S J R)) (holds : List (Reply S) → Type 0) → holds (map (λ e. e.reply) trace) → HasReplies (map (λ e. e.call) trace) holds
+replied_in [] holds h = h
+replied_in (entry ∷ trace) holds h = (entry.reply, replied_in trace (λ replies. holds (entry.reply ∷ replies)) h)
+
+module _ {P : Type 0} (controls : Controls P) (waits : Waits P) where
+  leads_apart : (before : P) (first more : List PollerCall) (after : P) → Leads controls waits before (first ++ more) after → (mid : P) × Leads controls waits before first mid × Leads controls waits mid more after
+  leads_apart before [] more after h = (before, refl, h)
+  leads_apart before (Control operation fd event answer ∷ first) more after (next, did, rest) = let k = leads_apart next first more after rest in (k.0, (next, did, k.1), k.2)
+  leads_apart before (Wait ms capacity answer ∷ first) more after (next, did, within, rest) = let k = leads_apart next first more after rest in (k.0, (next, did, within, k.1), k.2)
+
+module _ {S J R P : Type 0} {begins : S → Exchanges → S → Type 0} {serves : S → Event → Exchanges → S → Type 0} {may : J → List (Step S) → R → Type 0} {controls : Controls P} {waits : Waits P} where
+  stepped : {before after : LoopState S P} (step : Step S) → HasCalled begins serves may controls waits before (Stepped step) after → HasStepped begins controls waits before step after
+  stepped step did = record { stepped = did.had.0; led = did.led; same_taken = did.had.1; same_capacity = did.same_capacity }
+
+  -- a call that matches an effect did what the single call promises
+  pub called_alone : (before : LoopState S P) (effect : Effect S J R) (c : Call S) (r : Reply S) (after : LoopState S P) → Matches effect c r → HasCalled begins serves may controls waits before effect after → IsCalled begins serves may controls waits before c r after
+  called_alone before (Stepped (Joined value id exchanges calls held)) c r after m did = rw m.0 (Ok id, m.1, Joined value id exchanges calls held, (exchanges, calls, held, refl), stepped _ did)
+  called_alone before (Stepped (NotJoined value error)) c r after m did = rw m.0 (Err error, m.1, NotJoined value error, refl, stepped _ did)
+  called_alone before (Stepped (Left id value calls)) c r after m did = rw m.0 (Ok value, m.1, Left id value calls, (calls, refl), stepped _ did)
+  called_alone before (Stepped (NotLeft id)) c r after m did = rw m.0 (Err InvalidId, m.1, NotLeft id, (refl, refl), stepped _ did)
+  called_alone before (Stepped (Replaced id old new)) c r after m did = rw m.0 (Ok old, m.1, Replaced id old new, refl, stepped _ did)
+  called_alone before (Stepped (NotReplaced id)) c r after m did = rw m.1 (Err InvalidId, m.2, NotReplaced id, (refl, refl), stepped _ did)
+  called_alone before (Stepped (Requested id exchanges calls)) c r after m did = rw m.2 (Ok m.1, m.3, Requested id exchanges calls, (exchanges, calls, refl, m.4, m.5), stepped _ did)
+  called_alone before (Stepped (NotRequested id)) c r after m did = rw m.1 (Err InvalidId, m.2, NotRequested id, (refl, refl), stepped _ did)
+  called_alone before (Iterated iteration) c r after m did = rw m.0 (answer_of iteration.waited, m.1, record { iteration = iteration; milliseconds = refl; answer = refl; iterated = did.had; led = did.led; same_capacity = did.same_capacity })
+
+  called_at : (before after : LoopState S P) (a c : Call S) (others calls : List (Call S)) (told replies : List (Reply S)) → a ∷ others ≡ c ∷ calls → told ≡ replies → AreCalled begins serves may controls waits before a others told after → AreCalled begins serves may controls waits before c calls replies after
+  called_at before after a c others calls told replies are_calls are_replies called =
+      let is : a ≡ c = cc are_calls in
+      let are : others ≡ calls = cc are_calls in
+      subst (λ rs. AreCalled begins serves may controls waits before c calls rs after) are_replies (subst (λ cs. AreCalled begins serves may controls waits before c cs told after) are (subst (λ x. AreCalled begins serves may controls waits before x others told after) is called))
+
+  entry_called : (before : LoopState S P) (entry : Entry S J R) (trace : List (Entry S J R)) (mid : ManagerState S) (after : LoopState S P) → Matches entry.effect entry.call entry.reply → HasEffect begins serves may (manager_state before) entry.effect mid → IsTrace begins serves may mid trace (manager_state after)
+      → Leads controls waits before.poller (calls_of_effect before.capacity entry.effect ++ calls_of_trace before.capacity trace) after.poller → after.capacity ≡ before.capacity → AreCalled begins serves may controls waits before entry.call (map (λ e. e.call) trace) (entry.reply ∷ map (λ e. e.reply) trace) after
+  entry_called before entry trace mid after matches had more led same =
+      let apart = leads_apart controls waits before.poller (calls_of_effect before.capacity entry.effect) (calls_of_trace before.capacity trace) after.poller led in
+      let between : LoopState S P = record { registry = mid.registry; taken = mid.taken; poller = apart.0; capacity = before.capacity } in
+      record {
+        reply = entry.reply;
+        others = map (λ e. e.reply) trace;
+        replies_are = refl;
+        between = between;
+        first = called_alone before entry.effect entry.call entry.reply between matches (record { had = had; led = apart.1; same_capacity = refl });
+        driven = driven_by begins serves may controls waits between trace after (record { calls_are = refl; replies_are = refl; is_trace = more; led = apart.2; same_capacity = same });
+      }
+
+  traced : (before : LoopState S P) (c : Call S) (calls : List (Call S)) (replies : List (Reply S)) (after : LoopState S P) (entry : Entry S J R) (trace : List (Entry S J R)) → IsTraceOf begins serves may controls waits before (c ∷ calls) replies after (entry ∷ trace) → AreCalled begins serves may controls waits before c calls replies after
+  traced before c calls replies after entry trace of =
+      called_at before after entry.call c _ calls _ replies of.calls_are of.replies_are (entry_called before entry trace of.is_trace.0 after of.is_trace.1 of.is_trace.2 of.is_trace.3 of.led of.same_capacity)
+
+  -- the first call, and the others
+  pub first_called : {before after : LoopState S P} {c : Call S} {calls : List (Call S)} {replies : List (Reply S)} → IsDriven begins serves may controls waits before (c ∷ calls) replies after → AreCalled begins serves may controls waits before c calls replies after
+  first_called {before} {after} {c} {calls} {replies} driven =
+      let t = has_first driven.trace driven.is_trace_of.calls_are in
+      traced before c calls replies after t.0 t.1 (subst (λ es. IsTraceOf begins serves may controls waits before (c ∷ calls) replies after es) t.2 driven.is_trace_of)
+
+  -- no call
+  pub none_called : {before after : LoopState S P} {replies : List (Reply S)} → IsDriven begins serves may controls waits before [] replies after → (replies ≡ []) × (after ≡ before)
+  none_called {before} {after} {replies} driven =
+      let of = subst (λ es. IsTraceOf begins serves may controls waits before [] replies after es) (has_none driven.trace driven.is_trace_of.calls_are) driven.is_trace_of in
+      (sym of.replies_are, λ k. record { registry = (of.is_trace k).registry; taken = (of.is_trace k).taken; poller = of.led k; capacity = of.same_capacity k })
+
+  -- what holds of the replies to known calls
+  pub with_replies : {before after : LoopState S P} {calls known : List (Call S)} {replies : List (Reply S)} → IsDriven begins serves may controls waits before calls replies after → calls ≡ known → (holds : List (Reply S) → Type 0) → holds replies → HasReplies known holds
+  with_replies driven are holds h =
+      let of = driven.is_trace_of in
+      subst (λ cs. HasReplies cs holds) (of.calls_are ∙ are) (replied_in driven.trace holds (subst holds (sym of.replies_are) h))
+
+  -- the replies to known calls: what was removed is unknown
+  pub unknown_to : {before after : LoopState S P} {calls known : List (Call S)} {replies : List (Reply S)} → IsDriven begins serves may controls waits before calls replies after → calls ≡ known → AreBelow before.registry.next before.registry.values
+      → HasReplies known (λ told. (replies ≡ told) × RemovedStayUnknown known told)
+  unknown_to {known = known} {replies} driven are below = with_replies driven are (λ told. (replies ≡ told) × RemovedStayUnknown known told) (refl, subst (λ cs. RemovedStayUnknown cs replies) are (driven.unknown below))
