@@ -3,7 +3,7 @@
 use crate::expecting::expect_ok;
 use crate::subscribers::Quiet;
 use crate::told::{Told, tell};
-use event_manager::drive::drive;
+use event_manager::drive;
 use event_manager::{
     Call, EventManager, EventPoller, MutEventSubscriber, Naming, NoJob, Reply, Result, SubscriberId,
 };

@@ -5,7 +5,7 @@ use crate::expecting::{expect_ok, expect_same};
 use crate::leaving::remove_then_ask;
 use crate::subscribers::{Quiet, wanted};
 use crate::told::{Told, tell};
-use event_manager::drive::drive;
+use event_manager::drive;
 use event_manager::{
     Call, Error, EventManager, EventOps, EventPoller, Events, MutEventSubscriber, Naming, NoJob,
     Reply, Request, Result, SubscriberOps,

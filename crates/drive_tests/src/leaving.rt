@@ -7,7 +7,7 @@ ghost use Rattle.event_manager.specs.Error.TheVariants.{InvalidId};
 ghost use Rattle.event_manager.specs.declared.calls.Reply.{Reply};
 ghost use Rattle.event_manager.specs.declared.calls.Reply.TheVariants.{Removed, Asked};
 
-use event_manager::drive::drive;
+use event_manager::drive;
 use event_manager::{
     Call, EventManager, EventPoller, Job, MutEventSubscriber, Naming, Reply, Request, Result,
     SubscriberId,

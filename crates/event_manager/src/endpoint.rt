@@ -115,10 +115,8 @@ impl<S: MutEventSubscriber, J: Job<S>, N: Naming> RemoteEndpoint<S, J, N> {
     pub fn try_clone(&self) -> Result<Self>
         ensures refusals { IfErr result (λ e. e ≡ OutOfMemory) }
     {
-        match Arc::try_clone(&self.channel) {
-            Ok(channel) => Ok(RemoteEndpoint { channel }),
-            Err(_) => Err(Error::OutOfMemory),
-        }
+        let channel = Arc::try_clone(&self.channel)?;
+        Ok(RemoteEndpoint { channel })
     }
 
     /// How many jobs wait; `None` where the queue's lock is held at this moment. It waits for nobody, and takes no memory.

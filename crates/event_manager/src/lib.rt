@@ -6,15 +6,14 @@
 //! jobs that a [`RemoteEndpoint`] has sent, each once. What needs no jobs stands in `event_loop`, and is handed out here.
 #![tactic(auto)]
 
-pub mod calls;
-pub mod drive;
-pub mod endpoint;
+mod calls;
+mod endpoint;
 pub mod jobs;
 pub mod laws;
-pub mod manager;
+mod manager;
 mod senders;
 
-pub use calls::{Call, Reply};
+pub use calls::{Call, Reply, drive};
 pub use endpoint::RemoteEndpoint;
 pub use endpoint::closed::Closed;
 pub use event_loop::{

@@ -70,9 +70,7 @@ impl<S: MutEventSubscriber, J: Job<S>, N: Naming, P: EventPoller> EventManager<S
             return Err(Error::InvalidCapacity);
         }
         let events = Events::new(&event_fd, EventSet::IN);
-        let Ok(channel) = EventManagerChannel::new(alloc, event_fd, ledgers) else {
-            return Err(Error::OutOfMemory);
-        };
+        let channel = EventManagerChannel::new(alloc, event_fd, ledgers)?;
         let registry = Registry::new(alloc, poller, events, capacity)?;
         Ok(EventManager { registry, channel })
     }

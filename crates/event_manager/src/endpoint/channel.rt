@@ -89,10 +89,8 @@ impl<S: MutEventSubscriber, J: Job<S>, N: Naming> EventManagerChannel<S, J, N> {
     pub(crate) fn remote_endpoint(&self) -> Result<RemoteEndpoint<S, J, N>>
         ensures refusals { IfErr result (λ e. e ≡ Error.OutOfMemory) }
     {
-        match Arc::try_clone(&self.channel) {
-            Ok(channel) => Ok(RemoteEndpoint { channel }),
-            Err(_) => Err(Error::OutOfMemory),
-        }
+        let channel = Arc::try_clone(&self.channel)?;
+        Ok(RemoteEndpoint { channel })
     }
 
     /// Reads the `EventFd`, takes all jobs that wait, and runs them in the order of their tickets. The lock of the queue

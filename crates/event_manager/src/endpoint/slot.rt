@@ -119,11 +119,7 @@ pub(crate) fn new_slot<S: MutEventSubscriber, J: Job<S>>(
 ) -> Result<(ReplySender<S, J>, ReplyReceiver<S, J>)>
     ensures { IfErr result (λ e. e ≡ OutOfMemory) }
 {
-    let Ok(own) = Arc::new(alloc, Slot::new()) else {
-        return Err(Error::OutOfMemory);
-    };
-    match Arc::try_clone(&own) {
-        Ok(theirs) => Ok((ReplySender { slot: theirs }, ReplyReceiver { slot: own })),
-        Err(_) => Err(Error::OutOfMemory),
-    }
+    let own = Arc::new(alloc, Slot::new())?;
+    let theirs = Arc::try_clone(&own)?;
+    Ok((ReplySender { slot: theirs }, ReplyReceiver { slot: own }))
 }

@@ -64,9 +64,7 @@ fn move_all<J: Drop>(out: &mut Vec<Entry<J, ()>>, taken: &mut Vec<(u64, J)>) -> 
         },
     ) = out.pop()
     {
-        if taken.push((ticket, job)).is_err() {
-            return Err(Error::OutOfMemory);
-        }
+        taken.push((ticket, job))?;
     }
     Ok(())
 }

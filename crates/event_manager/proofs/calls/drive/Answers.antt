@@ -2,12 +2,12 @@ use Rattle.std.proofs.Common.{ap, ◌∙◌, map, reverse, [], ◌∷◌, arith}
 use Rattle.std.proofs.lemmas.List.{nil_from_length, reverse-append}
 use Rattle.event_manager.specs.Manager.{state_of}
 use Rattle.event_manager.proofs.TraceSoFar.{none_traced, one_more_traced, all_traced}
-use Rattle.event_manager.proofs.drive.drive.Goals as goal
+use Rattle.event_manager.proofs.calls.drive.Goals as goal
 
 pub loop-planned-init : goal.loop-planned-init
 loop-planned-init g c = record {
-  so_far = none_traced g.S.MutEventSubscriber.begins g.S.MutEventSubscriber.serves g.J.Job.may g.P.EventPoller.controls g.P.EventPoller.waits (state_of c.args.manager.now) (map (λ p. p.call) (reverse c.in-Ok-plan_all.plan.items)) c.reserve.new.self.items;
-  room = omega (arith, c.in-Ok.ensures.ok, c.in-Ok-plan_all.ensures.count, c.len.ensures);
+  so_far = none_traced g.S.MutEventSubscriber.begins g.S.MutEventSubscriber.serves g.J.Job.may g.P.EventPoller.controls g.P.EventPoller.waits (state_of c.args.manager.now) (map (λ p. p.call) (reverse c.in_ok-plan.plan.items)) c.reserve.new.self.items;
+  room = omega (arith, c.in_ok-reserve.ensures.ok, c.in_ok-plan.ensures.count, c.len.ensures);
 }
 
 pub loop-planned-preserved : goal.loop-planned-preserved
@@ -24,7 +24,7 @@ loop-planned-preserved g c =
 
 pub returns-clause-driven : goal.returns-clause-driven
 returns-clause-driven g c =
-    let none = nil_from_length c.loop-planned.plan.items (omega (arith, c.in_default-pop.ensures.cases)) in
+    let none = nil_from_length c.loop-planned.plan.items (omega (arith, c.in_default.ensures.cases)) in
     let here = rw none at c.loop-planned.invariant.so_far in
     let all = all_traced g.S.MutEventSubscriber.begins g.S.MutEventSubscriber.serves g.J.Job.may g.P.EventPoller.controls g.P.EventPoller.waits (state_of c.args.manager.now) (state_of c.loop-planned.manager) _ c.reserve.new.self.items c.loop-planned.replies.items here in
-    rw (← c.in-Ok-plan_all.ensures.calls, ← c.reserve.ensures.items) all
+    rw (← c.in_ok-plan.ensures.calls, ← c.reserve.ensures.items) all
