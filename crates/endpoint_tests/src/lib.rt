@@ -10,11 +10,15 @@ mod closes;
 #[cfg(test)]
 mod courses;
 #[cfg(test)]
+mod ending;
+#[cfg(test)]
 mod expecting;
 #[cfg(test)]
 mod gated;
 #[cfg(test)]
 mod looks;
+#[cfg(test)]
+mod loops;
 #[cfg(test)]
 mod meetings;
 #[cfg(test)]
