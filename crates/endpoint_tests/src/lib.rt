@@ -2,8 +2,6 @@
 #![tactic(auto)]
 
 #[cfg(test)]
-mod caller;
-#[cfg(test)]
 mod callers;
 #[cfg(test)]
 mod closes;
