@@ -12,9 +12,7 @@ use event_manager::{
 use fixtures::parts::{Idle, Parts, on_table, silent_parts};
 use std::alloc::Global;
 use std::process::Abort;
-use std::sync::Wait;
 use std::sync::atomic::{AtomicU64, Ordering};
-use std::time::Clock;
 use vmm_sys::epoll::{ControlOperation, Epoll, EpollEvent};
 use vmm_sys::errno::Errno;
 use vmm_sys::eventfd::EventFd;
