@@ -74,7 +74,7 @@ fn send_more<N: Naming, R: Looping>(
 }
 
 /// Closes the manager, of which so many tickets were issued and so many jobs taken.
-pub fn expect_close<N: Naming, P: EventPoller + Drop, R: Looping>(
+fn expect_close<N: Naming, P: EventPoller + Drop, R: Looping>(
     rt: &R,
     manager: EventManager<Idle, Work, N, P>,
     counts: (u64, u64),

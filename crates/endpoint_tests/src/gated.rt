@@ -3,13 +3,13 @@
 use crate::expecting::{
     expect_noted, expect_ok, expect_pending, expect_run_within, expect_same, fire_note,
 };
-use crate::meetings::{Kind, Loop, Sender, Shared, meet};
-use crate::threads::Host;
+use crate::meetings::{Endpoint, Kind, Loop, Shared, meet};
+use crate::threads::Looping;
 use crate::work::Work;
-use event_manager::Naming;
+use event_manager::{EventPoller, Naming};
 
 /// Sends a job that waits at the gate, and one that notes 2.
-pub fn fire_at_gate<N: Naming, R: Host>(rt: &R, endpoint: &Sender<N>, shared: &Shared) {
+pub fn fire_at_gate<N: Naming, R: Looping>(rt: &R, endpoint: &Endpoint<N>, shared: &Shared) {
     let gate = expect_ok(rt, shared.gate.clone());
     let notes = expect_ok(rt, shared.notes.clone());
     expect_ok(rt, endpoint.fire(Work::Pass(gate, notes), rt));
@@ -17,7 +17,7 @@ pub fn fire_at_gate<N: Naming, R: Host>(rt: &R, endpoint: &Sender<N>, shared: &S
 }
 
 /// Sends while a job waits at the gate and no other waits, and then lets it go on.
-pub fn send_meanwhile<N: Naming, R: Host>(rt: &R, endpoint: &Sender<N>, shared: &Shared) {
+pub fn send_meanwhile<N: Naming, R: Looping>(rt: &R, endpoint: &Endpoint<N>, shared: &Shared) {
     expect_same(rt, &shared.gate.wait_for(1, rt), &true);
     expect_pending(rt, endpoint, 0);
     expect_same(rt, &fire_note(rt, endpoint, &shared.notes, 3), &Ok(3));
@@ -25,7 +25,11 @@ pub fn send_meanwhile<N: Naming, R: Host>(rt: &R, endpoint: &Sender<N>, shared: 
 }
 
 /// Runs for the first two jobs, and then for the third.
-pub fn run_twice<N: Naming, R: Host>(rt: &R, manager: &mut Loop<N, R>, shared: &Shared) {
+pub fn run_twice<N: Naming, P: EventPoller, R: Looping>(
+    rt: &R,
+    manager: &mut Loop<N, P>,
+    shared: &Shared,
+) {
     expect_run_within(rt, manager, 1000, Ok(1));
     expect_noted(rt, &shared.notes, &[1, 2]);
     expect_run_within(rt, manager, 0, Ok(1));
@@ -34,5 +38,5 @@ pub fn run_twice<N: Naming, R: Host>(rt: &R, manager: &mut Loop<N, R>, shared: &
 
 #[test]
 fn lock_is_free_while_jobs_run(rt: HostRuntime) {
-    meet(&rt, rt.alloc(), 0, &Kind::AtGate);
+    meet(&rt, rt.alloc(), 0, Kind::AtGate, (3, 3));
 }

@@ -2,19 +2,21 @@
 #![tactic(auto)]
 
 #[cfg(test)]
-mod caller;
-#[cfg(test)]
 mod callers;
 #[cfg(test)]
 mod closes;
 #[cfg(test)]
 mod courses;
 #[cfg(test)]
+mod ending;
+#[cfg(test)]
 mod expecting;
 #[cfg(test)]
 mod gated;
 #[cfg(test)]
 mod looks;
+#[cfg(test)]
+mod loops;
 #[cfg(test)]
 mod meetings;
 #[cfg(test)]

@@ -1,28 +1,24 @@
 //! The loop's thread and a sender's, at a manager and an endpoint of it.
 
-ghost use Rattle.std.specs.Prelude.{◌≡◌};
-
-use crate::expecting::{expect_ok, expect_pending, new_notes};
-use crate::threads::Host;
+use crate::ending::{beside_senders, wait_until_ended};
+use crate::expecting::{expect_ok, expect_pending, expect_same, new_notes};
+use crate::threads::{Host, Looping};
 use crate::work::{Gate, Notes, Work};
 use crate::{closes, gated, looks};
-use event_manager::{EventManager, Ledgers, Naming, RemoteEndpoint};
-use fixtures::making::make;
-use fixtures::parts::{Idle, OnTable, on_table};
+use event_manager::{
+    EventManager, EventPoller, LoopWithSenders, Naming, RemoteEndpoint, Result, Sender, Senders,
+};
+use fixtures::parts::{Idle, on_table};
 use std::alloc::Global;
-use std::marker::Brand;
 use std::sync::Arc;
 use std::sync::atomic::AtomicBool;
-use std::sync::ledger::Blank;
-use std::thread;
-use vmm_sys::epoll::Epoll;
 
-pub type Loop<N, R> = EventManager<Idle, Work, N, Epoll<R>>;
+pub type Loop<N, P> = EventManager<Idle, Work, N, P>;
 
-pub type Sender<N> = RemoteEndpoint<Idle, Work, N>;
+pub type Endpoint<N> = RemoteEndpoint<Idle, Work, N>;
 
 /// What the two threads do.
-#[derive(Drop)]
+#[derive(Clone, Copy)]
 pub enum Kind {
     /// One sends while a job of the other's waits at the gate.
     AtGate,
@@ -40,97 +36,87 @@ pub struct Shared {
     pub is_over: AtomicBool,
 }
 
-/// What comes before the two.
-fn prepare<N: Naming, R: Host>(rt: &R, endpoint: &Sender<N>, shared: &Shared, kind: &Kind) {
-    match kind {
-        Kind::AtGate => gated::fire_at_gate(rt, endpoint, shared),
-        Kind::LooksBesideSends => looks::fill(rt, endpoint),
-        Kind::CloseBesideSends => {}
+/// Either of the two.
+#[derive(Clone, Copy)]
+struct Meeting<'a> {
+    shared: &'a Shared,
+    kind: Kind,
+}
+
+impl<R: Looping> Sender<Idle, Work, (), R> for Meeting<'_> {
+    fn send<N: Naming>(self, endpoint: &Endpoint<N>, rt: &R) {
+        let Meeting { shared, kind } = self;
+        match kind {
+            Kind::AtGate => gated::send_meanwhile(rt, endpoint, shared),
+            Kind::LooksBesideSends => looks::send_in_vain(rt, endpoint, shared),
+            Kind::CloseBesideSends => closes::send_round_a_close(rt, endpoint, shared),
+        }
     }
 }
 
-/// What the loop's thread does.
-fn on_loop<N: Naming, R: Host>(
+/// Expects that so many jobs wait once the sender has ended.
+fn expect_behind<N: Naming, R: Looping>(
     rt: &R,
-    manager: Loop<N, R>,
-    endpoint: &Sender<N>,
-    shared: &Shared,
-    kind: &Kind,
+    endpoint: &Endpoint<N>,
+    senders: &Senders,
+    pending: usize,
 ) {
-    let mut manager = manager;
-    match kind {
-        Kind::AtGate => gated::run_twice(rt, &mut manager, shared),
-        Kind::LooksBesideSends => looks::look(rt, endpoint, shared),
-        Kind::CloseBesideSends => closes::close_on_two(rt, manager, endpoint),
-    }
-}
-
-/// What the sender's thread does.
-fn beside<N: Naming, R: Host>(rt: &R, endpoint: &Sender<N>, shared: &Shared, kind: &Kind) {
-    match kind {
-        Kind::AtGate => gated::send_meanwhile(rt, endpoint, shared),
-        Kind::LooksBesideSends => looks::send_in_vain(rt, endpoint, shared),
-        Kind::CloseBesideSends => closes::send_round_a_close(rt, endpoint, shared),
-    }
-}
-
-/// What is so behind the two.
-fn expect_behind<N: Naming, R: Host>(rt: &R, endpoint: &Sender<N>, kind: &Kind) {
-    let pending = match kind {
-        Kind::LooksBesideSends => 1,
-        Kind::AtGate | Kind::CloseBesideSends => 0,
-    };
+    expect_same(rt, &wait_until_ended(rt, senders), &true);
     expect_pending(rt, endpoint, pending);
 }
 
-/// Both threads at once.
-fn join_both<N: Naming + Send + Sync, R: Host>(
-    rt: &R,
-    manager: Loop<N, R>,
-    endpoint: &Sender<N>,
-    shared: &Shared,
-    kind: &Kind,
-) {
-    thread::join(
-        rt,
-        || on_loop(rt, manager, endpoint, shared, kind),
-        || beside(rt, endpoint, shared, kind),
-    );
-}
+impl<'a, R: Looping> LoopWithSenders<Idle, Work, Meeting<'a>, R> for Meeting<'a> {
+    fn begin<N: Naming, P: EventPoller>(
+        &mut self,
+        rt: &R,
+        alloc: Global,
+        manager: &mut Loop<N, P>,
+    ) -> Result<Vec<Meeting<'a>>> {
+        let endpoint = manager.remote_endpoint()?;
+        match self.kind {
+            Kind::AtGate => gated::fire_at_gate(rt, &endpoint, self.shared),
+            Kind::LooksBesideSends => looks::fill(rt, &endpoint),
+            Kind::CloseBesideSends => {}
+        }
+        Ok(Vec::from_array(alloc, [*self])?)
+    }
 
-/// Lets the two meet at a manager of these parts.
-fn meet_on<N: Naming + Send + Sync, R: Host>(
-    rt: &R,
-    parts: OnTable<R>,
-    shared: &Shared,
-    kind: &Kind,
-    tickets: Blank,
-    taken: Blank,
-)
-    requires tickets { (tickets.name ≡ N.tickets) × (tickets.parts ≡ 9223372036854775808) }
-    requires taken { (taken.name ≡ N.taken) × (taken.parts ≡ 1) }
-{
-    let ledgers = Ledgers::<N>::new(tickets, taken);
-    let manager = expect_ok(rt, make::<Idle, Work, N, _>(parts, ledgers));
-    let endpoint = expect_ok(rt, manager.remote_endpoint());
-    prepare(rt, &endpoint, shared, kind);
-    join_both(rt, manager, &endpoint, shared, kind);
-    expect_behind(rt, &endpoint, kind);
-}
-
-/// What two threads share at first.
-fn new_shared<R: Host>(rt: &R, alloc: Global) -> Shared {
-    Shared {
-        gate: expect_ok(rt, Arc::new(alloc, Gate::new())),
-        notes: new_notes(rt, alloc),
-        is_over: AtomicBool::new(false),
+    fn run<N: Naming, P: EventPoller>(
+        &mut self,
+        rt: &R,
+        manager: &mut Loop<N, P>,
+        senders: &Senders,
+    ) -> Result<()> {
+        let endpoint = manager.remote_endpoint()?;
+        match self.kind {
+            Kind::AtGate => {
+                gated::run_twice(rt, manager, self.shared);
+                expect_behind(rt, &endpoint, senders, 0);
+            }
+            Kind::LooksBesideSends => {
+                looks::look(rt, &endpoint, self.shared);
+                expect_behind(rt, &endpoint, senders, 1);
+            }
+            Kind::CloseBesideSends => closes::wait_for_two(rt, &endpoint),
+        }
+        Ok(())
     }
 }
 
-/// Lets the two meet at a new manager, whose endpoint's counter has this value.
-pub fn meet<R: Host>(rt: &R, alloc: Global, value: u64, kind: &Kind) {
-    let shared = new_shared(rt, alloc);
+/// Lets the two meet at a new manager, whose endpoint's counter has this value. So many tickets must then be issued and
+/// jobs taken.
+pub fn meet<R: Host>(rt: &R, alloc: Global, value: u64, kind: Kind, counts: (u64, u64)) {
+    let shared = Shared {
+        gate: expect_ok(rt, Arc::new(alloc, Gate::new())),
+        notes: new_notes(rt, alloc),
+        is_over: AtomicBool::new(false),
+    };
     let parts = expect_ok(rt, on_table(*rt, alloc, value));
-    let tickets = Blank::new(9223372036854775808);
-    meet_on::<Brand, R>(rt, parts, &shared, kind, tickets, Blank::new(1));
+    let mut meeting = Meeting {
+        shared: &shared,
+        kind,
+    };
+    let ended = expect_ok(rt, beside_senders(rt, parts, &mut meeting));
+    expect_same(rt, &ended.ran, &Ok(()));
+    expect_same(rt, &(ended.issued, ended.taken), &counts);
 }

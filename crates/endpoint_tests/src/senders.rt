@@ -1,22 +1,30 @@
 //! Threads that send at once, and what the loop then runs.
+//!
+//! The tickets are gathered behind the close, and their type has the name of the ledgers. So the body is a function that
+//! is generic over that name, and the test picks it: in a method of a trait, as that of `WithLedgers`, a bound `Send`
+//! doesn't count for what a thread is sent.
 
 ghost use Rattle.std.specs.Prelude.{◌≡◌};
 
 use crate::expecting::{
     expect_counted, expect_ok, expect_pending, expect_run, expect_same, new_notes,
 };
-use crate::meetings::{Loop, Sender};
 use crate::threads::{Host, LIMIT, wait_until_pending};
 use crate::work::{Notes, Work};
-use event_manager::{Closed, Ledgers, Naming, Result, Ticket};
+use event_manager::{Closed, EventManager, Ledgers, Naming, RemoteEndpoint, Result, Ticket};
 use fixtures::making::make;
-use fixtures::parts::{OnTable, on_table};
+use fixtures::parts::{Idle, OnTable, on_table};
 use std::alloc::Global;
 use std::marker::Brand;
 use std::sync::Mutex;
 use std::sync::atomic::{AtomicU64, Ordering};
 use std::sync::ledger::Blank;
 use std::thread;
+use vmm_sys::epoll::Epoll;
+
+type Loop<N, R> = EventManager<Idle, Work, N, Epoll<R>>;
+
+type Sender<N> = RemoteEndpoint<Idle, Work, N>;
 
 /// How many jobs each thread sends, and when the loop runs.
 #[derive(Clone, Copy)]

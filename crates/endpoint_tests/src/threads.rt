@@ -1,7 +1,4 @@
 //! What the tests that start threads share.
-//!
-//! The body of such a test is a function that is generic over the name of the ledgers, and the test picks it: in a method
-//! of a trait, as that of `WithLedgers`, a bound `Send` doesn't count for what a thread is sent.
 
 use event_manager::{Job, MutEventSubscriber, Naming, RemoteEndpoint};
 use std::process::Abort;

@@ -1,29 +1,23 @@
 //! What another thread sees while a job, a reply, a subscriber or a poller is dropped.
 
-ghost use Rattle.std.specs.Prelude.{◌≡◌};
-
+use crate::ending::{beside_senders, wait_until_ended};
 use crate::expecting::{expect_ok, expect_same};
-use crate::threads::Host;
+use crate::threads::{Host, Looping, wait_until_pending};
 use crate::watched::{Drops, Guest, Reporter, Task, Watched};
 use event_manager::{
-    Error, EventManager, Ledgers, Naming, RemoteEndpoint, Result, SubscriberOps, Ticket,
+    Error, EventManager, EventPoller, LoopWithSenders, Naming, RemoteEndpoint, Result, Sender,
+    Senders, SubscriberOps, Ticket,
 };
-use fixtures::making::make;
 use fixtures::parts::{Parts, on_table};
 use std::alloc::Global;
-use std::marker::Brand;
-use std::sync::ledger::Blank;
-use std::sync::{Arc, Wait};
-use std::thread;
+use std::sync::{Arc, Mutex, Wait};
 use std::time::Clock;
 use vmm_sys::errno::Errno;
 
 /// A value that one ring more makes the largest of an `EventFd`.
 const NEARLY_FULL: u64 = 18446744073709551613;
 
-type Loop<N, R> = EventManager<Guest<R>, Task<R>, N, Reporter<R>>;
-
-type Sender<N, R> = RemoteEndpoint<Guest<R>, Task<R>, N>;
+type Endpoint<N, R> = RemoteEndpoint<Guest<R>, Task<R>, N>;
 
 /// How a job is sent.
 #[derive(Clone, Copy)]
@@ -50,32 +44,16 @@ enum Act {
     CloseOnPoller,
 }
 
-/// What the other thread saw: whether a drop began, how many jobs waited meanwhile, and what a send answered where the
-/// lock was free.
-#[derive(Drop)]
-struct Seen {
-    began: bool,
-    pending: Option<usize>,
-    sent: Option<Result<u64>>,
-}
-
-/// Looks on while the value is dropped. A send is made only where it won't wait for the drop.
-fn look_on<N: Naming, R: Wait + Clock + Drop>(
-    rt: &R,
-    endpoint: &Sender<N, R>,
-    drops: &Drops,
-) -> Seen {
-    let began = drops.wait_for_one(rt);
-    let pending = endpoint.pending();
-    let sent = match pending {
-        Some(_) => Some(endpoint.fire(Task::Nothing, rt).map(|t| t.number())),
-        None => None,
-    };
-    drops.let_end();
-    Seen {
-        began,
-        pending,
-        sent,
+/// What is expected of an act: how many jobs wait while the value is dropped, what a send is then answered, and how the
+/// job is refused, if it is.
+fn expected(act: Act) -> (usize, Result<u64>, Option<Error>) {
+    let full = Error::EventFd(Errno::EAGAIN);
+    let closed = Error::ChannelSend;
+    match act {
+        Act::SendToFull(_) => (1, Err(full), Some(full)),
+        Act::SendToClosed(_) => (0, Err(closed), Some(closed)),
+        Act::RunReply => (0, Ok(3), None),
+        Act::CloseOnJob | Act::CloseOnGuest | Act::CloseOnPoller => (0, Err(closed), None),
     }
 }
 
@@ -100,10 +78,24 @@ impl<R: Clock + Drop> Holders<R> {
     }
 }
 
-/// Sends the job in this way, which is refused.
+/// Looks on while the value is dropped. A send is made only where it won't wait for the drop.
+fn look_on<N: Naming, R: Looping>(rt: &R, endpoint: &Endpoint<N, R>, act: Act, drops: &Drops) {
+    let began = drops.wait_for_one(rt);
+    let pending = endpoint.pending();
+    let sent = match pending {
+        Some(_) => Some(endpoint.fire(Task::Nothing, rt).map(|t| t.number())),
+        None => None,
+    };
+    drops.let_end();
+    let (expected_pending, expected_answer, _refusal) = expected(act);
+    expect_same(rt, &(began, pending), &(true, Some(expected_pending)));
+    expect_same(rt, &sent, &Some(expected_answer));
+}
+
+/// Sends the job in this way: how it is refused, if it is.
 fn send<N: Naming, R: Wait + Clock + Drop>(
     rt: &R,
-    endpoint: &Sender<N, R>,
+    endpoint: &Endpoint<N, R>,
     shown: &Ticket<N>,
     job: Task<R>,
     way: Way,
@@ -115,113 +107,115 @@ fn send<N: Naming, R: Wait + Clock + Drop>(
     }
 }
 
-/// Acts on a manager for which one job waits, and whose endpoint's counter is full: how the job was refused, if it was.
-fn perform<N: Naming, R: Wait + Clock + Drop>(
+/// Sends a job, by which the endpoint's counter is full, and then the second: at once, or when the first waits no more.
+fn send_both<N: Naming, R: Looping>(
     rt: &R,
-    manager: Loop<N, R>,
-    endpoint: &Sender<N, R>,
-    shown: &Ticket<N>,
-    job: Task<R>,
+    endpoint: &Endpoint<N, R>,
+    second: &Second<R>,
     act: Act,
-) -> Option<Error> {
-    let mut manager = manager;
-    match act {
-        Act::SendToFull(way) => send(rt, endpoint, shown, job, way),
-        Act::SendToClosed(way) => {
-            manager.close(rt);
-            send(rt, endpoint, shown, job, way)
-        }
-        Act::RunReply => {
-            let _ = manager.run(rt);
-            let refusal = endpoint.fire(job, rt).err();
-            let _ = manager.run(rt);
-            refusal
-        }
-        Act::CloseOnJob | Act::CloseOnGuest | Act::CloseOnPoller => {
-            let _ = manager.run(rt);
-            let refusal = endpoint.fire(job, rt).err();
-            manager.close(rt);
-            refusal
+) {
+    let shown = expect_ok(rt, endpoint.fire(Task::Nothing, rt));
+    let (way, pending) = match act {
+        Act::SendToFull(way) => (way, 1),
+        Act::SendToClosed(way) => (way, 0),
+        _ => (Way::Fire, 0),
+    };
+    expect_same(rt, &wait_until_pending(rt, endpoint, pending), &true);
+    let job = second.lock(rt).take().unwrap_or(Task::Nothing);
+    let (_pending, _answer, refusal) = expected(act);
+    expect_same(rt, &send(rt, endpoint, &shown, job, way), &refusal);
+}
+
+/// The second job, until it is sent.
+type Second<R> = Mutex<Option<Task<R>>>;
+
+/// Who is beside the loop.
+#[derive(Drop)]
+enum Beside<'a, R: Clock + Drop> {
+    /// Looks on while the value is dropped.
+    Looks(Act, &'a Drops),
+    /// Sends a job, and then this one.
+    Sends(Act, &'a Second<R>),
+}
+
+impl<R: Looping> Sender<Guest<R>, Task<R>, (), R> for Beside<'_, R> {
+    fn send<N: Naming>(self, endpoint: &Endpoint<N, R>, rt: &R) {
+        match self {
+            Beside::Looks(act, drops) => look_on(rt, endpoint, act, drops),
+            Beside::Sends(act, second) => send_both(rt, endpoint, second, act),
         }
     }
 }
 
-/// A thread that acts, and one that looks on.
-fn act_beside_looks<N: Naming + Send + Sync, R: Host>(
-    rt: &R,
-    manager: Loop<N, R>,
-    endpoint: &Sender<N, R>,
-    job: Task<R>,
+/// The loop of an act.
+#[derive(Drop)]
+struct Acting<'a, R: Clock + Drop> {
     act: Act,
-    drops: &Drops,
-) -> (Seen, Option<Error>) {
-    let shown = expect_ok(rt, endpoint.fire(Task::Nothing, rt));
-    thread::join(
-        rt,
-        || look_on(rt, endpoint, drops),
-        || perform(rt, manager, endpoint, &shown, job, act),
-    )
+    drops: &'a Drops,
+    guest: Option<Guest<R>>,
+    second: &'a Second<R>,
 }
 
-/// What is seen while this act drops the value, and how the job is refused.
-fn expected(act: Act) -> (Seen, Option<Error>) {
-    let full = Error::EventFd(Errno::EAGAIN);
-    let closed = Error::ChannelSend;
-    let (pending, sent, refusal) = match act {
-        Act::SendToFull(_) => (1, Err(full), Some(full)),
-        Act::SendToClosed(_) => (0, Err(closed), Some(closed)),
-        Act::RunReply => (0, Ok(3), None),
-        Act::CloseOnJob | Act::CloseOnGuest | Act::CloseOnPoller => (0, Err(closed), None),
-    };
-    let seen = Seen {
-        began: true,
-        pending: Some(pending),
-        sent: Some(sent),
-    };
-    (seen, refusal)
-}
+impl<'a, R: Looping> LoopWithSenders<Guest<R>, Task<R>, Beside<'a, R>, R> for Acting<'a, R> {
+    fn begin<N: Naming, P: EventPoller>(
+        &mut self,
+        _rt: &R,
+        alloc: Global,
+        manager: &mut EventManager<Guest<R>, Task<R>, N, P>,
+    ) -> Result<Vec<Beside<'a, R>>> {
+        if let Some(guest) = self.guest.take() {
+            manager.add_subscriber(guest)?;
+        }
+        let looks = Beside::Looks(self.act, self.drops);
+        let sends = Beside::Sends(self.act, self.second);
+        Ok(Vec::from_array(alloc, [looks, sends])?)
+    }
 
-/// Expects that the two are the same.
-fn expect_as<R: Host>(rt: &R, found: (Seen, Option<Error>), expected: (Seen, Option<Error>)) {
-    let ((seen, refusal), (expected, expected_refusal)) = (found, expected);
-    expect_same(
-        rt,
-        &(seen.began, seen.pending),
-        &(expected.began, expected.pending),
-    );
-    expect_same(rt, &seen.sent, &expected.sent);
-    expect_same(rt, &refusal, &expected_refusal);
+    /// Runs for the first job but where the second is sent beside it, and for the second where that is to be run.
+    fn run<N: Naming, P: EventPoller>(
+        &mut self,
+        rt: &R,
+        manager: &mut EventManager<Guest<R>, Task<R>, N, P>,
+        senders: &Senders,
+    ) -> Result<()> {
+        let runs = match self.act {
+            Act::SendToFull(_) => {
+                expect_same(rt, &wait_until_ended(rt, senders), &true);
+                return Ok(());
+            }
+            Act::SendToClosed(_) => 0,
+            Act::CloseOnJob | Act::CloseOnGuest | Act::CloseOnPoller => 1,
+            Act::RunReply => 2,
+        };
+        let endpoint = manager.remote_endpoint()?;
+        for turn in 0..2 {
+            expect_same(rt, &wait_until_pending(rt, &endpoint, 1), &true);
+            if turn == runs {
+                break;
+            }
+            manager.run(rt)?;
+        }
+        Ok(())
+    }
 }
 
 /// Expects of this act, on a new manager, that another thread looks on and sends while the value is dropped, once.
-fn expect_seen_by<N: Naming + Send + Sync, R: Host>(
-    rt: &R,
-    alloc: Global,
-    act: Act,
-    tickets: Blank,
-    taken: Blank,
-)
-    requires tickets { (tickets.name ≡ N.tickets) × (tickets.parts ≡ 9223372036854775808) }
-    requires taken { (taken.name ≡ N.taken) × (taken.parts ≡ 1) }
-{
-    let ledgers = Ledgers::<N>::new(tickets, taken);
+fn expect_seen<R: Host>(rt: &R, alloc: Global, act: Act) {
     let drops = expect_ok(rt, Arc::new(alloc, Drops::new()));
     let value = expect_ok(rt, Watched::new(&drops, *rt));
     let Holders { guest, poller, job } = Holders::new(act, value);
     let Parts { event_fd, .. } = expect_ok(rt, on_table(*rt, alloc, NEARLY_FULL));
+    let second = Mutex::new(Some(job));
+    let mut acting = Acting {
+        act,
+        drops: &drops,
+        guest: Some(guest),
+        second: &second,
+    };
     let parts = Parts::new(alloc, poller, event_fd);
-    let mut manager: Loop<N, R> = expect_ok(rt, make(parts, ledgers));
-    expect_ok(rt, manager.add_subscriber(guest));
-    let endpoint = expect_ok(rt, manager.remote_endpoint());
-    let found = act_beside_looks(rt, manager, &endpoint, job, act, &drops);
-    expect_as(rt, found, expected(act));
+    let ended = expect_ok(rt, beside_senders(rt, parts, &mut acting));
+    expect_same(rt, &ended.ran, &Ok(()));
     expect_same(rt, &drops.count(), &1);
-}
-
-/// As [`expect_seen_by`], with ledgers.
-fn expect_seen<R: Host>(rt: &R, alloc: Global, act: Act) {
-    let tickets = Blank::new(9223372036854775808);
-    expect_seen_by::<Brand, R>(rt, alloc, act, tickets, Blank::new(1));
 }
 
 /// Expects it of each of these acts.

@@ -2,21 +2,17 @@
 
 ghost use Rattle.std.specs.Prelude.{◌≡◌};
 
-use crate::caller::start;
+use crate::ending::beside_senders;
 use crate::expecting::{expect_ok, expect_run_within, expect_same};
-use crate::threads::{Host, wait_until_pending};
+use crate::threads::{Looping, wait_until_pending};
 use event_manager::{
-    EventManager, EventOps, EventPoller, Events, Job, Ledgers, MutEventSubscriber, Naming,
-    Registry, Result, SubscriberId, SubscriberOps,
+    Error, EventManager, EventOps, EventPoller, Events, Job, LoopWithSenders, MutEventSubscriber,
+    Naming, Registry, RemoteEndpoint, Result, Sender, Senders, SubscriberId, SubscriberOps,
 };
-use fixtures::making::make;
-use fixtures::parts::{OnTable, on_table};
+use fixtures::parts::on_table;
 use std::alloc::Global;
-use std::marker::Brand;
 use std::sync::Wait;
-use std::sync::ledger::Blank;
 use std::time::Clock;
-use vmm_sys::epoll::Epoll;
 
 /// Has a value, and may be stopped.
 #[derive(Drop)]
@@ -90,64 +86,74 @@ impl Job<Stoppable> for Order {
     }
 }
 
-type Loop<N, R> = EventManager<Stoppable, Order, N, Epoll<R>>;
+/// What the caller does, and the value that it is answered each time.
+const CHANGES: [(Change, u64); 3] = [(Change::Set(7), 0), (Change::Read, 7), (Change::Stop, 7)];
 
-/// Expects that a caller is answered this value by a run with its change.
-fn expect_answer<N, R>(rt: R, alloc: Global, manager: &mut Loop<N, R>, order: Order, value: u64)
-where
-    N: Naming + Send + Sync + 'static,
-    R: Host + 'static,
-{
-    let endpoint = expect_ok(&rt, manager.remote_endpoint());
-    let theirs = expect_ok(&rt, endpoint.try_clone());
-    let caller = start(rt, alloc, theirs, order);
-    expect_same(&rt, &wait_until_pending(&rt, &endpoint, 1), &true);
-    expect_run_within(&rt, manager, 0, Ok(1));
-    expect_same(&rt, &caller.reply(&rt), &Ok(Ok(value)));
+/// Makes the changes of a subscriber, each by a job.
+#[derive(Drop)]
+struct Caller(SubscriberId);
+
+impl<R: Looping> Sender<Stoppable, Order, (), R> for Caller {
+    fn send<N: Naming>(self, endpoint: &RemoteEndpoint<Stoppable, Order, N>, rt: &R) {
+        let Caller(id) = self;
+        for (change, value) in CHANGES {
+            let reply = endpoint.call_blocking(Order { id, change }, rt);
+            expect_same(rt, &reply, &Ok(Ok(value)));
+        }
+    }
+}
+
+/// A loop with one subscriber, and a caller beside it.
+#[derive(Drop)]
+struct Called {
+    id: Option<SubscriberId>,
 }
 
 /// Whether the subscriber is stopped.
-fn is_stopped<N: Naming, R: Host>(manager: &mut Loop<N, R>, id: SubscriberId) -> Result<bool> {
-    Ok(manager.subscriber_mut(id)?.is_stopped)
+fn is_stopped<N: Naming, P: EventPoller>(
+    manager: &EventManager<Stoppable, Order, N, P>,
+    id: SubscriberId,
+) -> Result<bool> {
+    Ok(manager.subscriber(id)?.is_stopped)
 }
 
-/// Sets the value, reads it, and stops the subscriber, each by a job of a caller.
-fn call_thrice<N, R>(rt: R, alloc: Global, manager: &mut Loop<N, R>)
-where
-    N: Naming + Send + Sync + 'static,
-    R: Host + 'static,
-{
-    let subscriber = Stoppable {
-        value: 0,
-        is_stopped: false,
-    };
-    let id = expect_ok(&rt, manager.add_subscriber(subscriber));
-    for (change, value) in [(Change::Set(7), 0), (Change::Read, 7), (Change::Stop, 7)] {
-        expect_same(&rt, &is_stopped(manager, id), &Ok(false));
-        expect_answer(rt, alloc, manager, Order { id, change }, value);
+impl<R: Looping> LoopWithSenders<Stoppable, Order, Caller, R> for Called {
+    fn begin<N: Naming, P: EventPoller>(
+        &mut self,
+        _rt: &R,
+        alloc: Global,
+        manager: &mut EventManager<Stoppable, Order, N, P>,
+    ) -> Result<Vec<Caller>> {
+        let id = manager.add_subscriber(Stoppable {
+            value: 0,
+            is_stopped: false,
+        })?;
+        self.id = Some(id);
+        Ok(vec![in alloc; Caller(id)]?)
     }
-    expect_same(&rt, &is_stopped(manager, id), &Ok(true));
-}
 
-/// Callers of a manager of these parts.
-fn call_and_close<N, R>(rt: R, parts: OnTable<R>, tickets: Blank, taken: Blank)
-where
-    N: Naming + Send + Sync + 'static,
-    R: Host + 'static,
-    requires tickets { (tickets.name ≡ N.tickets) × (tickets.parts ≡ 9223372036854775808) }
-    requires taken { (taken.name ≡ N.taken) × (taken.parts ≡ 1) }
-{
-    let ledgers = Ledgers::<N>::new(tickets, taken);
-    let alloc = parts.alloc;
-    let mut manager = expect_ok(&rt, make::<Stoppable, Order, N, _>(parts, ledgers));
-    call_thrice(rt, alloc, &mut manager);
-    let closed = manager.close(&rt);
-    expect_same(&rt, &(closed.issued(), closed.taken()), &(3, 3));
+    fn run<N: Naming, P: EventPoller>(
+        &mut self,
+        rt: &R,
+        manager: &mut EventManager<Stoppable, Order, N, P>,
+        _senders: &Senders,
+    ) -> Result<()> {
+        let id = self.id.ok_or(Error::InvalidId)?;
+        let endpoint = manager.remote_endpoint()?;
+        for _change in CHANGES {
+            expect_same(rt, &is_stopped(manager, id), &Ok(false));
+            expect_same(rt, &wait_until_pending(rt, &endpoint, 1), &true);
+            expect_run_within(rt, manager, 0, Ok(1));
+        }
+        expect_same(rt, &is_stopped(manager, id), &Ok(true));
+        Ok(())
+    }
 }
 
 #[test]
 fn a_caller_sets_and_reads_a_value_of_a_subscriber(rt: HostRuntime) {
     let parts = expect_ok(&rt, on_table(rt, rt.alloc(), 0));
-    let tickets = Blank::new(9223372036854775808);
-    call_and_close::<Brand, HostRuntime>(rt, parts, tickets, Blank::new(1));
+    let ended = expect_ok(&rt, beside_senders(&rt, parts, &mut Called { id: None }));
+    expect_same(&rt, &ended.ran, &Ok(()));
+    expect_same(&rt, &(ended.issued, ended.taken), &(3, 3));
 }

@@ -1,19 +1,18 @@
 //! A call beside a close: it is answered, whichever comes first.
 
-ghost use Rattle.std.specs.Prelude.{◌≡◌};
-
 use crate::expecting::{expect_ok, expect_same};
-use crate::fixture::{Loop, Progress, Sender, Task, make, spin};
-use crate::host::{Host, Rounds};
-use event_manager::{Error, Ledgers, Naming, Result};
+use crate::fixture::{Endpoint, Progress, Task, spin};
+use crate::host::{Host, Looping, Rounds};
+use event_manager::{
+    Error, EventManager, EventPoller, LoopWithSenders, Naming, Result, Sender, Senders,
+    with_senders,
+};
+use fixtures::parts::{Idle, Parts, on_table};
 use std::alloc::Global;
-use std::marker::Brand;
 use std::process::Abort;
+use std::sync::Arc;
 use std::sync::atomic::{AtomicBool, Ordering};
-use std::sync::ledger::Blank;
-use std::sync::{Arc, Wait};
 use std::thread;
-use std::time::Clock;
 
 const ROUNDS: u64 = 10_000;
 
@@ -24,30 +23,57 @@ const MOST_TURNS: u64 = 256;
 const LOOKS: u32 = 1_000_000;
 
 /// Says that it starts, and calls.
-fn call<N: Naming, R: Wait + Clock>(
-    rt: &R,
-    endpoint: &Sender<N>,
+#[derive(Drop)]
+struct Caller<'a> {
     job: Task,
-    started: &AtomicBool,
-) -> Result<u64> {
-    started.store(true, Ordering::SeqCst);
-    endpoint.call_blocking(job, rt)
+    started: &'a AtomicBool,
 }
 
-/// Closes so many turns after the caller has started.
-fn close<N: Naming, R: Wait + Clock + Clone + Send + Drop>(
-    rt: &R,
-    manager: Loop<N, R>,
-    turns: u64,
-    started: &AtomicBool,
-) {
-    for _look in 0..LOOKS {
-        if started.load(Ordering::SeqCst) {
-            break;
-        }
+impl<R: Looping> Sender<Idle, Task, Result<u64>, R> for Caller<'_> {
+    fn send<N: Naming>(self, endpoint: &Endpoint<N>, rt: &R) -> Result<u64> {
+        self.started.store(true, Ordering::SeqCst);
+        endpoint.call_blocking(self.job, rt)
     }
-    spin(turns);
-    manager.close(rt);
+}
+
+/// A loop for which a job without a caller waits, and that ends so many turns after the caller has started.
+#[derive(Drop)]
+struct Closing<'a> {
+    progress: &'a Arc<Progress, Global>,
+    started: &'a AtomicBool,
+    turns: u64,
+}
+
+impl<'a, R: Looping> LoopWithSenders<Idle, Task, Caller<'a>, R> for Closing<'a> {
+    fn begin<N: Naming, P: EventPoller>(
+        &mut self,
+        rt: &R,
+        alloc: Global,
+        manager: &mut EventManager<Idle, Task, N, P>,
+    ) -> Result<Vec<Caller<'a>>> {
+        let first = Task::count(rt, self.progress);
+        manager.remote_endpoint()?.fire(first, rt)?;
+        let caller = Caller {
+            job: Task::count(rt, self.progress),
+            started: self.started,
+        };
+        Ok(Vec::from_array(alloc, [caller])?)
+    }
+
+    fn run<N: Naming, P: EventPoller>(
+        &mut self,
+        _rt: &R,
+        _manager: &mut EventManager<Idle, Task, N, P>,
+        _senders: &Senders,
+    ) -> Result<()> {
+        for _look in 0..LOOKS {
+            if self.started.load(Ordering::SeqCst) {
+                break;
+            }
+        }
+        spin(self.turns);
+        Ok(())
+    }
 }
 
 /// Expects of a call's reply that it was refused.
@@ -57,29 +83,24 @@ fn expect_refused<R: Abort>(rt: &R, reply: Result<u64>) {
 }
 
 /// A caller beside a close of a new manager, for which a job without a caller waits.
-fn close_beside_call<N: Naming + Send + Sync, R: Host>(
-    rt: &R,
-    alloc: Global,
-    turns: u64,
-    tickets: Blank,
-    taken: Blank,
-)
-    requires tickets { (tickets.name ≡ N.tickets) × (tickets.parts ≡ 9223372036854775808) }
-    requires taken { (taken.name ≡ N.taken) × (taken.parts ≡ 1) }
-{
-    let ledgers = Ledgers::<N>::new(tickets, taken);
+fn close_beside_call<R: Host>(rt: &R, alloc: Global, turns: u64) {
     let progress = expect_ok(rt, Arc::new(alloc, Progress::new()));
-    let (manager, _epoll) = make::<N, R>(*rt, alloc, ledgers);
-    let endpoint = expect_ok(rt, manager.remote_endpoint());
-    let (first, second) = (Task::count(rt, &progress), Task::count(rt, &progress));
-    expect_ok(rt, endpoint.fire(first, rt));
     let started = AtomicBool::new(false);
-    let (reply, ()) = thread::join(
-        rt,
-        || call(rt, &endpoint, second, &started),
-        || close(rt, manager, turns, &started),
-    );
-    expect_refused(rt, reply);
+    let mut body = Closing {
+        progress: &progress,
+        started: &started,
+        turns,
+    };
+    let Parts {
+        poller,
+        event_fd,
+        ..
+    } = expect_ok(rt, on_table(*rt, alloc, 0));
+    let ended = expect_ok(rt, with_senders(rt, alloc, poller, event_fd, &mut body));
+    expect_same(rt, &ended.sent.len(), &1);
+    for reply in ended.sent {
+        expect_refused(rt, reply);
+    }
     expect_same(rt, &Arc::strong_count(&progress), &1);
 }
 
@@ -89,8 +110,7 @@ fn close_all<R: Host>(rt: &R, alloc: Global, rounds: &Rounds) {
         if !rounds.has_time() {
             break;
         }
-        let (tickets, taken) = (Blank::new(9223372036854775808), Blank::new(1));
-        close_beside_call::<Brand, R>(rt, alloc, round % MOST_TURNS, tickets, taken);
+        close_beside_call(rt, alloc, round % MOST_TURNS);
         rounds.count();
     }
 }

@@ -1,20 +1,14 @@
-//! A manager over a table, and the job that its senders send.
-
-ghost use Rattle.std.specs.Prelude.{◌≡◌};
+//! The job that the senders send, and what it counts in.
 
 use crate::expecting::expect_ok;
-use event_manager::{
-    EventManager, EventPoller, Job, Ledgers, MutEventSubscriber, Naming, Registry, RemoteEndpoint,
-};
-use fixtures::making;
-use fixtures::parts::{Idle, on_table};
+use event_manager::{EventPoller, Job, MutEventSubscriber, Registry, RemoteEndpoint};
+use fixtures::parts::Idle;
 use std::alloc::Global;
 use std::hint;
 use std::process::Abort;
 use std::sync::atomic::{AtomicBool, AtomicU64, Ordering};
 use std::sync::{Arc, Wait};
 use std::time::Clock;
-use vmm_sys::epoll::Epoll;
 
 /// What a sender, the jobs and who looks on share.
 #[derive(Drop)]
@@ -75,21 +69,7 @@ impl Task {
     }
 }
 
-pub type Loop<N, R> = EventManager<Idle, Task, N, Epoll<R>>;
-
-pub type Sender<N> = RemoteEndpoint<Idle, Task, N>;
-
-/// A manager over a new table, and that table.
-pub fn make<N: Naming, R: Wait + Clock + Abort + Copy + Send + Drop>(
-    rt: R,
-    alloc: Global,
-    ledgers: Ledgers<N>,
-) -> (Loop<N, R>, Epoll<R>) {
-    let parts = expect_ok(&rt, on_table(rt, alloc, 0));
-    let epoll = expect_ok(&rt, parts.poller.try_clone());
-    let manager = expect_ok(&rt, making::make::<Idle, Task, N, _>(parts, ledgers));
-    (manager, epoll)
-}
+pub type Endpoint<N> = RemoteEndpoint<Idle, Task, N>;
 
 /// Spends so many turns.
 pub fn spin(turns: u64) {

@@ -11,6 +11,11 @@ pub trait Host: Threads + Wait + Clock + Abort + Copy + Send + Sync + Drop {}
 
 impl<R: Threads + Wait + Clock + Abort + Copy + Send + Sync + Drop> Host for R {}
 
+/// What a loop and its senders need of the runtime, none of which starts a thread.
+pub trait Looping: Wait + Clock + Abort + Copy + Drop {}
+
+impl<R: Wait + Clock + Abort + Copy + Drop> Looping for R {}
+
 /// How many milliseconds a round may last.
 const PATIENCE: u64 = 10_000;
 

@@ -1,16 +1,14 @@
 //! One sender, and a loop that waits without a limit: no wake-up between the two is lost.
 
-ghost use Rattle.std.specs.Prelude.{◌≡◌};
-
 use crate::expecting::{expect_ok, expect_same};
-use crate::fixture::{Loop, Progress, Sender, Task, make};
-use crate::host::{Host, Rounds};
-use event_manager::{Ledgers, Naming};
+use crate::fixture::{Endpoint, Progress, Task};
+use crate::host::{Host, Looping, Rounds};
+use event_manager::{
+    EventManager, EventPoller, LoopWithSenders, Naming, Result, Sender, Senders, with_senders,
+};
+use fixtures::parts::{Idle, OnTable, Parts, on_table};
 use std::alloc::Global;
-use std::marker::Brand;
-use std::process::Abort;
 use std::sync::atomic::Ordering;
-use std::sync::ledger::Blank;
 use std::sync::{Arc, Wait};
 use std::thread;
 use std::time::Clock;
@@ -29,9 +27,9 @@ const LOOKS: u32 = 100_000;
 type Shared = Arc<Progress, Global>;
 
 /// Sends a job, and goes on once it runs; while it does, sends another one, and calls for the reply of a third.
-fn call_beside_job<N: Naming, R: Wait + Clock + Abort>(
+fn call_beside_job<N: Naming, R: Looping>(
     rt: &R,
-    endpoint: &Sender<N>,
+    endpoint: &Endpoint<N>,
     progress: &Shared,
     round: u64,
 ) {
@@ -48,11 +46,7 @@ fn call_beside_job<N: Naming, R: Wait + Clock + Abort>(
 }
 
 /// Sends a job, and another one as soon as the first is taken. Goes on once both were run.
-fn fire_behind_take<N: Naming, R: Wait + Clock + Abort>(
-    rt: &R,
-    endpoint: &Sender<N>,
-    progress: &Shared,
-) {
+fn fire_behind_take<N: Naming, R: Looping>(rt: &R, endpoint: &Endpoint<N>, progress: &Shared) {
     let (first, second) = (Task::count(rt, progress), Task::count(rt, progress));
     expect_ok(rt, endpoint.fire(first, rt));
     for _look in 0..LOOKS {
@@ -69,9 +63,9 @@ fn fire_behind_take<N: Naming, R: Wait + Clock + Abort>(
 }
 
 /// Sends two or three jobs, the last while the loop is on its way round.
-fn send_round<N: Naming, R: Wait + Clock + Abort>(
+fn send_round<N: Naming, R: Looping>(
     rt: &R,
-    endpoint: &Sender<N>,
+    endpoint: &Endpoint<N>,
     progress: &Shared,
     round: u64,
 ) {
@@ -83,9 +77,9 @@ fn send_round<N: Naming, R: Wait + Clock + Abort>(
 }
 
 /// Sends in each round, and then lets the loop end.
-fn send_all<N: Naming, R: Wait + Clock + Abort>(
+fn send_all<N: Naming, R: Looping>(
     rt: &R,
-    endpoint: &Sender<N>,
+    endpoint: &Endpoint<N>,
     progress: &Shared,
     rounds: &Rounds,
 ) {
@@ -101,10 +95,10 @@ fn send_all<N: Naming, R: Wait + Clock + Abort>(
 }
 
 /// Runs without a limit until all was sent. What it then leaves to be read ends the wait beside it.
-fn run_all<N: Naming, R: Wait + Clock + Clone + Send + Drop + Abort>(
+fn run_all<N: Naming, P: EventPoller, R: Looping>(
     rt: &R,
-    manager: &mut Loop<N, R>,
-    endpoint: &Sender<N>,
+    manager: &mut EventManager<Idle, Task, N, P>,
+    endpoint: &Endpoint<N>,
     progress: &Progress,
 ) {
     for _turn in rt.forever() {
@@ -126,69 +120,81 @@ fn wait_beside<R: Wait + Clock + Clone + Send + Drop>(
     let mut epoll = epoll;
     let mut buffer = [EpollEvent::new(EventSet::empty(), 0)];
     for _turn in rt.forever() {
-        let _ = epoll.wait(-1, &mut buffer);
+        let _ = Poller::wait(&mut epoll, -1, &mut buffer);
         if progress.all_sent.load(Ordering::SeqCst) {
             break;
         }
     }
 }
 
-/// A loop, and who waits beside it.
-fn run_beside_wait<N: Naming + Send + Sync, R: Host>(
-    rt: &R,
-    manager: &mut Loop<N, R>,
-    endpoint: &Sender<N>,
-    epoll: Epoll<R>,
-    progress: &Progress,
-) {
-    thread::join(
-        rt,
-        || run_all(rt, manager, endpoint, progress),
-        || wait_beside(rt, epoll, progress),
-    );
+/// A loop, and its sender.
+#[derive(Clone, Copy)]
+struct Sending<'a> {
+    progress: &'a Shared,
+    rounds: &'a Rounds,
 }
 
-/// A sender, a loop, and who waits beside it.
-fn send_beside_loop<N: Naming + Send + Sync, R: Host>(
-    rt: &R,
-    manager: &mut Loop<N, R>,
-    endpoint: &Sender<N>,
-    epoll: Epoll<R>,
-    progress: &Shared,
-    rounds: &Rounds,
-) {
-    thread::join(
-        rt,
-        || send_all(rt, endpoint, progress, rounds),
-        || run_beside_wait(rt, manager, endpoint, epoll, progress),
-    );
+impl<R: Looping> Sender<Idle, Task, (), R> for Sending<'_> {
+    fn send<N: Naming>(self, endpoint: &Endpoint<N>, rt: &R) {
+        send_all(rt, endpoint, self.progress, self.rounds);
+    }
+}
+
+impl<'a, R: Looping> LoopWithSenders<Idle, Task, Sending<'a>, R> for Sending<'a> {
+    fn begin<N: Naming, P: EventPoller>(
+        &mut self,
+        _rt: &R,
+        alloc: Global,
+        _manager: &mut EventManager<Idle, Task, N, P>,
+    ) -> Result<Vec<Sending<'a>>> {
+        Ok(Vec::from_array(alloc, [*self])?)
+    }
+
+    fn run<N: Naming, P: EventPoller>(
+        &mut self,
+        rt: &R,
+        manager: &mut EventManager<Idle, Task, N, P>,
+        _senders: &Senders,
+    ) -> Result<()> {
+        let endpoint = manager.remote_endpoint()?;
+        run_all(rt, manager, &endpoint, self.progress);
+        Ok(())
+    }
+}
+
+/// The rounds of a loop over these parts.
+fn send_rounds<R: Host>(rt: &R, parts: OnTable<R>, progress: &Shared, rounds: &Rounds) {
+    let Parts {
+        alloc,
+        poller,
+        event_fd,
+        ..
+    } = parts;
+    let mut body = Sending { progress, rounds };
+    let ended = expect_ok(rt, with_senders(rt, alloc, poller, event_fd, &mut body));
+    expect_same(rt, &ended.ran, &Ok(()));
     rounds.end();
 }
 
-/// The rounds of a new manager, and who looks on.
-fn send_rounds<N: Naming + Send + Sync, R: Host>(
-    rt: &R,
-    alloc: Global,
-    tickets: Blank,
-    taken: Blank,
-)
-    requires tickets { (tickets.name ≡ N.tickets) × (tickets.parts ≡ 9223372036854775808) }
-    requires taken { (taken.name ≡ N.taken) × (taken.parts ≡ 1) }
-{
-    let ledgers = Ledgers::<N>::new(tickets, taken);
-    let (mut manager, epoll) = make::<N, R>(*rt, alloc, ledgers);
-    let endpoint = expect_ok(rt, manager.remote_endpoint());
+/// The rounds of a new manager, and who waits beside it.
+fn send_beside_wait<R: Host>(rt: &R, alloc: Global, rounds: &Rounds) {
+    let parts = expect_ok(rt, on_table(*rt, alloc, 0));
+    let epoll = expect_ok(rt, parts.poller.try_clone());
     let progress = expect_ok(rt, Arc::new(alloc, Progress::new()));
-    let rounds = Rounds::new();
     thread::join(
         rt,
-        || rounds.look_on(rt),
-        || send_beside_loop(rt, &mut manager, &endpoint, epoll, &progress, &rounds),
+        || send_rounds(rt, parts, &progress, rounds),
+        || wait_beside(rt, epoll, &progress),
     );
 }
 
 #[test]
 fn no_wake_up_of_the_loop_is_lost(rt: HostRuntime) {
-    let tickets = Blank::new(9223372036854775808);
-    send_rounds::<Brand, HostRuntime>(&rt, rt.alloc(), tickets, Blank::new(1));
+    let rounds = Rounds::new();
+    let alloc = rt.alloc();
+    thread::join(
+        &rt,
+        || rounds.look_on(&rt),
+        || send_beside_wait(&rt, alloc, &rounds),
+    );
 }
