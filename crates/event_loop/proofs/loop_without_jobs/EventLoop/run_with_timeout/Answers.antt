@@ -3,7 +3,7 @@ use Rattle.std.proofs.lemmas.Int.{to_z-of_z}
 use Rattle.event_loop.specs.LoopState.{no_job}
 use Rattle.event_loop.specs.Subscribers.{loop_state}
 use Rattle.event_loop.proofs.WithoutJobs.{without_jobs}
-use Rattle.event_loop.proofs.event_loop.EventLoop.run_with_timeout.Goals as goal
+use Rattle.event_loop.proofs.loop_without_jobs.EventLoop.run_with_timeout.Goals as goal
 
 pub returns-in-Ok : goal.returns-in-Ok
 returns-in-Ok g c =
