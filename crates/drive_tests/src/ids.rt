@@ -2,7 +2,7 @@
 
 use crate::driving::{replies_to, told_by_quiet, two_ids};
 use crate::expecting::{expect_ok, expect_same};
-use crate::leaving::remove_then_ask;
+use crate::leaving::{remove_then_ask, replace_then_ask};
 use crate::subscribers::{Quiet, wanted};
 use crate::told::{Told, tell};
 use event_manager::drive;
@@ -132,14 +132,15 @@ fn a_refused_set_drops_the_new_value_before_the_next_call(rt: HostRuntime) {
     expect_same(&rt, &left.holders, &2);
 }
 
-/// Joins one and makes requests for it in one list, by the id that the join will give; then lets it leave.
+/// Joins one and makes requests for it in one list, by the id that the join will give; lets it leave where another joins, and
+/// then that one.
 #[derive(Drop)]
-struct JoinAndLeave<'a, R> {
+struct JoiningAndLeaving<'a, R> {
     rt: &'a R,
     alloc: Global,
 }
 
-impl<R: Wait + Clock> WithManager for JoinAndLeave<'_, R> {
+impl<R: Wait + Clock> WithManager for JoiningAndLeaving<'_, R> {
     type Subscriber = Quiet;
 
     type Output = Vec<Reply<Quiet>>;
@@ -148,14 +149,17 @@ impl<R: Wait + Clock> WithManager for JoinAndLeave<'_, R> {
         self,
         manager: &mut EventManager<Quiet, NoJob, N, P>,
     ) -> Result<Vec<Reply<Quiet>>> {
-        let JoinAndLeave { rt, alloc } = self;
+        let JoiningAndLeaving { rt, alloc } = self;
         let id = manager.next_id();
         let requests = vec![in alloc; Request::Add(wanted(3))]?;
         let calls = vec![in alloc; Call::Add(Quiet(11)), Call::Ask(id, requests)]?;
         let mut replies = Vec::new(alloc);
         drive(manager, calls, &mut replies, rt)?;
+        let next = manager.next_id();
         let requests = vec![in alloc; Request::Add(wanted(4))]?;
-        remove_then_ask(alloc, manager, id, requests, &mut replies, rt)?;
+        replace_then_ask(alloc, manager, id, Quiet(12), requests, &mut replies, rt)?;
+        let requests = vec![in alloc; Request::Add(wanted(5))]?;
+        remove_then_ask(alloc, manager, next, requests, &mut replies, rt)?;
         Ok(replies)
     }
 }
@@ -163,7 +167,7 @@ impl<R: Wait + Clock> WithManager for JoinAndLeave<'_, R> {
 #[test]
 fn a_call_names_the_id_that_an_earlier_one_gives(rt: HostRuntime) {
     let parts = silent_parts(rt, rt.alloc(), ScriptPoller::new(rt.alloc()));
-    let body = JoinAndLeave {
+    let body = JoiningAndLeaving {
         rt: &rt,
         alloc: rt.alloc(),
     };
@@ -175,6 +179,10 @@ fn a_call_names_the_id_that_an_earlier_one_gives(rt: HostRuntime) {
             Told::Added(Ok(1)),
             Told::Asked(Ok(agreed)),
             Told::Removed(Ok(11)),
+            Told::Added(Ok(2)),
+            Told::Ran(Ok(0)),
+            Told::Asked(Err(Error::InvalidId)),
+            Told::Removed(Ok(12)),
             Told::Asked(Err(Error::InvalidId)),
         ],
     );

@@ -1,8 +1,9 @@
-//! A law of lists of calls, as a program's own contract says it: who left is asked for nothing.
+//! What a program's own contract can say of a list of calls: who left is asked for nothing.
 
-ghost use Rattle.std.specs.Prelude.{◌≡◌, [], ◌∷◌, ◌++◌, OnOk, Ok, Err};
+ghost use Rattle.std.specs.Prelude.{◌≡◌, [], ◌∷◌, ◌++◌, OnOk, Result, Ok, Err};
 ghost use Rattle.event_manager.specs.Manager.{state_of};
 ghost use Rattle.event_manager.specs.Registry.{AreBelow};
+ghost use Rattle.event_manager.specs.Error.{Error};
 ghost use Rattle.event_manager.specs.Error.TheVariants.{InvalidId};
 ghost use Rattle.event_manager.specs.declared.calls.Reply.{Reply};
 ghost use Rattle.event_manager.specs.declared.calls.Reply.TheVariants.{Removed, Asked};
@@ -16,7 +17,7 @@ use std::alloc::Global;
 use std::sync::Wait;
 use std::time::Clock;
 
-/// Lets a subscriber leave, and then makes requests for it: where it left, they are refused with `InvalidId`.
+/// Lets a subscriber leave, and then makes requests for it: they are refused with `InvalidId`, whatever the first reply.
 pub fn remove_then_ask<S, J, N, P, R>(
     alloc: Global,
     manager: &mut EventManager<S, J, N, P>,
@@ -31,11 +32,38 @@ where
     N: Naming,
     P: EventPoller,
     R: Wait + Clock,
-    ensures { AreBelow (state_of manager.old).registry.next (state_of manager.old).registry.values → OnOk result ((first second : Reply S)
-        × (replies.new.items ≡ replies.old.items ++ first ∷ second ∷ []) × ((gone : S) → first ≡ Removed (Ok gone) → second ≡ Asked (Err InvalidId))) }
+    ensures { OnOk result ((removed : Result S Error) × (replies.new.items ≡ replies.old.items ++ Removed removed ∷ Asked (Err InvalidId) ∷ [])) }
 {
     let mut calls = Vec::new(alloc);
     calls.push(Call::Remove(id))?;
+    calls.push(Call::Ask(id, requests))?;
+    drive(manager, calls, replies, rt)
+}
+
+/// Lets a subscriber leave and another join, runs once, and then makes requests for the first: where it left, they are refused
+/// with `InvalidId`, whoever joined and whatever jobs did.
+pub fn replace_then_ask<S, J, N, P, R>(
+    alloc: Global,
+    manager: &mut EventManager<S, J, N, P>,
+    id: SubscriberId,
+    successor: S,
+    requests: Vec<Request>,
+    replies: &mut Vec<Reply<S>>,
+    rt: &R,
+) -> Result<()>
+where
+    S: MutEventSubscriber + Drop,
+    J: Job<S>,
+    N: Naming,
+    P: EventPoller,
+    R: Wait + Clock,
+    ensures { AreBelow (state_of manager.old).registry.next (state_of manager.old).registry.values → OnOk result ((first second third fourth : Reply S)
+        × (replies.new.items ≡ replies.old.items ++ first ∷ second ∷ third ∷ fourth ∷ []) × ((gone : S) → first ≡ Removed (Ok gone) → fourth ≡ Asked (Err InvalidId))) }
+{
+    let mut calls = Vec::new(alloc);
+    calls.push(Call::Remove(id))?;
+    calls.push(Call::Add(successor))?;
+    calls.push(Call::Run(0))?;
     calls.push(Call::Ask(id, requests))?;
     drive(manager, calls, replies, rt)
 }

@@ -1,10 +1,10 @@
 -- A list of calls that was driven, taken apart: each call did what the single call promises.
-use Rattle.std.proofs.Common.{◌≡◌, ℕ, ℤ, List, [], ◌∷◌, ◌++◌, refl, sym, ap, subst, ◌∙◌, map, Vec, Result, Ok, Err}
+use Rattle.std.proofs.Common.{◌≡◌, ℕ, List, [], ◌∷◌, ◌++◌, refl, sym, ap, subst, ◌∙◌, map, Vec, Result, Ok, Err, Some, None}
 use Rattle.std.specs.declared.alloc.Global.{Global}
 use Rattle.dispatch_tables.specs.Event.{Event}
 use Rattle.event_loop.specs.PollerCall.{PollerCall, Control, Wait, Controls, Waits, Leads}
 use Rattle.event_loop.specs.Exchange.{Exchanges, Answer}
-use Rattle.event_loop.specs.Registry.{Step, Joined, NotJoined, Left, NotLeft, Replaced, NotReplaced, Requested, NotRequested, AreBelow}
+use Rattle.event_loop.specs.Registry.{Step, Joined, NotJoined, Left, NotLeft, Replaced, NotReplaced, Requested, NotRequested, AreBelow, Registry, Steps, LacksId}
 use Rattle.event_loop.specs.Iteration.{ManagerState, answer_of}
 use Rattle.event_loop.specs.LoopState.{LoopState, HasStepped, IsJoin, IsLeave, IsLoopIteration, manager_state}
 use Rattle.event_loop.specs.declared.error.Error.{Error}
@@ -16,6 +16,9 @@ use Rattle.event_manager.specs.declared.calls.Call.{Call}
 use Rattle.event_manager.specs.declared.calls.Call.TheVariants as call
 use Rattle.event_manager.specs.declared.calls.Reply.{Reply}
 use Rattle.event_manager.specs.declared.calls.Reply.TheVariants as reply
+use Rattle.std.specs.FinMap.{get}
+use Rattle.event_loop.specs.declared.events.Request.{Request}
+use Rattle.event_manager.proofs.HeldIds.{removed_value}
 use Rattle.event_manager.proofs.TraceSoFar.{driven_by}
 
 -- this holds of a list with one reply to each of the calls
@@ -23,15 +26,22 @@ abbrev pub HasReplies : {V : Type 0} → List (Call V) → (List (Reply V) → T
 HasReplies [] holds = holds []
 HasReplies {V} (c ∷ calls) holds = (r : Reply V) × HasReplies calls (λ replies. holds (r ∷ replies))
 
+-- a call was made by itself: it answered by a step, and its reply is that answer
+pub record IsAnswered {S P A : Type 0} (begins : S → Exchanges → S → Type 0) (controls : Controls P) (waits : Waits P) (replies : Result A Error → Reply S) (is_step : Result A Error → Step S → Type 0) (before : LoopState S P) (r : Reply S) (after : LoopState S P) : Type 0 where
+  pub result : Result A Error
+  pub replied : r ≡ replies result
+  pub step : Step S
+  pub is_step_of : is_step result step
+  pub has_stepped : HasStepped begins controls waits before step after
+
 module _ {S J R : Type 0} (begins : S → Exchanges → S → Type 0) (serves : S → Event → Exchanges → S → Type 0) (may : J → List (Step S) → R → Type 0) where
   module _ {P : Type 0} (controls : Controls P) (waits : Waits P) where
-    -- the call was made by itself, and had this reply
+    -- each call by itself
     abbrev pub IsCalled : LoopState S P → Call S → Reply S → LoopState S P → Type 0
-    IsCalled before (call.Add value) r after = (result : Result ℕ Error) × (r ≡ reply.Added result) × (step : Step S) × IsJoin value result step × HasStepped begins controls waits before step after
-    IsCalled before (call.Remove id) r after = (result : Result S Error) × (r ≡ reply.Removed result) × (step : Step S) × IsLeave id result step × HasStepped begins controls waits before step after
-    IsCalled before (call.Set id value) r after = (result : Result S Error) × (r ≡ reply.Set result) × (step : Step S) × IsReplacement id value result step × HasStepped begins controls waits before step after
-    IsCalled before (call.Ask id requests) r after =
-        (result : Result (Vec Answer Global) Error) × (r ≡ reply.Asked result) × (step : Step S) × IsAsk id requests.items result step × HasStepped begins controls waits before step after
+    IsCalled before (call.Add value) r after = IsAnswered begins controls waits reply.Added (IsJoin value) before r after
+    IsCalled before (call.Remove id) r after = IsAnswered begins controls waits reply.Removed (IsLeave id) before r after
+    IsCalled before (call.Set id value) r after = IsAnswered begins controls waits reply.Set (IsReplacement id value) before r after
+    IsCalled before (call.Ask id requests) r after = IsAnswered begins controls waits reply.Asked (IsAsk id requests.items) before r after
     IsCalled before (call.Run ms) r after = (result : Result ℕ Error) × (r ≡ reply.Ran result) × IsLoopIteration begins serves may controls waits before ms result after
 
     -- the first of the calls was made, and then the others
@@ -62,19 +72,20 @@ module _ {P : Type 0} (controls : Controls P) (waits : Waits P) where
   leads_apart before (Wait ms capacity answer ∷ first) more after (next, did, within, rest) = let k = leads_apart next first more after rest in (k.0, (next, did, within, k.1), k.2)
 
 module _ {S J R P : Type 0} {begins : S → Exchanges → S → Type 0} {serves : S → Event → Exchanges → S → Type 0} {may : J → List (Step S) → R → Type 0} {controls : Controls P} {waits : Waits P} where
-  stepped : {before after : LoopState S P} (step : Step S) → HasCalled begins serves may controls waits before (Stepped step) after → HasStepped begins controls waits before step after
-  stepped step did = record { stepped = did.had.0; led = did.led; same_taken = did.had.1; same_capacity = did.same_capacity }
+  answered : {A : Type 0} {before after : LoopState S P} {replies : Result A Error → Reply S} {is_step : Result A Error → Step S → Type 0} {r : Reply S} (result : Result A Error) (step : Step S) → r ≡ replies result → is_step result step → HasCalled begins serves may controls waits before (Stepped step) after
+      → IsAnswered begins controls waits replies is_step before r after
+  answered result step replied is did = record { result = result; replied = replied; step = step; is_step_of = is; has_stepped = record { stepped = did.had.0; led = did.led; same_taken = did.had.1; same_capacity = did.same_capacity } }
 
   -- a call that matches an effect did what the single call promises
   pub called_alone : (before : LoopState S P) (effect : Effect S J R) (c : Call S) (r : Reply S) (after : LoopState S P) → Matches effect c r → HasCalled begins serves may controls waits before effect after → IsCalled begins serves may controls waits before c r after
-  called_alone before (Stepped (Joined value id exchanges calls held)) c r after m did = rw m.0 (Ok id, m.1, Joined value id exchanges calls held, (exchanges, calls, held, refl), stepped _ did)
-  called_alone before (Stepped (NotJoined value error)) c r after m did = rw m.0 (Err error, m.1, NotJoined value error, refl, stepped _ did)
-  called_alone before (Stepped (Left id value calls)) c r after m did = rw m.0 (Ok value, m.1, Left id value calls, (calls, refl), stepped _ did)
-  called_alone before (Stepped (NotLeft id)) c r after m did = rw m.0 (Err InvalidId, m.1, NotLeft id, (refl, refl), stepped _ did)
-  called_alone before (Stepped (Replaced id old new)) c r after m did = rw m.0 (Ok old, m.1, Replaced id old new, refl, stepped _ did)
-  called_alone before (Stepped (NotReplaced id)) c r after m did = rw m.1 (Err InvalidId, m.2, NotReplaced id, (refl, refl), stepped _ did)
-  called_alone before (Stepped (Requested id exchanges calls)) c r after m did = rw m.2 (Ok m.1, m.3, Requested id exchanges calls, (exchanges, calls, refl, m.4, m.5), stepped _ did)
-  called_alone before (Stepped (NotRequested id)) c r after m did = rw m.1 (Err InvalidId, m.2, NotRequested id, (refl, refl), stepped _ did)
+  called_alone before (Stepped (Joined value id exchanges calls held)) c r after m did = rw m.0 (answered (Ok id) _ m.1 (exchanges, calls, held, refl) did)
+  called_alone before (Stepped (NotJoined value error)) c r after m did = rw m.0 (answered (Err error) _ m.1 refl did)
+  called_alone before (Stepped (Left id value calls)) c r after m did = rw m.0 (answered (Ok value) _ m.1 (calls, refl) did)
+  called_alone before (Stepped (NotLeft id)) c r after m did = rw m.0 (answered (Err InvalidId) _ m.1 (refl, refl) did)
+  called_alone before (Stepped (Replaced id old new)) c r after m did = rw m.0 (answered (Ok old) _ m.1 refl did)
+  called_alone before (Stepped (NotReplaced id)) c r after m did = rw m.1 (answered (Err InvalidId) _ m.2 (refl, refl) did)
+  called_alone before (Stepped (Requested id exchanges calls)) c r after m did = rw m.2 (answered (Ok m.1) _ m.3 (exchanges, calls, refl, m.4, m.5) did)
+  called_alone before (Stepped (NotRequested id)) c r after m did = rw m.1 (answered (Err InvalidId) _ m.2 (refl, refl) did)
   called_alone before (Iterated iteration) c r after m did = rw m.0 (answer_of iteration.waited, m.1, record { iteration = iteration; milliseconds = refl; answer = refl; iterated = did.had; led = did.led; same_capacity = did.same_capacity })
 
   called_at : (before after : LoopState S P) (a c : Call S) (others calls : List (Call S)) (told replies : List (Reply S)) → a ∷ others ≡ c ∷ calls → told ≡ replies → AreCalled begins serves may controls waits before a others told after → AreCalled begins serves may controls waits before c calls replies after
@@ -102,10 +113,10 @@ module _ {S J R P : Type 0} {begins : S → Exchanges → S → Type 0} {serves 
       called_at before after entry.call c _ calls _ replies of.calls_are of.replies_are (entry_called before entry trace of.is_trace.0 after of.is_trace.1 of.is_trace.2 of.is_trace.3 of.led of.same_capacity)
 
   -- the first call, and the others
-  pub first_called : {before after : LoopState S P} {c : Call S} {calls : List (Call S)} {replies : List (Reply S)} → IsDriven begins serves may controls waits before (c ∷ calls) replies after → AreCalled begins serves may controls waits before c calls replies after
-  first_called {before} {after} {c} {calls} {replies} driven =
-      let t = has_first driven.trace driven.is_trace_of.calls_are in
-      traced before c calls replies after t.0 t.1 (subst (λ es. IsTraceOf begins serves may controls waits before (c ∷ calls) replies after es) t.2 driven.is_trace_of)
+  pub first_called : {before after : LoopState S P} {c : Call S} {calls known : List (Call S)} {replies : List (Reply S)} → IsDriven begins serves may controls waits before calls replies after → calls ≡ c ∷ known → AreCalled begins serves may controls waits before c known replies after
+  first_called {before} {after} {c} {calls} {known} {replies} driven are =
+      let t = has_first driven.trace (driven.is_trace_of.calls_are ∙ are) in
+      traced before c known replies after t.0 t.1 (subst (λ cs. IsTraceOf begins serves may controls waits before cs replies after (t.0 ∷ t.1)) are (subst (λ es. IsTraceOf begins serves may controls waits before calls replies after es) t.2 driven.is_trace_of))
 
   -- no call
   pub none_called : {before after : LoopState S P} {replies : List (Reply S)} → IsDriven begins serves may controls waits before [] replies after → (replies ≡ []) × (after ≡ before)
@@ -123,3 +134,26 @@ module _ {S J R P : Type 0} {begins : S → Exchanges → S → Type 0} {serves 
   pub unknown_to : {before after : LoopState S P} {calls known : List (Call S)} {replies : List (Reply S)} → IsDriven begins serves may controls waits before calls replies after → calls ≡ known → AreBelow before.registry.next before.registry.values
       → HasReplies known (λ told. (replies ≡ told) × RemovedStayUnknown known told)
   unknown_to {known = known} {replies} driven are below = with_replies driven are (λ told. (replies ≡ told) × RemovedStayUnknown known told) (refl, subst (λ cs. RemovedStayUnknown cs replies) are (driven.unknown below))
+
+module _ {S P : Type 0} {begins : S → Exchanges → S → Type 0} {controls : Controls P} {waits : Waits P} {before after : LoopState S P} {r : Reply S} where
+  -- after a Remove of it, whatever it was answered, nobody has the id
+  pub lacked_after_remove : (id : ℕ) → IsAnswered begins controls waits reply.Removed (IsLeave id) before r after → LacksId after.registry id
+  lacked_after_remove id did = by_answer did.result did.step did.is_step_of did.has_stepped.stepped
+    where
+      by_answer : (result : Result S Error) (step : Step S) → IsLeave id result step → Steps begins before.registry step after.registry → LacksId after.registry id
+      by_answer (Ok value) step is did =
+          let left : Steps begins before.registry (Left id value is.0) after.registry = subst (λ s. Steps begins before.registry s after.registry) is.1 did in
+          ap (λ (g : Registry S). get g.values id) left.4 ∙ removed_value id before.registry.values
+      by_answer (Err error) step is did =
+          let left : Steps begins before.registry (NotLeft id) after.registry = subst (λ s. Steps begins before.registry s after.registry) is.1 did in
+          ap (λ (g : Registry S). get g.values id) left.1 ∙ left.0
+
+  -- requests for an id that nobody has
+  pub refused_to_nobody : (id : ℕ) (requests : List Request) → LacksId before.registry id → IsAnswered begins controls waits reply.Asked (IsAsk id requests) before r after → r ≡ reply.Asked (Err InvalidId)
+  refused_to_nobody id requests lacks did = did.replied ∙ ap reply.Asked (by_answer did.result did.step did.is_step_of did.has_stepped.stepped)
+    where
+      by_answer : (result : Result (Vec Answer Global) Error) (step : Step S) → IsAsk id requests result step → Steps begins before.registry step after.registry → result ≡ Err InvalidId
+      by_answer (Ok answers) step is did =
+          let asked : Steps begins before.registry (Requested id is.0 is.1) after.registry = subst (λ s. Steps begins before.registry s after.registry) is.2 did in
+          let held : None ≡ Some asked.0 = sym lacks ∙ asked.2 in cc
+      by_answer (Err error) step is did = ap Err is.0

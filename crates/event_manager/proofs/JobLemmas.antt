@@ -1,20 +1,18 @@
 -- Jobs after a batch, put together to an iteration.
-use Rattle.std.proofs.Common.{◌≡◌, ◌≢◌, All, ℕ, ◌+◌, ℤ, List, [], ◌∷◌, refl, sym, ap, subst, ◌∙◌, true, false, ◌||◌, ne_eqb, Result, Ok, Err}
+use Rattle.std.proofs.Common.{◌≡◌, ◌≢◌, All, ℕ, ◌+◌, ℤ, List, [], ◌∷◌, refl, sym, ap, ◌∙◌, true, false, ◌||◌, ne_eqb, Result, Ok, Err}
 use Rattle.std.proofs.lemmas.Bool.{false≢true}
-use Rattle.std.proofs.lemmas.List.{append-nil}
 use Rattle.std.proofs.lemmas.List.Elements.{All-head, All-tail}
 use Rattle.vmm_sys.specs.declared.errno.Errno.{Errno}
 use Rattle.dispatch_tables.specs.Event.{Event}
-use Rattle.event_loop.specs.PollerCall.{Wait, Controls, Waits, Leads}
+use Rattle.event_loop.specs.PollerCall.{Wait, Controls, Waits}
 use Rattle.event_loop.specs.Exchange.{Exchanges}
-use Rattle.event_loop.specs.Registry.{Registry, Step}
+use Rattle.event_loop.specs.Registry.{Step}
 use Rattle.event_loop.specs.Dispatch.{Position}
 use Rattle.event_loop.specs.Iteration.{IsAfterWait, is_reported, calls_of_steps, calls_of_positions, calls_of_jobs}
 use Rattle.event_loop.specs.LoopState.{LoopState, HasStepped, IsDispatchedAfter, IsLoopIteration}
 use Rattle.event_manager.specs.JobRuns.{HasRun, JobsAreRun}
-use Rattle.event_loop.specs.Subscribers.{IsBatch, Notices, count_of}
+use Rattle.event_loop.specs.Subscribers.{IsBatch, Notices}
 use Rattle.event_loop.specs.declared.subscribers.Batch.{Batch}
-use Rattle.event_loop.specs.declared.error.Error.{Error}
 use Rattle.event_loop.proofs.ExchangeLemmas.{leads_join}
 
 -- a step of the registry is the manager's, whatever it has taken
