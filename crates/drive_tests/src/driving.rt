@@ -3,9 +3,9 @@
 use crate::expecting::expect_ok;
 use crate::subscribers::Quiet;
 use crate::told::{Told, tell};
-use event_manager::drive;
 use event_manager::{
-    Call, EventManager, EventPoller, MutEventSubscriber, Naming, NoJob, Reply, Result, SubscriberId,
+    Call, EventManager, EventPoller, MutEventSubscriber, Naming, NoJob, Reply, Result,
+    SubscriberId, drive,
 };
 use fixtures::making::{WithManager, with_manager};
 use fixtures::parts::silent_parts;

@@ -5,10 +5,9 @@ use crate::expecting::{expect_ok, expect_same};
 use crate::leaving::{remove_then_ask, replace_then_ask};
 use crate::subscribers::{Quiet, wanted};
 use crate::told::{Told, tell};
-use event_manager::drive;
 use event_manager::{
     Call, Error, EventManager, EventOps, EventPoller, Events, MutEventSubscriber, Naming, NoJob,
-    Reply, Request, Result, SubscriberOps,
+    Reply, Request, Result, SubscriberOps, drive,
 };
 use fixtures::making::{WithManager, with_manager};
 use fixtures::parts::silent_parts;

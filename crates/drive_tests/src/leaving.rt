@@ -8,10 +8,9 @@ ghost use Rattle.event_manager.specs.Error.TheVariants.{InvalidId};
 ghost use Rattle.event_manager.specs.declared.calls.Reply.{Reply};
 ghost use Rattle.event_manager.specs.declared.calls.Reply.TheVariants.{Removed, Asked};
 
-use event_manager::drive;
 use event_manager::{
     Call, EventManager, EventPoller, Job, MutEventSubscriber, Naming, Reply, Request, Result,
-    SubscriberId,
+    SubscriberId, drive,
 };
 use std::alloc::Global;
 use std::sync::Wait;

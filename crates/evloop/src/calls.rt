@@ -6,10 +6,9 @@ ghost use Rattle.event_manager.specs.Manager.{state_of};
 ghost use Rattle.evloop.specs.Calls.{IsReplyTo, Joins, Leaves, Asks, Runs};
 
 use crate::output::{Out, OutputLine, Printer};
-use event_manager::drive;
 use event_manager::{
     Call, Error, EventManager, EventPoller, Job, MutEventSubscriber, Naming, Reply, Request,
-    SubscriberId,
+    SubscriberId, drive,
 };
 use evloop_script::fault::Fault;
 use std::alloc::Global;

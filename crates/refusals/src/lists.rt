@@ -8,9 +8,10 @@ use crate::joins::{heard, join};
 use crate::making::{Body, Manager, over_script};
 use crate::tables::event_of;
 use crate::watcher::Watcher;
-use event_manager::drive;
 use event_manager::jobs::{Outcome, Step, replay};
-use event_manager::{Call, Error, EventPoller, EventSet, Events, Naming, Reply, SubscriberId};
+use event_manager::{
+    Call, Error, EventPoller, EventSet, Events, Naming, Reply, SubscriberId, drive,
+};
 use std::alloc::Global;
 
 /// A list of calls over a script.
