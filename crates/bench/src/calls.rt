@@ -3,8 +3,6 @@
 //! Both wait without a limit, so whoever misses a wake-up or a reply waits for ever. The program's first thread looks on:
 //! where no reply has come for ten seconds, it ends the program with 1 and a line that says so.
 
-ghost use Rattle.std.specs.Prelude.{◌≡◌};
-
 use crate::arguments::Family;
 use crate::bench::{Bench, Host, Measured};
 use crate::fault::{Fault, expect};
@@ -12,42 +10,69 @@ use crate::jobs::CountOne;
 use crate::progress::Progress;
 use crate::subscribers::{Counter, FIRST};
 use crate::timing::{REPEATS, Times};
-use event_manager::{EventManager, Ledgers, Naming, RemoteEndpoint, SubscriberId, SubscriberOps};
+use event_manager::{
+    Error, EventManager, EventPoller, LoopWithSenders, Naming, RemoteEndpoint, Sender,
+    SubscriberId, SubscriberOps, with_senders,
+};
 use std::alloc::Global;
-use std::marker::Brand;
-use std::sync::atomic::{AtomicBool, Ordering};
-use std::sync::ledger::Blank;
 use std::sync::{Arc, Wait};
 use std::thread;
 use std::time::Clock;
 use vmm_sys::epoll::Epoll;
 use vmm_sys::eventfd::EventFd;
 
-/// A loop with one counter, over the in-process table.
-type Loop<N, R> = EventManager<Counter, CountOne, N, Epoll<R>>;
-
-/// How many parts the ledger of a manager's tickets has.
-const TICKET_PARTS: u64 = 9223372036854775808;
-
 /// How many jobs a repeat sends.
 const JOBS: u32 = 2000;
 
-/// How often the loop waits at most, each time without a limit, which would hide a lost wake-up.
-const MAX_WAITS: u32 = 1000000;
+/// A loop with one counter, which is called so often in each repeat.
+#[derive(Drop)]
+struct CalledLoop<'a> {
+    rounds: u32,
+    progress: &'a Progress,
+}
 
-/// Runs the loop until the flag is set, or it has waited `MAX_WAITS` times.
-fn run_until<N: Naming, R: Wait + Clock + Clone + Send + Drop>(
-    manager: &mut Loop<N, R>,
-    stopped: &AtomicBool,
-    rt: &R,
-) -> Result<(), Fault> {
-    for _ in 0..MAX_WAITS {
-        manager.run(rt)?;
-        if stopped.load(Ordering::SeqCst) {
-            break;
+/// Who calls it, so often in each repeat.
+#[derive(Drop)]
+struct Caller<'a> {
+    id: SubscriberId,
+    rounds: u32,
+    progress: &'a Progress,
+}
+
+impl<'a, R: Wait + Clock> LoopWithSenders<Counter, CountOne, Caller<'a>, R> for CalledLoop<'a> {
+    fn begin<N: Naming, P: EventPoller>(
+        &mut self,
+        _rt: &R,
+        alloc: Global,
+        manager: &mut EventManager<Counter, CountOne, N, P>,
+    ) -> event_manager::Result<Vec<Caller<'a>>> {
+        let caller = Caller {
+            id: manager.add_subscriber(Counter::new(FIRST as i32, 0))?,
+            rounds: self.rounds,
+            progress: self.progress,
+        };
+        let mut callers = Vec::new(alloc);
+        match callers.push(caller) {
+            Ok(()) => Ok(callers),
+            Err(_refused) => Err(Error::OutOfMemory),
         }
     }
-    Ok(())
+}
+
+impl<R: Wait + Clock> Sender<Counter, CountOne, Result<Times, Fault>, R> for Caller<'_> {
+    /// Sends the jobs of all repeats.
+    fn send<N: Naming>(
+        self,
+        endpoint: &RemoteEndpoint<Counter, CountOne, N>,
+        rt: &R,
+    ) -> Result<Times, Fault> {
+        let Caller {
+            id,
+            rounds,
+            progress,
+        } = self;
+        Times::of(|| call_often(endpoint, id, rounds, progress, rt), rt)
+    }
 }
 
 /// Sends so many jobs, and waits for the reply of each.
@@ -65,66 +90,25 @@ fn call_often<N: Naming, R: Wait + Clock>(
     Ok(())
 }
 
-/// Sends the jobs of all repeats, and then stops the loop.
-fn call_and_stop<N: Naming, R: Wait + Clock>(
-    endpoint: &RemoteEndpoint<Counter, CountOne, N>,
-    id: SubscriberId,
-    rounds: u32,
-    stopped: &AtomicBool,
-    progress: &Progress,
+/// Makes the loop over the in-process table, and measures a call beside it.
+fn measure<R: Host>(
     rt: &R,
-) -> Result<Times, Fault> {
-    let times = Times::of(|| call_often(endpoint, id, rounds, progress, rt), rt);
-    stopped.store(true, Ordering::SeqCst);
-    let _ = endpoint.kick(rt);
-    times
-}
-
-/// Sends the jobs of all repeats beside the loop's thread. Whatever ends the loop, it is closed, so that nobody waits for a
-/// reply any more. Answers the times, and how many jobs were taken.
-fn call_beside<N: Naming + Send + Sync, R: Host>(
-    mut manager: Loop<N, R>,
-    id: SubscriberId,
-    rounds: u32,
-    progress: &Progress,
-    rt: &R,
-) -> Result<(Times, u64), Fault> {
-    let endpoint = manager.remote_endpoint()?;
-    let stopped = AtomicBool::new(false);
-    let (called, (ran, closed)) = thread::join(
-        rt,
-        || call_and_stop(&endpoint, id, rounds, &stopped, progress, rt),
-        || {
-            let ran = run_until(&mut manager, &stopped, rt);
-            (ran, manager.close(rt))
-        },
-    );
-    ran?;
-    Ok((called?, closed.taken()))
-}
-
-/// Makes the loop, and measures a call over it.
-fn measure<N: Naming + Send + Sync, R: Host>(
-    rt: R,
     alloc: Global,
     rounds: u32,
     progress: &Progress,
-    tickets: Blank,
-    taken: Blank,
-) -> Result<Measured, Fault>
-    requires tickets { (tickets.name ≡ N.tickets) × (tickets.parts ≡ 9223372036854775808) }
-    requires taken { (taken.name ≡ N.taken) × (taken.parts ≡ 1) }
-{
-    let ledgers = Ledgers::<N>::new(tickets, taken);
-    let epoll = Epoll::new(rt, alloc)?;
-    let event_fd = EventFd::new(&epoll, 0, &rt)?;
-    let mut manager = Loop::<N, R>::new(alloc, epoll, event_fd, ledgers)?;
-    let id = manager.add_subscriber(Counter::new(FIRST as i32, 0))?;
-    let (times, jobs) = call_beside(manager, id, rounds, progress, &rt)?;
+) -> Result<Measured, Fault> {
+    let epoll = Epoll::new(*rt, alloc)?;
+    let event_fd = EventFd::new(&epoll, 0, rt)?;
+    let mut called = CalledLoop { rounds, progress };
+    let ended = with_senders(rt, alloc, epoll, event_fd, &mut called)?;
+    ended.ran?;
+    let Some(times) = ended.sent.into_iter().next() else {
+        return Err(Fault::Thread);
+    };
     Ok(Measured {
-        times,
+        times: times?,
         operations: rounds as u64,
-        count: expect(jobs, REPEATS as u64 * rounds as u64)?,
+        count: expect(ended.taken, REPEATS as u64 * rounds as u64)?,
     })
 }
 
@@ -135,8 +119,7 @@ fn measure_to_end<R: Host>(
     rounds: u32,
     progress: &Progress,
 ) -> Result<Measured, Fault> {
-    let (tickets, taken) = (Blank::new(TICKET_PARTS), Blank::new(1));
-    let measured = measure::<Brand, R>(rt, alloc, rounds, progress, tickets, taken);
+    let measured = measure(&rt, alloc, rounds, progress);
     progress.end(&rt);
     measured
 }

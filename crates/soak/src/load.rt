@@ -1,17 +1,11 @@
-//! The threads that load the loop, and what must come of it.
-
-ghost use Rattle.std.specs.Prelude.{◌≡◌};
+//! The loop and its load, and what must come of it.
 
 use crate::fault::{Fault, expect};
-use crate::parts::{Pair, Parts};
+use crate::parts::{DEVICES, Parts};
 use crate::progress::Progress;
-use crate::senders::{Sender, call_all, fire_all, write_all};
-use crate::served::{Loop, Served, serve};
-use event_manager::{Ledgers, Naming, SubscriberOps};
+use crate::served::{Counts, Served};
+use event_manager::with_senders;
 use std::alloc::Global;
-use std::marker::Brand;
-use std::sync::atomic::{AtomicBool, Ordering};
-use std::sync::ledger::Blank;
 use std::sync::{Arc, Wait};
 use std::thread;
 use std::thread::Threads;
@@ -23,12 +17,6 @@ use vmm_sys::eventfd::EventFd;
 pub trait Host: Threads + Wait + Clock + Print + Copy + Send + Sync + Drop + 'static {}
 
 impl<R: Threads + Wait + Clock + Print + Copy + Send + Sync + Drop + 'static> Host for R {}
-
-/// How many parts the ledger of a manager's tickets has.
-const TICKET_PARTS: u64 = 9223372036854775808;
-
-/// How many devices there are.
-const DEVICES: u32 = 4;
 
 /// How many jobs of a round are waited for, each behind one that isn't: a guest joins, and leaves, and a job counts
 /// itself.
@@ -51,130 +39,62 @@ pub struct Loaded {
     pub guests: u64,
 }
 
-// Sends jobs on one thread, and calls on another.
-fn send_and_call<N: Naming + Send + Sync, R: Host>(
-    endpoint: &Sender<N, R>,
-    parts: &Parts,
-    rounds: u32,
-    progress: &Progress,
-    rt: &R,
-) -> Result<(), Fault> {
-    let (fired, called) = thread::join(
-        rt,
-        || fire_all(endpoint, parts.ids.as_slice(), rounds, progress, rt),
-        || call_all(endpoint, parts, rounds, progress, rt),
-    );
-    fired?;
-    called
-}
-
-// Writes, sends and calls, each on a thread of its own; then stops the loop, whatever came of them.
-fn load_beside<N: Naming + Send + Sync, R: Host>(
-    endpoint: &Sender<N, R>,
-    parts: &Parts,
-    rounds: u32,
-    stopped: &AtomicBool,
-    progress: &Progress,
-    rt: &R,
-) -> Result<(), Fault> {
-    let (written, sent) = thread::join(
-        rt,
-        || write_all(parts.pairs.as_slice(), rounds, progress, rt),
-        || send_and_call(endpoint, parts, rounds, progress, rt),
-    );
-    stopped.store(true, Ordering::SeqCst);
-    let _ = endpoint.kick(rt);
-    written?;
-    sent
-}
-
-// Runs the loop beside its load.
-fn run_loaded<N: Naming + Send + Sync, R: Host>(
-    manager: Loop<N, R>,
-    parts: &Parts,
-    rounds: u32,
-    progress: &Progress,
-    rt: &R,
-) -> Result<Served, Fault> {
-    let endpoint = manager.remote_endpoint()?;
-    let stopped = AtomicBool::new(false);
-    let (loaded, served) = thread::join(
-        rt,
-        || load_beside(&endpoint, parts, rounds, &stopped, progress, rt),
-        || serve(manager, parts.ids.as_slice(), &stopped, rt),
-    );
-    let served = served?;
-    loaded?;
-    Ok(served)
-}
-
 // All that must come of so many rounds.
-fn judge(rounds: u32, served: Served) -> Result<Loaded, Fault> {
+fn judge(rounds: u32, counts: Counts, issued: u64, taken: u64) -> Result<Loaded, Fault> {
     let called = rounds as u64 * CALLS;
     let fired = rounds as u64 * (DEVICES as u64 + 1) + called;
     let written = rounds as u64 * DEVICES as u64 * 2;
-    expect("read of the devices", served.read, written)?;
-    expect("jobs that ran", served.counted, fired + rounds as u64)?;
-    expect("jobs sent", served.issued, fired + called)?;
-    expect("jobs taken", served.taken, fired + called)?;
+    expect("refused requests of the devices", counts.refused, 0)?;
+    expect("read of the devices", counts.read, written)?;
+    expect("jobs that ran", counts.jobs, fired + rounds as u64)?;
+    expect("jobs sent", issued, fired + called)?;
+    expect("jobs taken", taken, fired + called)?;
     Ok(Loaded {
         rounds,
-        read: served.read,
+        read: counts.read,
         fired,
         called,
-        taken: served.taken,
+        taken,
         guests: rounds as u64,
     })
 }
 
-// Makes the manager and its devices, and loads it.
-fn load_manager<N: Naming + Send + Sync, R: Host>(
-    rt: R,
+// Makes a loop and its devices, and runs it beside its load.
+fn load_loop<R: Host>(
+    rt: &R,
     alloc: Global,
     rounds: u32,
-    progress: &Progress,
-    tickets: Blank,
-    taken: Blank,
-) -> Result<Loaded, Fault>
-    requires tickets { (tickets.name ≡ N.tickets) × (tickets.parts ≡ 9223372036854775808) }
-    requires taken { (taken.name ≡ N.taken) × (taken.parts ≡ 1) }
-{
-    let ledgers = Ledgers::<N>::new(tickets, taken);
-    let epoll = Epoll::new(rt, alloc)?;
-    let endpoint = EventFd::new(&epoll, 0, &rt)?;
-    let mut parts = Parts {
-        guest: Pair::new(&epoll, &rt)?,
-        pairs: Vec::new(alloc),
-        ids: Vec::new(alloc),
-    };
-    for _ in 0..DEVICES {
-        parts.pairs.push(Pair::new(&epoll, &rt)?)?;
+    progress: &Arc<Progress>,
+) -> Result<Loaded, Fault> {
+    let epoll = Epoll::new(*rt, alloc)?;
+    let event_fd = EventFd::new(&epoll, 0, rt)?;
+    let parts = Parts::new(&epoll, alloc, rounds, Arc::try_clone(progress)?, rt)?;
+    let mut served = Served::new(alloc, &parts);
+    let ended = with_senders(rt, alloc, epoll, event_fd, &mut served)?;
+    ended.ran?;
+    for loaded in ended.sent {
+        loaded?;
     }
-    let mut manager = Loop::<N, R>::new(alloc, epoll, endpoint, ledgers)?;
-    for pair in &parts.pairs {
-        parts.ids.push(manager.add_subscriber(pair.device(&rt)?)?)?;
-    }
-    let served = run_loaded(manager, &parts, rounds, progress, &rt)?;
-    judge(rounds, served)
+    judge(rounds, served.counts(), ended.issued, ended.taken)
 }
 
-// Loads a manager, and notes the end of it.
+// Loads a loop, and notes the end of it.
 fn load_to_end<R: Host>(
     rt: R,
     alloc: Global,
     rounds: u32,
-    progress: &Progress,
+    progress: &Arc<Progress>,
 ) -> Result<Loaded, Fault> {
-    let (tickets, taken) = (Blank::new(TICKET_PARTS), Blank::new(1));
-    let loaded = load_manager::<Brand, R>(rt, alloc, rounds, progress, tickets, taken);
+    let loaded = load_loop(&rt, alloc, rounds, progress);
     progress.end(&rt);
     loaded
 }
 
 /// Loads an event manager for so many rounds, on other threads than this one, which looks on.
 ///
-/// `Descriptor`, `Manager`, `Memory`: a call was refused. `Count`, `Reply`: something was lost, came twice, or came to
-/// another. `Stalled`: something was lost, and the others wait for it; so they are left alone, and end with the program.
+/// `Descriptor`, `Manager`, `Memory`, `Thread`: a call was refused. `Count`, `Reply`: something was lost, came twice, or
+/// came to another. `Stalled`: something was lost, and the others wait for it; so they are left alone, and end with the
+/// program.
 pub fn load<R: Host>(rt: R, alloc: Global, rounds: u32) -> Result<Loaded, Fault> {
     let progress = Arc::new(alloc, Progress::new())?;
     let theirs = Arc::try_clone(&progress)?;

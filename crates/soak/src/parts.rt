@@ -2,11 +2,16 @@
 
 use crate::device::Device;
 use crate::fault::Fault;
-use event_manager::SubscriberId;
-use std::sync::Wait;
+use crate::progress::Progress;
+use std::alloc::Global;
+use std::sync::{Arc, Wait};
 use std::time::Clock;
 use vmm_sys::epoll::Epoll;
+use vmm_sys::errno::Errno;
 use vmm_sys::eventfd::EventFd;
+
+/// How many devices there are.
+pub const DEVICES: u32 = 4;
 
 /// Two counters of the table.
 #[derive(Drop)]
@@ -27,8 +32,8 @@ impl Pair {
         })
     }
 
-    /// A device over them. `Descriptor`.
-    pub fn device<R: Wait + Copy>(&self, rt: &R) -> Result<Device<R>, Fault> {
+    /// A device over them. Refused with what a copy of a counter is refused with.
+    pub fn device<R: Wait + Copy>(&self, rt: &R) -> Result<Device<R>, Errno> {
         Ok(Device::new(self.first.try_clone()?, self.second.try_clone()?, *rt))
     }
 
@@ -54,6 +59,30 @@ pub struct Parts {
     pub guest: Pair,
     /// Those of each device.
     pub pairs: Vec<Pair>,
-    /// The devices.
-    pub ids: Vec<SubscriberId>,
+    /// How many rounds there are.
+    pub rounds: u32,
+    /// Where those who load it note how far they have come.
+    pub progress: Arc<Progress>,
+}
+
+impl Parts {
+    /// New ones, of this table. `Descriptor`, `Memory`.
+    pub fn new<R: Wait + Clock + Clone + Send + Drop>(
+        epoll: &Epoll<R>,
+        alloc: Global,
+        rounds: u32,
+        progress: Arc<Progress>,
+        rt: &R,
+    ) -> Result<Parts, Fault> {
+        let mut pairs = Vec::new(alloc);
+        for _ in 0..DEVICES {
+            pairs.push(Pair::new(epoll, rt)?)?;
+        }
+        Ok(Parts {
+            guest: Pair::new(epoll, rt)?,
+            pairs,
+            rounds,
+            progress,
+        })
+    }
 }

@@ -1,50 +1,74 @@
-//! The threads that load the loop.
+//! Those who load the loop, each from a thread of its own.
 
 use crate::device::Device;
 use crate::fault::{Fault, expect};
 use crate::parts::{Pair, Parts};
 use crate::progress::Progress;
 use crate::work::{Reply, Work};
-use event_manager::{Naming, RemoteEndpoint, SubscriberId};
+use event_manager::{Naming, RemoteEndpoint, Sender, SubscriberId};
 use std::sync::Wait;
 use std::thread;
 use std::time::{Clock, Duration};
 
-/// By which a thread sends jobs to the loop.
-pub type Sender<N, R> = RemoteEndpoint<Device<R>, Work<R>, N>;
+/// By which jobs are sent to the loop.
+type Endpoint<N, R> = RemoteEndpoint<Device<R>, Work<R>, N>;
 
 /// For how many microseconds a thread sleeps that waits until no job waits.
 const PAUSE: u64 = 10;
 
-/// Writes to each counter of each device, once a round.
-pub fn write_all<R: Wait>(
-    pairs: &[Pair],
-    rounds: u32,
-    progress: &Progress,
-    rt: &R,
-) -> Result<(), Fault> {
-    for _ in 0..rounds {
-        for pair in pairs {
-            pair.write(rt)?;
+/// What is done in a round.
+#[derive(Drop)]
+pub enum Load {
+    /// Each counter of each device is written to.
+    Write,
+    /// A job is sent to each device.
+    Fire(Vec<SubscriberId>),
+    /// A guest is received, and a job sent to the device; each has its reply. Then another job is sent, and none waits any
+    /// more.
+    Call(SubscriberId),
+}
+
+/// Loads the loop, and notes each round.
+#[derive(Drop)]
+pub struct Loader<'a> {
+    /// What it does in a round.
+    pub load: Load,
+    /// What all load the loop with.
+    pub parts: &'a Parts,
+}
+
+impl<R: Wait + Clock + Copy + Drop> Sender<Device<R>, Work<R>, Result<(), Fault>, R>
+    for Loader<'_> {
+    fn send<N: Naming>(self, endpoint: &Endpoint<N, R>, rt: &R) -> Result<(), Fault> {
+        let parts = self.parts;
+        for _ in 0..parts.rounds {
+            match &self.load {
+                Load::Write => write_all(parts.pairs.as_slice(), rt)?,
+                Load::Fire(ids) => fire_all(endpoint, ids.as_slice(), rt)?,
+                Load::Call(device) => call_all(endpoint, *device, parts, rt)?,
+            }
+            parts.progress.step();
         }
-        progress.step();
+        Ok(())
+    }
+}
+
+// Writes to each counter of each device.
+fn write_all<R: Wait>(pairs: &[Pair], rt: &R) -> Result<(), Fault> {
+    for pair in pairs {
+        pair.write(rt)?;
     }
     Ok(())
 }
 
-/// Sends a job to each device, once a round.
-pub fn fire_all<N: Naming, R: Wait + Clock + Drop>(
-    endpoint: &Sender<N, R>,
+// Sends a job to each device.
+fn fire_all<N: Naming, R: Wait + Clock + Drop>(
+    endpoint: &Endpoint<N, R>,
     ids: &[SubscriberId],
-    rounds: u32,
-    progress: &Progress,
     rt: &R,
 ) -> Result<(), Fault> {
-    for _ in 0..rounds {
-        for id in ids {
-            let _ticket = endpoint.fire(Work::Count(*id), rt)?;
-        }
-        progress.step();
+    for id in ids {
+        let _ticket = endpoint.fire(Work::Count(*id), rt)?;
     }
     Ok(())
 }
@@ -52,7 +76,7 @@ pub fn fire_all<N: Naming, R: Wait + Clock + Drop>(
 // Sends a job to the device of the id, and right behind it one whose reply is waited for: so a loop that the first has
 // woken, and that misses the second, sleeps on while its caller waits.
 fn fire_and_call<N: Naming, R: Wait + Clock + Drop>(
-    endpoint: &Sender<N, R>,
+    endpoint: &Endpoint<N, R>,
     id: SubscriberId,
     work: Work<R>,
     progress: &Progress,
@@ -67,7 +91,7 @@ fn fire_and_call<N: Naming, R: Wait + Clock + Drop>(
 
 // Sends a job to the device of the id, and waits until no job waits: one that the loop missed waits on.
 fn fire_and_settle<N: Naming, R: Wait + Clock + Drop>(
-    endpoint: &Sender<N, R>,
+    endpoint: &Endpoint<N, R>,
     id: SubscriberId,
     rt: &R,
 ) -> Result<(), Fault> {
@@ -83,7 +107,7 @@ fn fire_and_settle<N: Naming, R: Wait + Clock + Drop>(
 
 // A guest joins, is written to, and leaves: it has read what it didn't leave unread.
 fn receive_guest<N: Naming, R: Wait + Clock + Copy + Drop>(
-    endpoint: &Sender<N, R>,
+    endpoint: &Endpoint<N, R>,
     id: SubscriberId,
     pair: &Pair,
     progress: &Progress,
@@ -103,27 +127,19 @@ fn receive_guest<N: Naming, R: Wait + Clock + Copy + Drop>(
     expect("read of a guest", read.saturating_add(pair.rest(rt)), 2)
 }
 
-/// Receives a guest, and sends a job to the first device, once a round; each has its reply. At the end of a round another
-/// job is sent, and none waits any more.
-pub fn call_all<N: Naming, R: Wait + Clock + Copy + Drop>(
-    endpoint: &Sender<N, R>,
+// Receives a guest, and sends a job to the device; each has its reply. Then another job is sent, and none waits any more.
+fn call_all<N: Naming, R: Wait + Clock + Copy + Drop>(
+    endpoint: &Endpoint<N, R>,
+    device: SubscriberId,
     parts: &Parts,
-    rounds: u32,
-    progress: &Progress,
     rt: &R,
 ) -> Result<(), Fault> {
-    let Some(id) = parts.ids.first() else {
-        return Ok(());
+    let progress = &parts.progress;
+    receive_guest(endpoint, device, &parts.guest, progress, rt)?;
+    let count = Work::Count(device);
+    let Reply::Counted(counted) = fire_and_call(endpoint, device, count, progress, rt)? else {
+        return Err(Fault::Reply);
     };
-    for _ in 0..rounds {
-        receive_guest(endpoint, *id, &parts.guest, progress, rt)?;
-        let count = Work::Count(*id);
-        let Reply::Counted(counted) = fire_and_call(endpoint, *id, count, progress, rt)? else {
-            return Err(Fault::Reply);
-        };
-        counted?;
-        fire_and_settle(endpoint, *id, rt)?;
-        progress.step();
-    }
-    Ok(())
+    counted?;
+    fire_and_settle(endpoint, device, rt)
 }

@@ -1,89 +1,114 @@
 //! The loop's thread.
 
 use crate::device::Device;
-use crate::fault::{Fault, expect};
+use crate::parts::Parts;
+use crate::senders::{Load, Loader};
 use crate::work::Work;
-use event_manager::{EventManager, Naming, SubscriberId, SubscriberOps};
+use event_manager::{
+    Error, EventManager, EventPoller, LoopWithSenders, Naming, Result, Senders, SubscriberId,
+    SubscriberOps,
+};
+use std::alloc::Global;
 use std::sync::Wait;
-use std::sync::atomic::{AtomicBool, Ordering};
 use std::time::Clock;
-use vmm_sys::epoll::Epoll;
 
-/// The event manager under load, over the in-process table.
-pub type Loop<N, R> = EventManager<Device<R>, Work<R>, N, Epoll<R>>;
-
-/// How often the loop waits at most while it is loaded, each time without a limit, which would hide a lost wake-up.
-const MAX_WAITS: u32 = 100_000_000;
-
-/// How often it waits at most, for nothing, once its load has ended.
+/// How often the loop waits at most, for nothing, once its load has ended.
 const MAX_LAST_WAITS: u32 = 1000;
 
-/// What the loop has done when it ends.
+/// What the devices have counted in all, each number up to `u64::MAX`.
 #[derive(Clone, Copy)]
-pub struct Served {
-    /// What the devices have read in all.
+pub struct Counts {
+    /// What they have read.
     pub read: u64,
     /// How many jobs have counted themselves.
-    pub counted: u64,
-    /// How many jobs were sent.
-    pub issued: u64,
-    /// How many jobs were taken.
-    pub taken: u64,
+    pub jobs: u64,
+    /// How many of their requests were refused.
+    pub refused: u64,
 }
 
-// Runs until the flag is set, and then until nothing is reported any more.
-fn run_until<N: Naming, R: Wait + Clock + Clone + Send + Drop>(
-    manager: &mut Loop<N, R>,
-    stopped: &AtomicBool,
-    rt: &R,
-) -> Result<(), Fault> {
-    for _ in 0..MAX_WAITS {
-        manager.run(rt)?;
-        if stopped.load(Ordering::SeqCst) {
-            break;
+/// The loop under load: each of its waits is without a limit, which would hide a lost wake-up.
+#[derive(Drop)]
+pub struct Served<'a> {
+    parts: &'a Parts,
+    ids: Vec<SubscriberId>,
+    counts: Counts,
+}
+
+impl<'a> Served<'a> {
+    /// One with no device yet, which is to be loaded with these parts.
+    pub fn new(alloc: Global, parts: &'a Parts) -> Self {
+        Served {
+            parts,
+            ids: Vec::new(alloc),
+            counts: Counts {
+                read: 0,
+                jobs: 0,
+                refused: 0,
+            },
         }
     }
-    for _ in 0..MAX_LAST_WAITS {
-        if manager.run_with_timeout(0, rt)? == 0 {
-            break;
+
+    /// What the devices had counted when the loop ended.
+    pub fn counts(&self) -> Counts {
+        self.counts
+    }
+
+    // Lets the devices leave, and adds up what they have counted.
+    fn gather<N: Naming, P: EventPoller, R: Wait + Drop>(
+        &mut self,
+        manager: &mut EventManager<Device<R>, Work<R>, N, P>,
+    ) -> Result<()> {
+        for id in &self.ids {
+            let device = manager.remove_subscriber(*id)?;
+            self.counts = Counts {
+                read: self.counts.read.saturating_add(device.read),
+                jobs: self.counts.jobs.saturating_add(device.jobs),
+                refused: self.counts.refused.saturating_add(device.refused),
+            };
         }
+        Ok(())
     }
-    Ok(())
 }
 
-// Lets the devices leave: what they have read, and how many jobs have counted themselves there.
-fn gather<N: Naming, R: Wait + Clock + Clone + Send + Drop>(
-    manager: &mut Loop<N, R>,
-    ids: &[SubscriberId],
-) -> Result<(u64, u64), Fault> {
-    let (mut read, mut counted) = (0u64, 0u64);
-    for id in ids {
-        let device = manager.remove_subscriber(*id)?;
-        expect("refused requests of a device", device.refused, 0)?;
-        read = read.saturating_add(device.read);
-        counted = counted.saturating_add(device.jobs);
+impl<'a, R: Wait + Clock + Copy + Drop> LoopWithSenders<Device<R>, Work<R>, Loader<'a>, R>
+    for Served<'a> {
+    fn begin<N: Naming, P: EventPoller>(
+        &mut self,
+        rt: &R,
+        alloc: Global,
+        manager: &mut EventManager<Device<R>, Work<R>, N, P>,
+    ) -> Result<Vec<Loader<'a>>> {
+        let parts = self.parts;
+        for pair in &parts.pairs {
+            let device = pair.device(rt).map_err(Error::EventFd)?;
+            self.ids.push(manager.add_subscriber(device)?)?;
+        }
+        let ids = self.ids.iter().copied().collect(alloc)?;
+        let Some(first) = self.ids.first() else {
+            return Err(Error::InvalidId);
+        };
+        let mut loaders = Vec::new(alloc);
+        for load in [Load::Write, Load::Fire(ids), Load::Call(*first)] {
+            match loaders.push(Loader { load, parts }) {
+                Ok(()) => {}
+                Err(_refused) => return Err(Error::OutOfMemory),
+            }
+        }
+        Ok(loaders)
     }
-    Ok((read, counted))
-}
 
-/// Runs the loop until the flag is set and nothing is left to do. Whatever ends it, it is closed, so that nobody waits for
-/// a reply any more.
-pub fn serve<N: Naming, R: Wait + Clock + Clone + Send + Drop>(
-    manager: Loop<N, R>,
-    ids: &[SubscriberId],
-    stopped: &AtomicBool,
-    rt: &R,
-) -> Result<Served, Fault> {
-    let mut manager = manager;
-    let ran = run_until(&mut manager, stopped, rt);
-    let gathered = gather(&mut manager, ids);
-    let closed = manager.close(rt);
-    ran?;
-    let (read, counted) = gathered?;
-    Ok(Served {
-        read,
-        counted,
-        issued: closed.issued(),
-        taken: closed.taken(),
-    })
+    fn run<N: Naming, P: EventPoller>(
+        &mut self,
+        rt: &R,
+        manager: &mut EventManager<Device<R>, Work<R>, N, P>,
+        senders: &Senders,
+    ) -> Result<()> {
+        senders.run_until_ended(manager, rt)?;
+        for _ in 0..MAX_LAST_WAITS {
+            if manager.run_with_timeout(0, rt)? == 0 {
+                break;
+            }
+        }
+        self.gather(manager)
+    }
 }
