@@ -8,7 +8,7 @@ use crate::descriptors::{copy_epoll, is_unregistered};
 use crate::echo::Echo;
 use crate::fault::{Fault, expect, expect_unchanged, named};
 use crate::host::Host;
-use crate::jobs::Sender;
+use crate::jobs::Endpoint;
 use crate::making::{Manager, OnTable, copy_counter, open_table};
 use event_manager::{Ledgers, Naming};
 use std::alloc::Global;
@@ -66,7 +66,7 @@ fn start<R: Threads, F: FnOnce() -> (u64, u64) + Send + Drop + 'static>(
 }
 
 /// Calls a job, and waits for its reply.
-fn call_one<N: Naming, R: Host>(endpoint: &Sender<N>, number: u64, rt: &R) -> Result<(), Fault> {
+fn call_one<N: Naming, R: Host>(endpoint: &Endpoint<N>, number: u64, rt: &R) -> Result<(), Fault> {
     let name = CallName::CallBlocking;
     let reply = again!(
         name,
@@ -77,7 +77,7 @@ fn call_one<N: Naming, R: Host>(endpoint: &Sender<N>, number: u64, rt: &R) -> Re
 }
 
 /// Calls the jobs one after another.
-fn call<N: Naming, R: Host>(endpoint: &Sender<N>, rt: &R) -> Result<(), Fault> {
+fn call<N: Naming, R: Host>(endpoint: &Endpoint<N>, rt: &R) -> Result<(), Fault> {
     for k in 0..CALLS {
         call_one(endpoint, k, rt)?;
     }
@@ -93,7 +93,7 @@ fn make_flag(alloc: Global) -> Result<(Arc<AtomicBool>, Arc<AtomicBool>), Fault>
 
 /// Calls jobs of the loop that another thread serves, and then ends that.
 fn call_and_stop<N: Naming, R: Host + Threads>(
-    endpoint: &Sender<N>,
+    endpoint: &Endpoint<N>,
     stopped: &AtomicBool,
     serving: JoinHandle<(u64, u64)>,
     rt: &R,

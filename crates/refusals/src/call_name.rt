@@ -54,6 +54,7 @@ pub enum CallName {
     TableCtl,
     TableWait,
     ThreadSpawn,
+    WithSenders,
 }
 
 impl CallName {
@@ -108,6 +109,7 @@ impl CallName {
             CallName::TableCtl => "Table::ctl",
             CallName::TableWait => "Table::wait",
             CallName::ThreadSpawn => "thread::spawn",
+            CallName::WithSenders => "with_senders",
         }
     }
 }

@@ -33,6 +33,14 @@ pub fn is_unregistered<R: Host>(epoll: &mut Epoll<R>, fd: RawFd) -> bool {
     interest_of(epoll, fd) == Err(Errno::ENOENT)
 }
 
+/// Takes the interest in the descriptor out, where there is one: whether the descriptor is open and nobody has registered
+/// it then.
+pub fn is_taken_out<R: Host>(epoll: &mut Epoll<R>, fd: RawFd) -> bool {
+    let nothing = EpollEvent::new(EventSet::empty(), 0);
+    let _taken_out = epoll.ctl(ControlOperation::Delete, fd, nothing);
+    is_unregistered(epoll, fd)
+}
+
 /// A poller over a new table.
 pub fn make_epoll<R: Host>(rt: &R, alloc: Global) -> Result<Epoll<R>, Fault> {
     again!(CallName::EpollNew, Epoll::new(*rt, alloc), true)

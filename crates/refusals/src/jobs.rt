@@ -22,7 +22,7 @@ const COUNT: u64 = 10;
 const CAPACITY: usize = 64;
 
 /// An endpoint of the program.
-pub type Sender<N> = RemoteEndpoint<Watcher, Echo, N>;
+pub type Endpoint<N> = RemoteEndpoint<Watcher, Echo, N>;
 
 /// Jobs over a table.
 #[derive(Drop)]
@@ -44,12 +44,12 @@ impl<R: Loop> Sending<'_, R> {
     }
 
     /// Whether so many jobs wait, and the bell was rung as often.
-    fn are_waiting<N: Naming>(&self, endpoint: &Sender<N>, count: u64) -> bool {
+    fn are_waiting<N: Naming>(&self, endpoint: &Endpoint<N>, count: u64) -> bool {
         endpoint.pending() == usize::try_from(count).ok() && self.rings() == Some(count)
     }
 
     /// Sends a job by `fire`, where so many wait: its ticket is the next one.
-    fn fire<N: Naming>(&self, endpoint: &Sender<N>, sent: u64) -> Result<Ticket<N>, Fault> {
+    fn fire<N: Naming>(&self, endpoint: &Endpoint<N>, sent: u64) -> Result<Ticket<N>, Fault> {
         let name = CallName::Fire;
         let ticket = again!(
             name,
@@ -67,7 +67,7 @@ impl<R: Loop> Sending<'_, R> {
     /// As `fire`, by `fire_after`.
     fn fire_after<N: Naming>(
         &self,
-        endpoint: &Sender<N>,
+        endpoint: &Endpoint<N>,
         shown: &Ticket<N>,
         sent: u64,
     ) -> Result<Ticket<N>, Fault> {
@@ -88,7 +88,7 @@ impl<R: Loop> Sending<'_, R> {
     /// Sends two jobs more, the second by `fire_after` the first, where so many were sent.
     fn send_two<N: Naming>(
         &self,
-        endpoint: &Sender<N>,
+        endpoint: &Endpoint<N>,
         sent: u64,
         tickets: &mut Vec<Ticket<N>>,
     ) -> Result<(), Fault> {
@@ -100,7 +100,7 @@ impl<R: Loop> Sending<'_, R> {
 
     /// Sends a job, and then the others by `fire` and by `fire_after` in turn; answers their tickets. So each of the two
     /// comes where the queue is full, and requests memory.
-    fn send<N: Naming>(&self, endpoint: &Sender<N>) -> Result<Vec<Ticket<N>>, Fault> {
+    fn send<N: Naming>(&self, endpoint: &Endpoint<N>) -> Result<Vec<Ticket<N>>, Fault> {
         let name = CallName::ListTickets;
         let mut tickets = again!(name, Vec::with_capacity(self.alloc, 21))?;
         named(name, tickets.push(self.fire(endpoint, 0)?))?;
@@ -116,7 +116,7 @@ impl<R: Loop> Sending<'_, R> {
     fn run_jobs<N: Naming, P: EventPoller>(
         &self,
         manager: &mut Manager<N, P>,
-        endpoint: &Sender<N>,
+        endpoint: &Endpoint<N>,
     ) -> Result<(), Fault> {
         let rt = self.rt;
         mark(rt)?;
@@ -135,7 +135,7 @@ impl<R: Loop> Sending<'_, R> {
     fn kick<N: Naming, P: EventPoller>(
         &self,
         manager: &mut Manager<N, P>,
-        endpoint: &Sender<N>,
+        endpoint: &Endpoint<N>,
     ) -> Result<(), Fault> {
         let rt = self.rt;
         mark(rt)?;
@@ -149,7 +149,7 @@ impl<R: Loop> Sending<'_, R> {
     }
 
     /// Another endpoint of the first one's manager.
-    fn copy_endpoint<N: Naming>(&self, first: &Sender<N>) -> Result<Sender<N>, Fault> {
+    fn copy_endpoint<N: Naming>(&self, first: &Endpoint<N>) -> Result<Endpoint<N>, Fault> {
         let endpoint = again!(CallName::RemoteEndpointTryClone, first.try_clone())?;
         tell(self.rt, "RemoteEndpoint::try_clone: ok")?;
         Ok(endpoint)
@@ -159,7 +159,7 @@ impl<R: Loop> Sending<'_, R> {
     fn send_and_run<N: Naming, P: EventPoller>(
         &self,
         manager: &mut Manager<N, P>,
-        first: &Sender<N>,
+        first: &Endpoint<N>,
     ) -> Result<Vec<Ticket<N>>, Fault> {
         tell(self.rt, "remote_endpoint: ok")?;
         let endpoint = self.copy_endpoint(first)?;
@@ -173,7 +173,7 @@ impl<R: Loop> Sending<'_, R> {
     }
 
     /// Sends a job where none waits.
-    fn fire_last<N: Naming>(&self, endpoint: &Sender<N>) -> Result<Ticket<N>, Fault> {
+    fn fire_last<N: Naming>(&self, endpoint: &Endpoint<N>) -> Result<Ticket<N>, Fault> {
         again!(
             CallName::Fire,
             endpoint.fire(Echo(0), self.rt),

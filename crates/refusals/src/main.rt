@@ -19,6 +19,7 @@ pub mod joins;
 pub mod lists;
 pub mod making;
 pub mod removals;
+pub mod senders;
 pub mod tables;
 pub mod watcher;
 
@@ -32,6 +33,7 @@ use jobs::{send_over_a_table, take_from_a_queue};
 use joins::join_over_a_table;
 use lists::{drive_over_a_script, replay_steps};
 use removals::remove_in_a_batch;
+use senders::run_beside_callers;
 use std::alloc::Global;
 use std::process::ExitCode;
 use std::thread::Threads;
@@ -47,6 +49,7 @@ fn make_all_calls<R: Host + Threads + Sync + 'static>(rt: &R, alloc: Global) -> 
     send_over_a_table(rt, alloc)?;
     take_from_a_queue(rt, alloc)?;
     call_over_a_table(rt, alloc)?;
+    run_beside_callers(rt, alloc)?;
     drive_over_a_script(rt, alloc)?;
     replay_steps(rt, alloc)?;
     count_nothing(rt, alloc)

@@ -1,0 +1,82 @@
+//! Jobs that threads call beside a loop, all of it by one call.
+
+use crate::again::again;
+use crate::call_name::CallName;
+use crate::descriptors::{copy_epoll, is_taken_out};
+use crate::echo::Echo;
+use crate::fault::{Fault, expect, expect_unchanged, named};
+use crate::host::Host;
+use crate::jobs::Endpoint;
+use crate::making::{Manager, OnTable, copy_counter, open_table};
+use crate::watcher::Watcher;
+use event_manager::{Ended, EventPoller, LoopWithSenders, Naming, Sender, with_senders};
+use std::alloc::Global;
+use std::thread::Threads;
+
+/// How many jobs each thread calls.
+const CALLS: u64 = 3;
+
+/// The loop's side, which has no subscriber, and two callers.
+#[derive(Drop)]
+struct TwoCallers;
+
+/// Calls jobs, whose numbers are those from the first up.
+#[derive(Clone, Copy)]
+struct Caller {
+    first: u64,
+}
+
+impl<R: Host> LoopWithSenders<Watcher, Echo, Caller, R> for TwoCallers {
+    fn begin<N: Naming, P: EventPoller>(
+        &mut self,
+        _rt: &R,
+        alloc: Global,
+        _manager: &mut Manager<N, P>,
+    ) -> event_manager::Result<Vec<Caller>> {
+        Ok(vec![in alloc; Caller { first: 0 }, Caller { first: CALLS }]?)
+    }
+}
+
+impl<R: Host> Sender<Watcher, Echo, Result<u64, Fault>, R> for Caller {
+    /// Answers how many replies there were, each of them its job's number.
+    fn send<N: Naming>(self, endpoint: &Endpoint<N>, rt: &R) -> Result<u64, Fault> {
+        let name = CallName::CallBlocking;
+        for k in 0..CALLS {
+            let number = self.first.saturating_add(k);
+            let reply = again!(name, endpoint.call_blocking(Echo(number), rt))?;
+            expect(name, reply == number)?;
+        }
+        Ok(CALLS)
+    }
+}
+
+/// Makes the loop over the table and runs it beside its callers, once; `Err` within where that was refused.
+fn run_once<R: Host + Threads + Sync>(
+    rt: &R,
+    alloc: Global,
+    on_table: &OnTable<R>,
+) -> Result<event_manager::Result<Ended<Result<u64, Fault>>>, Fault> {
+    let poller = copy_epoll(&on_table.epoll)?;
+    let endpoint = copy_counter(&on_table.endpoint)?;
+    Ok(with_senders(rt, alloc, poller, endpoint, &mut TwoCallers))
+}
+
+/// Runs a loop over a table beside two threads, which call jobs of it. Where that is refused, at most the endpoint is left
+/// in the table, which the manager registers when it is made.
+pub fn run_beside_callers<R: Host + Threads + Sync>(rt: &R, alloc: Global) -> Result<(), Fault> {
+    let mut on_table = open_table(rt, alloc)?;
+    let name = CallName::WithSenders;
+    let ended = again!(
+        name,
+        run_once(rt, alloc, &on_table)?,
+        is_taken_out(&mut on_table.epoll, 0)
+    )?;
+    named(name, ended.ran)?;
+    let mut replies = 0u64;
+    for called in ended.sent {
+        replies = replies.saturating_add(called?);
+    }
+    let (issued, taken) = (ended.issued, ended.taken);
+    println!(rt; "with_senders: {replies} replies, {issued} issued and {taken} taken")?;
+    Ok(())
+}
