@@ -1,5 +1,5 @@
 -- A batch after which no job ran, as an iteration of the loop.
-use Rattle.std.proofs.Common.{◌≡◌, ℕ, ℤ, List, [], ◌∷◌, refl, sym, ap, subst, Result, Ok, Err}
+use Rattle.std.proofs.Common.{ℕ, ℤ, List, [], ◌∷◌, refl, sym, ap, subst, Result, Ok, Err}
 use Rattle.std.proofs.lemmas.List.{append-nil}
 use Rattle.vmm_sys.specs.declared.errno.Errno.{Errno}
 use Rattle.dispatch_tables.specs.Event.{Event}
