@@ -36,7 +36,8 @@ pub trait LoopWithSenders<S: MutEventSubscriber, J: Job<S>, Q, R: Wait + Clock> 
         manager: &mut EventManager<S, J, N, P>,
     ) -> Result<Vec<Q>>;
 
-    /// Runs the loop beside the senders, on the thread that called `with_senders`. As it stands here: until all have ended.
+    /// Runs the loop beside the senders, on the thread that called `with_senders`. As it stands here:
+    /// [`run_until_ended`](Senders::run_until_ended).
     fn run<N: Naming, P: EventPoller>(
         &mut self,
         rt: &R,
@@ -59,7 +60,7 @@ impl Senders {
         self.at_work.load(Ordering::SeqCst) == 0
     }
 
-    /// Runs the manager until all have ended, or until a run is refused.
+    /// Runs the manager until all have ended and what they sent was run, or until a run is refused.
     pub fn run_until_ended<S, J, N, P, R>(
         &self,
         manager: &mut EventManager<S, J, N, P>,
@@ -78,6 +79,8 @@ impl Senders {
             }
             manager.run(rt)?;
         }
+        // What was sent while the last run was at work.
+        manager.run_with_timeout(0, rt)?;
         Ok(())
     }
 
@@ -275,9 +278,10 @@ where
 /// each of its senders. Whatever ends the loop, the manager is then closed, so that no sender waits for a reply any more;
 /// and what loop and senders gave is answered once all senders have ended.
 ///
-/// Refused with what the making of the manager, `begin` or [`EventManager::remote_endpoint`] is refused with, and no sender begins; with
-/// `OutOfMemory` where there is no room for what the senders give, or no thread for one of them: then the loop isn't run,
-/// and what the others send is refused.
+/// Refused with what the making of the manager, `begin` or [`EventManager::remote_endpoint`] is refused with, and no sender
+/// begins; with `OutOfMemory` also where there is no room for what the senders give, or no thread for one of them: then the
+/// loop isn't run, and what the others send is refused. Once the manager was made its endpoint stays with the poller,
+/// whose copies see it still: a close asks for no Delete.
 pub fn with_senders<S, J, P, B, Q, T, R>(
     rt: &R,
     alloc: Global,
