@@ -133,7 +133,10 @@ module _ {S J R P : Type 0} {begins : S → Exchanges → S → Type 0} {serves 
   -- the replies to known calls: what was removed is unknown
   pub unknown_to : {before after : LoopState S P} {calls known : List (Call S)} {replies : List (Reply S)} → IsDriven begins serves may controls waits before calls replies after → calls ≡ known → AreBelow before.registry.next before.registry.values
       → HasReplies known (λ told. (replies ≡ told) × RemovedStayUnknown known told)
-  unknown_to {known = known} {replies} driven are below = with_replies driven are (λ told. (replies ≡ told) × RemovedStayUnknown known told) (refl, subst (λ cs. RemovedStayUnknown cs replies) are (driven.unknown below))
+  unknown_to {known = known} {replies} driven are below =
+      let of = driven.is_trace_of in
+      with_replies driven are (λ told. (replies ≡ told) × RemovedStayUnknown known told)
+      (refl, subst (λ rs. RemovedStayUnknown known rs) of.replies_are (subst (λ cs. RemovedStayUnknown cs (map (λ e. e.reply) driven.trace)) (of.calls_are ∙ are) (driven.guaranteed.unknown below)))
 
 module _ {S P : Type 0} {begins : S → Exchanges → S → Type 0} {controls : Controls P} {waits : Waits P} {before after : LoopState S P} {r : Reply S} where
   -- after a Remove of it, whatever it was answered, nobody has the id

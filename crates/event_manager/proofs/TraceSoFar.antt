@@ -92,6 +92,7 @@ module _ {S J R P : Type 0} (begins : S → Exchanges → S → Type 0) (serves 
         given = follows.given;
         below = follows.below;
         removed = follows.removed;
+        unknown = λ below. removed_unknown begins serves may before trace after is (follows.removed below);
         sound = follows.sound;
         priorities = follows.prioritised;
         non_interference = non_interference begins serves may before trace after is;
@@ -104,9 +105,7 @@ module _ {S J R P : Type 0} (begins : S → Exchanges → S → Type 0) (serves 
   -- a trace is driven
   pub driven_by : (before : LoopState S P) (trace : List (Entry S J R)) (after : LoopState S P) → IsTraceOf begins serves may controls waits before (map (λ e. e.call) trace) (map (λ e. e.reply) trace) after trace
       → IsDriven begins serves may controls waits before (map (λ e. e.call) trace) (map (λ e. e.reply) trace) after
-  driven_by before trace after of =
-      let holds = guaranteed (manager_state before) trace (manager_state after) of.is_trace in
-      record { trace = trace; is_trace_of = of; guaranteed = holds; unknown = λ below. removed_unknown begins serves may (manager_state before) trace (manager_state after) of.is_trace (holds.removed below) }
+  driven_by before trace after of = record { trace = trace; is_trace_of = of; guaranteed = guaranteed (manager_state before) trace (manager_state after) of.is_trace }
 
   pub all_traced : (before after : LoopState S P) (calls : List (Call S)) (old replies : List (Reply S)) → IsTracedSoFar before after calls [] old replies
       → (new : List (Reply S)) × (replies ≡ old ++ new) × IsDriven begins serves may controls waits before calls new after

@@ -53,13 +53,14 @@ module _ {S J R : Type 0} (begins : S → Exchanges → S → Type 0) (serves : 
       pub led : Leads controls waits before.poller (calls_of_trace before.capacity trace) after.poller
       pub same_capacity : after.capacity ≡ before.capacity
 
-  -- Of a trace: ids are given in order, each once; where each held id is below the next, that stays, and what was removed is refused from then on; each owner is held, and the endpoint
-  -- is never owned; each owned descriptor has a priority; a projection to an id that is apart is itself a trace, with the same replies, deliveries and values. Of each
-  -- step and delivery in it: the other ids keep their value, descriptors and pending events; a leave frees exactly its descriptors.
+  -- Of a trace: ids are given in order, each once; where each held id is below the next, that stays, and what was removed is refused from then on, as the replies alone say
+  -- too; each owner is held, and the endpoint is never owned; each owned descriptor has a priority; a projection to an id that is apart is itself a trace, with the same
+  -- replies, deliveries and values. Of each step and delivery in it: the other ids keep their value, descriptors and pending events; a leave frees exactly its descriptors.
   pub record IsGuaranteed (before : ManagerState S) (trace : List (Entry S J R)) (after : ManagerState S) : Type 0 where
     pub given : AreGiven before.registry.next (steps_of trace) after.registry.next
     pub below : AreBelow before.registry.next before.registry.values → AreBelow after.registry.next after.registry.values
     pub removed : AreBelow before.registry.next before.registry.values → RemovedStayGone (steps_of trace)
+    pub unknown : AreBelow before.registry.next before.registry.values → RemovedStayUnknown (map (λ entry. entry.call) trace) (map (λ entry. entry.reply) trace)
     pub sound : IsSound before.registry → IsSound after.registry
     pub priorities : HavePriorities before.registry.registrations → HavePriorities after.registry.registrations
     pub non_interference : NonInterference begins serves may before trace after
@@ -70,10 +71,8 @@ module _ {S J R : Type 0} (begins : S → Exchanges → S → Type 0) (serves : 
         → (j : ℕ) → j ≢ i → IsUntouched j (record from { registrations = record from.registrations { pending = still_pending earlier later } }) onto
     pub leave_frees : (from onto : Registry S) (i : ℕ) (value : S) (calls : List PollerCall) → Steps begins from (Left i value calls) onto → FreesExactly i from.registrations onto.registrations
 
-  -- The calls with their replies are a trace, of which the guarantees hold. By the replies alone, where each held id is below the next: what a call removed is unknown
-  -- from then on.
+  -- the calls with their replies are a trace, of which the guarantees hold
   pub record IsDriven {P : Type 0} (controls : Controls P) (waits : Waits P) (before : LoopState S P) (calls : List (Call S)) (replies : List (Reply S)) (after : LoopState S P) : Type 0 where
     pub trace : List (Entry S J R)
     pub is_trace_of : IsTraceOf controls waits before calls replies after trace
     pub guaranteed : IsGuaranteed (manager_state before) trace (manager_state after)
-    pub unknown : AreBelow before.registry.next before.registry.values → RemovedStayUnknown calls replies

@@ -4,7 +4,7 @@ ghost use Rattle.std.specs.Hash as fed;
 ghost use Rattle.std.specs.List.{fold};
 ghost use Rattle.std.specs.Ordering.{nat_cmp};
 ghost use Rattle.std.specs.List.Sorted.{IsPermutation};
-ghost use Rattle.std.specs.Prelude.{IsTrue, ◌↔◌, ◌≡◌, ◌≢◌, ℕ, false, List, [], ◌∷◌, ◌++◌};
+ghost use Rattle.std.specs.Prelude.{IsTrue, ◌↔◌, ◌≡◌, ◌≢◌, ℕ, false, List, [], ◌∷◌, ◌++◌, map};
 ghost use Rattle.dispatch_tables.specs.Event.{Event};
 ghost use Rattle.event_loop.specs.PollerCall.{PollerCall};
 ghost use Rattle.event_loop.specs.Registrations.{Registrations};
@@ -16,7 +16,7 @@ ghost use Rattle.event_loop.specs.Dispatch.{Position, Outcome, To, IsOutcome, st
 ghost use Rattle.event_loop.specs.Iteration.{ManagerState};
 ghost use Rattle.event_manager.specs.Trace.{Entry, HasEffect, IsTrace, new_state};
 ghost use Rattle.event_manager.specs.Projection.{NonInterference, ProjectionKeeps, names};
-ghost use Rattle.event_manager.specs.Guarantees.{AreGiven, steps_of, RemovedStayGone, IsSound, HavePriorities, IsUntouched, FreesExactly};
+ghost use Rattle.event_manager.specs.Guarantees.{AreGiven, steps_of, RemovedStayGone, RemovedStayUnknown, IsSound, HavePriorities, IsUntouched, FreesExactly};
 ghost use Rattle.event_manager.specs.Example.{any_begins, any_serves, any_may, joins, iterates};
 
 use crate::jobs::Job;
@@ -35,12 +35,16 @@ pub fn non_interference<S: MutEventSubscriber, J: Job<S>>()
 {}
 
 /// In every trace the ids that joins give follow each other from the next id on, each once; and where each held id is below
-/// the next, as in a new manager, that stays so, and every later call for a subscriber that left is refused.
+/// the next, as in a new manager, that stays so, and every later call for a subscriber that left is refused: by the replies
+/// alone, each later call of an id that a call removed is answered `InvalidId`.
 pub fn ids_are_given_once<S: MutEventSubscriber, J: Job<S>>()
     ensures given { (before : ManagerState S) (trace : List (Entry S J J.Reply)) (after : ManagerState S) →
         IsTrace S.begins S.serves J.may before trace after → AreGiven before.registry.next (steps_of trace) after.registry.next }
     ensures removed { (before : ManagerState S) (trace : List (Entry S J J.Reply)) (after : ManagerState S) →
         IsTrace S.begins S.serves J.may before trace after → AreBelow before.registry.next before.registry.values → RemovedStayGone (steps_of trace) }
+    ensures unknown { (before : ManagerState S) (trace : List (Entry S J J.Reply)) (after : ManagerState S) →
+        IsTrace S.begins S.serves J.may before trace after → AreBelow before.registry.next before.registry.values →
+        RemovedStayUnknown (map (λ entry. entry.call) trace) (map (λ entry. entry.reply) trace) }
     ensures new { (endpoint : ℕ) → AreBelow 1 (new_state {V = S} endpoint).registry.values }
     ensures below { (before : ManagerState S) (trace : List (Entry S J J.Reply)) (after : ManagerState S) →
         IsTrace S.begins S.serves J.may before trace after → AreBelow before.registry.next before.registry.values → AreBelow after.registry.next after.registry.values }
