@@ -1,6 +1,6 @@
 //! Loops and their senders: who runs when, what ends a loop, and what its senders then get.
 
-use crate::ending::{beside_senders, wait_until_counted, wait_until_noted};
+use crate::ending::{beside_senders, wait_until_counted, wait_until_ended, wait_until_noted};
 use crate::expecting::{expect_noted, expect_ok, expect_run, expect_same, fire_note, new_notes};
 use crate::noting::{Noting, add_noting};
 use crate::threads::{Host, Looping, wait_until_pending};
@@ -186,7 +186,7 @@ fn a_refused_begin_starts_no_sender(rt: HostRuntime) {
     expect_refusal(&rt, parts, None, Error::Epoll(Errno::EMFILE), false);
 }
 
-/// A sender that causes events, and ends once the subscriber has noted two.
+/// A sender that causes events, and ends once the subscriber has noted three.
 #[derive(Drop)]
 struct Causing<'a> {
     counter: &'a EventFd,
@@ -196,7 +196,7 @@ struct Causing<'a> {
 impl<R: Looping> Sender<Noting<R>, NoJob, (), R> for Causing<'_> {
     fn send<N: Naming>(self, _endpoint: &RemoteEndpoint<Noting<R>, NoJob, N>, rt: &R) {
         expect_ok(rt, self.counter.write(1, rt));
-        expect_same(rt, &wait_until_noted(rt, self.notes, 2), &true);
+        expect_same(rt, &wait_until_noted(rt, self.notes, 3), &true);
     }
 }
 
@@ -330,4 +330,54 @@ fn a_loop_that_ends_before_its_sender_is_closed(rt: HostRuntime) {
     expect_closed(&rt, rt.alloc(), false, Ok(()));
     let refusal = Error::Epoll(Errno::EBADF);
     expect_closed(&rt, rt.alloc(), true, Err(refusal));
+}
+
+/// A sender that fires a job, and ends.
+#[derive(Drop)]
+struct Firing<'a> {
+    notes: &'a Notes,
+}
+
+impl<R: Looping> Sender<Idle, Work, Result<u64>, R> for Firing<'_> {
+    fn send<N: Naming>(self, endpoint: &RemoteEndpoint<Idle, Work, N>, rt: &R) -> Result<u64> {
+        fire_note(rt, endpoint, self.notes, 1)
+    }
+}
+
+/// A loop that runs once its sender has ended.
+#[derive(Drop)]
+struct Late<'a> {
+    notes: &'a Notes,
+}
+
+impl<'a, R: Looping> LoopWithSenders<Idle, Work, Firing<'a>, R> for Late<'a> {
+    fn begin<N: Naming, P: EventPoller>(
+        &mut self,
+        _rt: &R,
+        alloc: Global,
+        _manager: &mut EventManager<Idle, Work, N, P>,
+    ) -> Result<Vec<Firing<'a>>> {
+        let sender = Firing { notes: self.notes };
+        Ok(Vec::from_array(alloc, [sender])?)
+    }
+
+    fn run<N: Naming, P: EventPoller>(
+        &mut self,
+        rt: &R,
+        manager: &mut EventManager<Idle, Work, N, P>,
+        senders: &Senders,
+    ) -> Result<()> {
+        expect_same(rt, &wait_until_ended(rt, senders), &true);
+        senders.run_until_ended(manager, rt)
+    }
+}
+
+#[test]
+fn what_the_last_sender_fired_is_run(rt: HostRuntime) {
+    let parts = expect_ok(&rt, on_table(rt, rt.alloc(), 0));
+    let notes = new_notes(&rt, rt.alloc());
+    let ended = expect_ok(&rt, beside_senders(&rt, parts, &mut Late { notes: &notes }));
+    expect_same(&rt, &ended.ran, &Ok(()));
+    expect_same(&rt, &(ended.issued, ended.taken), &(1, 1));
+    expect_noted(&rt, &notes, &[1]);
 }
