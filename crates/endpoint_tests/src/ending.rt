@@ -1,6 +1,6 @@
 //! A loop and its senders, looked at from outside with a bound.
 
-use crate::threads::{Host, LIMIT, Looping};
+use crate::threads::{Host, Looping};
 use crate::work::Notes;
 use event_manager::{
     Ended, EventPoller, Job, LoopWithSenders, MutEventSubscriber, Result, Sender, Senders,
@@ -12,12 +12,15 @@ use std::sync::atomic::{AtomicBool, AtomicU64, Ordering};
 use std::thread;
 use std::time::{Clock, Duration};
 
+/// How many timed looks of a millisecond a thread beside a loop makes at most.
+const LOOKS: u32 = 5_000;
+
 /// How many looks at a loop are made for each that a thread of it may make.
 const PATIENCE: u32 = 2;
 
 /// Waits until so many are counted, and says whether they are.
 pub fn wait_until_counted<R: Clock>(rt: &R, counted: &AtomicU64, count: u64) -> bool {
-    for _turn in 0..LIMIT {
+    for _turn in 0..LOOKS {
         if counted.load(Ordering::SeqCst) >= count {
             return true;
         }
@@ -28,7 +31,7 @@ pub fn wait_until_counted<R: Clock>(rt: &R, counted: &AtomicU64, count: u64) -> 
 
 /// Waits until so many numbers are noted, and says whether they are.
 pub fn wait_until_noted<R: Wait + Clock>(rt: &R, notes: &Notes, count: usize) -> bool {
-    for _turn in 0..LIMIT {
+    for _turn in 0..LOOKS {
         if notes.lock(rt).len() >= count {
             return true;
         }
@@ -39,7 +42,7 @@ pub fn wait_until_noted<R: Wait + Clock>(rt: &R, notes: &Notes, count: usize) ->
 
 /// Waits until all senders have ended, and says whether they have.
 pub fn wait_until_ended<R: Clock>(rt: &R, senders: &Senders) -> bool {
-    for _turn in 0..LIMIT {
+    for _turn in 0..LOOKS {
         if senders.have_ended() {
             return true;
         }
@@ -50,7 +53,7 @@ pub fn wait_until_ended<R: Clock>(rt: &R, senders: &Senders) -> bool {
 
 /// Looks on until it is over. Ends the test where it lasts too long.
 fn look_on<R: Looping>(rt: &R, is_over: &AtomicBool) {
-    for _look in 0..LIMIT.saturating_mul(PATIENCE) {
+    for _look in 0..LOOKS.saturating_mul(PATIENCE) {
         if is_over.load(Ordering::SeqCst) {
             return;
         }
