@@ -1,8 +1,13 @@
+pub mod Closing
 pub mod Firsts
+pub mod Held
+pub mod Marks
 pub mod Numbers
-pub mod Paths
 pub mod Picks
 pub mod Places
-pub mod Queued
+pub mod Readiness
+pub mod Rows
 pub mod Service
-pub mod Walks
+pub mod SlotMarks
+pub mod Slots
+pub mod Walked

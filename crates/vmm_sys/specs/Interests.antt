@@ -1,49 +1,56 @@
--- The interests of a table: the event of each descriptor that has one, and these descriptors in a queue.
-use Rattle.std.specs.Prelude.{ℕ, ◌≡◌, ◌≢◌, ◌≤◌, List, [], ◌∷◌, ◌++◌, length, map, slice_index_or, Option, Some, None, IsSome}
-use Rattle.std.specs.Option.{unwrap_or}
+-- The interests of a table: a row of slots, each of which holds an interest or is empty, and a mark at each slot whose interest is ready.
+use Rattle.std.specs.Prelude.{ℕ, ◌≡◌, ◌≢◌, ◌*◌, ◌≤◌, ◌^◌, Bool, false, List, length, slice_index_or, Option, Some, None}
 use Rattle.vmm_sys.specs.declared.epoll.EpollEvent.{EpollEvent}
 use Rattle.vmm_sys.specs.declared.table.Interest.{Interest}
-use Rattle.vmm_sys.specs.EventSet.{with_bits}
-use Rattle.vmm_sys.specs.EpollEvent.{event}
-use Rattle.vmm_sys.specs.Links.{NotIn, AreDifferent}
-use Rattle.vmm_sys.specs.Queue.{QueueState}
 
--- the interests in the order of the queue, and how many descriptors may have one: those below it
+-- how many descriptors may have an interest: those below it; the slots that are in use, some of them empty; the marks
 pub record InterestsState : Type 0 where
   pub room : ℕ
-  pub list : List Interest
+  pub slots : List (Option Interest)
+  pub marks : List Bool
 
--- the event of a descriptor's interest
-abbrev pub event_of : List (Option EpollEvent) → ℕ → Option EpollEvent
-event_of events n = slice_index_or events n None
+-- what a slot holds
+abbrev pub slot_at : List (Option Interest) → ℕ → Option Interest
+slot_at slots s = slice_index_or slots s None
 
--- without an event nothing is wanted
-abbrev pub interest_of : List (Option EpollEvent) → ℕ → Interest
-interest_of events n = record { descriptor = n; event = unwrap_or (event_of events n) (event (with_bits 0) 0) }
+-- the slot of a descriptor's interest
+abbrev pub place_at : List (Option ℕ) → ℕ → Option ℕ
+place_at places n = slice_index_or places n None
 
--- the interests of these descriptors
-abbrev pub interests_of : List (Option EpollEvent) → List ℕ → List Interest
-interests_of events numbers = map (interest_of events) numbers
+-- slot s holds the interest of descriptor n
+abbrev pub Holds : List (Option Interest) → ℕ → ℕ → Type 0
+Holds slots s n = (e : EpollEvent) × (slot_at slots s ≡ Some (record { descriptor = n; event = e }))
 
-abbrev pub HaveEvents : List (Option EpollEvent) → List ℕ → Type 0
-HaveEvents events [] = Unit {0}
-HaveEvents events (n ∷ ns) = IsSome (event_of events n) × HaveEvents events ns
+-- no slot holds an interest of n
+abbrev pub NoneHolds : List (Option Interest) → ℕ → Type 0
+NoneHolds slots n = (s : ℕ) → Holds slots s n → ⊥
 
--- the descriptors of the queue are those that have an event
-pub record AreQueued (events : List (Option EpollEvent)) (queue : QueueState) : Type 0 where
-  pub room : length events ≤ queue.room
-  pub different : AreDifferent queue.numbers
-  pub queued : HaveEvents events queue.numbers
-  pub others : (n : ℕ) → NotIn (Some n) queue.numbers → event_of events n ≡ None
+-- slot s and no other holds an interest of n
+pub record AloneHolds (slots : List (Option Interest)) (s : ℕ) (n : ℕ) : Type 0 where
+  pub it : Holds slots s n
+  pub alone : (t : ℕ) → Holds slots t n → t ≡ s
 
--- the last of these interests is of this descriptor, and no other one is
-pub record IsOfLast (last : Option ℕ) (interests : List Interest) : Type 0 where
-  pub it : (ms : List Interest) (i : Interest) → interests ≡ ms ++ i ∷ [] → last ≡ Some i.descriptor
-  pub others : (ms ns : List Interest) (i j : Interest) → interests ≡ ms ++ i ∷ (j ∷ ns) → last ≢ Some i.descriptor
+-- whether a slot holds an interest that passes a test
+abbrev pub passes : (Interest → Bool) → Option Interest → Bool
+passes p None = false
+passes p (Some i) = p i
 
--- a walk over some of the interests has come to `from`, and goes on over `ahead`, up to the one of the descriptor `last`
-pub record GoesOver (interests : List Interest) (last : Option ℕ) (from : Interest) (ahead : List Interest) : Type 0 where
-  pub before : List Interest
-  pub behind : List Interest
-  pub whole : interests ≡ before ++ from ∷ (ahead ++ behind)
-  pub end : IsOfLast last (from ∷ ahead)
+-- exactly the slots whose interest passes a test are marked
+abbrev pub AreMarked : (Interest → Bool) → InterestsState → Type 0
+AreMarked p state = (s : ℕ) → slice_index_or state.marks s false ≡ passes p (slot_at state.slots s)
+
+-- two tests say the same of the interests of other descriptors than n
+abbrev pub AgreeBut : ℕ → (Interest → Bool) → (Interest → Bool) → Type 0
+AgreeBut n p q = (i : Interest) → i.descriptor ≢ n → p i ≡ q i
+
+-- each descriptor that has an interest is known with its slot
+pub record AreInSlots (places : List (Option ℕ)) (slots : List (Option Interest)) : Type 0 where
+  pub placed : (s n : ℕ) → Holds slots s n → place_at places n ≡ Some s
+  pub there : (n s : ℕ) → place_at places n ≡ Some s → Holds slots s n
+
+-- there are three slots for each descriptor, and a mark for each slot
+pub record HasRoom (room capacity : ℕ) (state : InterestsState) : Type 0 where
+  pub descriptors : room ≤ 2 ^ 31
+  pub slots : 3 * room ≤ capacity
+  pub marks : 3 * room ≤ length state.marks
+  pub used : length state.slots ≤ 3 * room

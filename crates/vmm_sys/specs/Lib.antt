@@ -5,8 +5,8 @@ pub mod Lists
 pub mod Codes
 pub mod ScriptPoller
 pub mod FaultPoller
-pub mod Links
-pub mod Queue
+pub mod ReadySet
+pub mod Row
 pub mod Table
 pub mod Interests
 pub mod TablePoller

@@ -1,14 +1,15 @@
 //! The in-process table: counters and lines, and a list of interests in them.
 
-ghost use Rattle.std.specs.Prelude.{◌≡◌, ◌≢◌, ◌<◌, ◌≤◌, ◌^◌, List, length, ◌++◌, ◌∷◌, take, drop, filter, find, map, slice_get, Some, None, IsSome};
+ghost use Rattle.std.specs.Prelude.{◌≡◌, ◌≢◌, ◌<◌, ◌≤◌, ◌^◌, List, length, ◌++◌, ◌∷◌, take, drop, filter, find, map, slice_get, slice_set, ℕ, Bool, Some, None, IsSome};
 ghost use Rattle.vmm_sys.specs.EventSet.{bits_of};
 ghost use Rattle.vmm_sys.specs.Table.{new_table, state_of, state_at, is_ready, entry_of as entry_in, opened, source_of as source_in, with_source, place_of as place_in, changed, has_mode, Answers, AnswersWithMemory, ctl_of, wait_of, write_of, read_of, set_line_of, open_of, add_counter_of, add_line_of, filled, counted, chosen, moved_back, first_ready, first_ready_last};
-ghost use Rattle.vmm_sys.specs.Interests.{GoesOver};
+ghost use Rattle.vmm_sys.specs.Lists.{held};
+ghost use Rattle.vmm_sys.specs.Interests.{slot_at, Holds, AreMarked, AgreeBut};
 ghost use Rattle.vmm_sys.specs.ServiceBound.{Ctl, Wait, MovesForward, EachStepMovesForward, ReportedWithinRooms, ReportedWithinWaits};
 ghost use Rattle.vmm_sys.specs.TablePoller.{table_code, MayCtl, MayWait};
 
 mod interests;
-mod queue;
+mod ready_set;
 
 use crate::epoll::{ControlOperation, EpollEvent, RawFd};
 use crate::errno::Errno;
@@ -70,7 +71,8 @@ pub struct Interest {
 /// A descriptor is a counter or a line, and is never closed. The state of a counter is `IN` where
 /// its value is above 0 and `OUT` where it is below 18446744073709551614; that of a line is the set
 /// last given to [`Table::set_line`], at first the empty one. With a descriptor comes the room for
-/// its interest, which is found, moved and taken out without a look at the others.
+/// its interest, which is found, moved and taken out without a look at the others, but that once in
+/// as many moves as there are descriptors all interests are moved together.
 ///
 /// An interest is ready where its descriptor's state has something of what is wanted, or `ERROR` or
 /// `HANG_UP`: that is what is reported, with the interest's word. It is level-triggered, as Linux's
@@ -87,14 +89,16 @@ pub struct Table {
 }
 
 impl Model for Table {
-    ghost use Rattle.std.specs.Prelude.{◌≤◌, ◌^◌, length};
-    ghost use Rattle.vmm_sys.specs.Table.{TableState};
+    ghost use Rattle.std.specs.Prelude.{◌≡◌, ◌≤◌, ◌^◌, length};
+    ghost use Rattle.vmm_sys.specs.Lists.{held};
+    ghost use Rattle.vmm_sys.specs.Table.{TableState, is_ready};
+    ghost use Rattle.vmm_sys.specs.Interests.{AreMarked};
 
     ghost Value = { TableState };
 
-    ghost view = { λ t. record { sources = t.sources.items; interests = t.interests.list; limit = t.limit } };
+    ghost view = { λ t. record { sources = t.sources.items; interests = held t.interests.slots; limit = t.limit } };
 
-    ghost invariant = { λ t. (t.limit ≤ 2 ^ 31) × (length t.sources.items ≤ t.interests.room) };
+    ghost invariant = { λ t. (t.limit ≤ 2 ^ 31) × (t.interests.room ≡ length t.sources.items) × AreMarked (is_ready t.sources.items) t.interests };
 }
 
 impl Table {
@@ -117,13 +121,14 @@ impl Table {
             return Err(Errno::EMFILE);
         }
         // With the room for its interest an `Add` takes no memory.
-        if self.interests.make_room(number).is_err() {
+        if self.sources.reserve(1).is_err() {
             return Err(Errno::ENOMEM);
         }
-        match self.sources.push(source) {
-            Ok(()) => Ok(number as RawFd),
-            Err(_) => Err(Errno::ENOMEM),
+        if self.interests.make_room().is_err() {
+            return Err(Errno::ENOMEM);
         }
+        self.sources.push_reserved(source);
+        Ok(number as RawFd)
     }
 
     /// Opens a counter of this value; the answer is its descriptor.
@@ -170,9 +175,8 @@ impl Table {
     /// Reports the first ready interests, as many as the buffer has room for, and moves them to the
     /// back in the order of the report.
     ///
-    /// The answer is their number, which may be 0; entries of the buffer past it stay. Each
-    /// interest is looked at once at most, and no memory is requested. `EINVAL`: the buffer has no
-    /// room.
+    /// The answer is their number, which may be 0; entries of the buffer past it stay. Those that
+    /// aren't ready cost nothing, and no memory is requested. `EINVAL`: the buffer has no room.
     pub fn wait(&mut self, buffer: &mut [EpollEvent]) -> Result<usize, Errno>
         ensures answer { Answers (counted (wait_of self.old (length buffer.old))) self.old result self.new }
         ensures entries { buffer.new ≡ filled (wait_of self.old (length buffer.old)) buffer.old }
@@ -274,8 +278,19 @@ impl Table {
         ensures { self.new ≡ with_source self.old fd source }
     {
         if fd >= 0 {
-            let number = fd as usize;
-            self.sources[number] = source;
+            self.set_source(fd as usize, source);
+        }
+    }
+
+    // Replaces the source of a descriptor; where its state changes, its interest is marked anew.
+    fn set_source(&mut self, number: usize, source: Source)
+        requires { number < length self.old.sources }
+        ensures { self.new ≡ record self.old { sources = slice_set self.old.sources number source } }
+    {
+        let before = self.sources[number].state();
+        self.sources[number] = source;
+        if source.state() != before {
+            renew(&self.sources, &mut self.interests, number);
         }
     }
 
@@ -283,13 +298,20 @@ impl Table {
         requires { interest.descriptor < length self.old.sources }
         ensures { Answers (changed self.old op interest (place_in self.old interest.descriptor)) self.old result self.new }
     {
-        match (op, self.interests.has(interest.descriptor)) {
-            (ControlOperation::Add, false) => self.interests.push_back(interest),
-            (ControlOperation::Add, true) => return Err(Errno::EEXIST),
-            (ControlOperation::Modify, true) => self.interests.replace(interest),
-            (ControlOperation::Delete, true) => self.interests.remove(interest.descriptor),
-            (ControlOperation::Modify, false) => return Err(Errno::ENOENT),
-            (ControlOperation::Delete, false) => return Err(Errno::ENOENT),
+        let ready = is_ready(&self.sources, interest);
+        match (op, self.interests.slot_of(interest.descriptor)) {
+            (ControlOperation::Add, None) => self.interests.push_back(interest, ready),
+            (ControlOperation::Add, Some(_)) => return Err(Errno::EEXIST),
+            (ControlOperation::Modify, Some(slot)) => {
+                self.interests.replace(slot, interest);
+                self.interests.mark(slot, ready);
+            }
+            (ControlOperation::Delete, Some(slot)) => {
+                self.interests.remove(slot, interest.descriptor);
+                self.interests.mark(slot, false);
+            }
+            (ControlOperation::Modify, None) => return Err(Errno::ENOENT),
+            (ControlOperation::Delete, None) => return Err(Errno::ENOENT),
         }
         Ok(())
     }
@@ -352,63 +374,51 @@ fn is_ready(sources: &[Source], interest: Interest) -> bool
     !entry_of(sources, interest).event_set().is_empty()
 }
 
-// The interest right after one, up to that of the descriptor `last`.
-fn following(interests: &Interests, interest: Interest, last: Option<usize>) -> Option<Interest>
-    requires { (ahead : List Interest) × GoesOver interests.now.list last interest ahead }
-    ensures { (ahead : List Interest) → GoesOver interests.now.list last interest ahead → result ≡ slice_get ahead 0 }
+// Marks the interest of a descriptor as it is now.
+fn renew(sources: &[Source], interests: &mut Interests, descriptor: usize)
+    ensures slots { interests.new.slots ≡ interests.old.slots }
+    ensures room { interests.new.room ≡ interests.old.room }
+    ensures marks { (p : Interest → Bool) → AreMarked p interests.old → AgreeBut descriptor p (is_ready sources.now) → AreMarked (is_ready sources.now) interests.new }
 {
-    match last {
-        Some(descriptor) if descriptor == interest.descriptor => None,
-        _ => interests.after(interest),
-    }
-}
-
-// The first ready interest from one on, up to that of the descriptor `last`. It is a loop of its own
-// since one that writes nothing keeps the vectors' addresses in registers: with the moves in it a look
-// took half as long again.
-fn ready_from(
-    sources: &[Source],
-    interests: &Interests,
-    from: Interest,
-    last: Option<usize>,
-) -> Option<Interest>
-    requires { (ahead : List Interest) × GoesOver interests.now.list last from ahead }
-    ensures { (ahead : List Interest) → GoesOver interests.now.list last from ahead → result ≡ find (is_ready sources.now) (from ∷ ahead) }
-{
-    let mut interest = from;
-    // The range only says that the walk ends: there are no more interests than it has numbers.
-    for k in 0..interests.room() {
-        if is_ready(sources, interest) {
-            return Some(interest);
-        }
-        interest = following(interests, interest, last)?;
-    }
-    None
+    let Some(slot) = interests.slot_of(descriptor) else {
+        return;
+    };
+    let Some(interest) = interests.interest_in(slot) else {
+        return;
+    };
+    interests.mark(slot, is_ready(sources, interest));
 }
 
 // Writes the entries of the first ready interests, as many as there is room for, and moves these to
-// the back. The walk ends at the interest that is the last when it begins.
+// the back. It goes from ready slot to ready slot, up to the end of those in use when it begins.
 fn report(sources: &[Source], interests: &mut Interests, buffer: &mut [EpollEvent]) -> usize
-    ensures count { result ≡ length (first_ready sources.now interests.old.list (length buffer.old)) }
+    requires { AreMarked (is_ready sources.now) interests.old }
+    ensures count { result ≡ length (first_ready sources.now (held interests.old.slots) (length buffer.old)) }
     ensures room { interests.new.room ≡ interests.old.room }
-    ensures interests { interests.new.list ≡ first_ready_last sources.now interests.old.list (length buffer.old) }
-    ensures buffer { let entries = map (entry_in sources.now) (first_ready sources.now interests.old.list (length buffer.old)) in
+    ensures interests { held interests.new.slots ≡ first_ready_last sources.now (held interests.old.slots) (length buffer.old) }
+    ensures marks { AreMarked (is_ready sources.now) interests.new }
+    ensures buffer { let entries = map (entry_in sources.now) (first_ready sources.now (held interests.old.slots) (length buffer.old)) in
         buffer.new ≡ entries ++ drop result buffer.old }
 {
-    let last = interests.last();
-    let mut next = interests.first();
-    for count in 0..buffer.len() {
-        let Some(from) = next else {
+    let room = buffer.len().min(interests.room());
+    interests.leave_unused(room);
+    let end = interests.end();
+    let mut from = 0;
+    for count in 0..room {
+        let Some(slot) = interests.ready_from(from) else {
             return count;
         };
-        let Some(interest) = ready_from(sources, interests, from, last) else {
+        if slot >= end {
+            return count;
+        }
+        let Some(interest) = interests.interest_in(slot) else {
             return count;
         };
-        next = following(interests, interest, last);
         buffer[count] = entry_of(sources, interest);
-        interests.move_to_back(interest);
+        interests.move_to_back(slot);
+        from = slot + 1;
     }
-    buffer.len()
+    room
 }
 
 /// States how long an interest of a [`Table`] may have to wait for its report; it does nothing.

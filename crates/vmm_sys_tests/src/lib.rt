@@ -17,6 +17,8 @@ mod hundreds;
 #[cfg(test)]
 mod memory;
 #[cfg(test)]
+mod random_calls;
+#[cfg(test)]
 mod script_poller;
 #[cfg(test)]
 mod shared_table;

@@ -1,158 +1,263 @@
-//! The interests of a table, each found by its descriptor and joined to its neighbours by links.
+//! The interests of a table, in a row of slots, with a set of the slots whose interest is ready.
 
-ghost use Rattle.std.specs.Prelude.{◌≡◌, ◌<◌, ◌≤◌, ◌++◌, ◌∷◌, [], ℕ, List, length, remove, position, slice_get, slice_set, is_some, Some, None, IsSome, OnOk};
-ghost use Rattle.std.specs.Option.{option_map};
-ghost use Rattle.vmm_sys.specs.Table.{is_of};
-ghost use Rattle.vmm_sys.specs.Interests.{event_of as event_in, interest_of as interest_in, IsOfLast};
+ghost use Rattle.std.specs.Prelude.{◌≡◌, ◌≢◌, ◌<◌, ◌≤◌, ◌+◌, ◌*◌, ◌^◌, ◌++◌, ◌∷◌, [], ℕ, Bool, true, false, length, map, slice_index_or, slice_set, Some, None, IsSome, IfSome, MatchOption, OnOk, OnErr};
+ghost use Rattle.vmm_sys.specs.Lists.{held};
+ghost use Rattle.vmm_sys.specs.Interests.{slot_at, place_at, Holds, NoneHolds, AloneHolds, AreMarked};
+ghost use Rattle.vmm_sys.specs.ReadySet.{IsMarked, IsFirstFrom, NoneFrom};
 
 use super::Interest;
-use super::queue::Queue;
-use crate::epoll::EpollEvent;
-use crate::event_set::EventSet;
+use super::ready_set::ReadySet;
 use std::alloc::{AllocError, Global};
 use std::marker::Model;
 
-/// Interests in the order of a queue, at most one of each descriptor below a room.
+/// How many slots there are for each descriptor. With fewer, a wait that reports one of many might
+/// have to close the slots up each time.
+const SLOTS: usize = 3;
+
+/// Interests in the order of their slots, at most one of each descriptor below a room. A slot is
+/// used once, until the slots are closed up: what comes last takes the next one.
 #[derive(Drop)]
 pub(super) struct Interests {
-    events: Vec<Option<EpollEvent>>,
-    queue: Queue,
+    slots: Vec<Option<Interest>>,
+    places: Vec<Option<usize>>,
+    ready: ReadySet,
 }
 
 impl Model for Interests {
     ghost use Rattle.std.specs.Prelude.{length};
-    ghost use Rattle.vmm_sys.specs.Interests.{InterestsState, AreQueued, interests_of};
+    ghost use Rattle.std.specs.Vec.{vec_capacity};
+    ghost use Rattle.vmm_sys.specs.Interests.{InterestsState, AreInSlots, HasRoom};
 
     ghost Value = { InterestsState };
 
-    ghost view = { λ i. record { room = length i.events.items; list = interests_of i.events.items i.queue.numbers } };
+    ghost view = { λ i. record { room = length i.places.items; slots = i.slots.items; marks = i.ready } };
 
-    ghost invariant = { λ i. AreQueued i.events.items i.queue };
+    ghost invariant = { λ i. AreInSlots i.places.items i.slots.items × HasRoom (length i.places.items) (vec_capacity i.slots) (record { room = length i.places.items; slots = i.slots.items; marks = i.ready }) };
 }
 
 impl Interests {
     pub(super) fn new(alloc: Global) -> Interests
-        ensures { result ≡ record { room = 0; list = [] } }
+        ensures { result ≡ record { room = 0; slots = []; marks = [] } }
     {
         Interests {
-            events: Vec::new(alloc),
-            queue: Queue::new(alloc),
+            slots: Vec::new(alloc),
+            places: Vec::new(alloc),
+            ready: ReadySet::new(alloc),
         }
     }
 
     /// How many descriptors may have an interest: those below it.
     pub(super) fn room(&self) -> usize
         ensures room { result ≡ self.now.room }
-        ensures enough { length self.now.list ≤ result }
+        ensures enough { length (held self.now.slots) ≤ result }
     {
-        self.events.len()
+        self.places.len()
     }
 
-    /// Makes room for the interest of a descriptor.
-    pub(super) fn make_room(&mut self, descriptor: usize) -> Result<(), AllocError>
-        requires { descriptor ≤ self.old.room }
-        ensures list { self.new.list ≡ self.old.list }
-        ensures kept { self.old.room ≤ self.new.room }
-        ensures room { OnOk result (descriptor < self.new.room) }
+    /// Makes room for the interest of one more descriptor.
+    pub(super) fn make_room(&mut self) -> Result<(), AllocError>
+        requires { self.old.room < 2 ^ 31 }
+        ensures slots { self.new.slots ≡ self.old.slots }
+        ensures below { (s n : ℕ) → Holds self.old.slots s n → n < self.old.room }
+        ensures marks { (s : ℕ) → slice_index_or self.new.marks s false ≡ slice_index_or self.old.marks s false }
+        ensures more { OnOk result (self.new.room ≡ self.old.room + 1) }
+        ensures refused { OnErr result (self.new.room ≡ self.old.room) }
     {
-        if descriptor < self.events.len() {
-            return Ok(());
-        }
-        self.queue.make_room(descriptor)?;
-        self.events.push(None)?;
+        let slots = SLOTS * (self.places.len() + 1);
+        self.slots.reserve(slots - self.slots.len())?;
+        self.ready.make_room(slots)?;
+        self.places.push(None)?;
         Ok(())
     }
 
-    /// Whether a descriptor has an interest.
-    pub(super) fn has(&self, descriptor: usize) -> bool
-        ensures { result ≡ is_some (position (is_of descriptor) self.now.list) }
+    /// The slot of a descriptor's interest.
+    pub(super) fn slot_of(&self, descriptor: usize) -> Option<usize>
+        ensures { MatchOption result (NoneHolds self.now.slots descriptor) (λ s. AloneHolds self.now.slots s descriptor) }
     {
-        let _queue = &self.queue;
-        event_of(&self.events, descriptor).is_some()
+        let _slots = &self.slots;
+        place_of(&self.places, descriptor)
+    }
+
+    /// What a slot holds; `None` past those in use.
+    pub(super) fn interest_in(&self, slot: usize) -> Option<Interest>
+        ensures { result ≡ slot_at self.now.slots slot }
+    {
+        match self.slots.get(slot) {
+            Some(held) => *held,
+            None => None,
+        }
+    }
+
+    /// The first slot that isn't in use.
+    pub(super) fn end(&self) -> usize
+        ensures { result ≡ length self.now.slots }
+    {
+        self.slots.len()
+    }
+
+    /// The first marked slot from one on.
+    pub(super) fn ready_from(&self, slot: usize) -> Option<usize>
+        ensures { MatchOption result (NoneFrom self.now.marks slot) (λ s. IsFirstFrom self.now.marks slot s) }
+    {
+        self.ready.first_from(slot)
+    }
+
+    /// Marks a slot in use as ready, or as not ready.
+    pub(super) fn mark(&mut self, slot: usize, ready: bool)
+        requires { slot < length self.old.slots }
+        ensures within { slot < length self.old.marks }
+        ensures marked { self.new ≡ record self.old { marks = slice_set self.old.marks slot ready } }
+    {
+        if ready {
+            self.ready.insert(slot);
+        } else {
+            self.ready.remove(slot);
+        }
     }
 
     /// Puts an interest in as the last one.
-    pub(super) fn push_back(&mut self, interest: Interest)
+    pub(super) fn push_back(&mut self, interest: Interest, ready: bool)
         requires room { interest.descriptor < self.old.room }
-        requires absent { position (is_of interest.descriptor) self.old.list ≡ None }
-        ensures { self.new ≡ record self.old { list = self.old.list ++ interest ∷ [] } }
-    {
-        self.events[interest.descriptor] = Some(interest.event);
-        self.queue.push_back(interest.descriptor);
-    }
-
-    /// Replaces the interest of a descriptor at its place.
-    pub(super) fn replace(&mut self, interest: Interest)
-        requires { IsSome (position (is_of interest.descriptor) self.old.list) }
+        requires absent { NoneHolds self.old.slots interest.descriptor }
         ensures room { self.new.room ≡ self.old.room }
-        ensures list { (k : ℕ) → position (is_of interest.descriptor) self.old.list ≡ Some k → self.new.list ≡ slice_set self.old.list k interest }
+        ensures list { held self.new.slots ≡ held self.old.slots ++ interest ∷ [] }
+        ensures marks { (p : Interest → Bool) → AreMarked p self.old → p interest ≡ ready → AreMarked p self.new }
     {
-        self.events[interest.descriptor] = Some(interest.event);
+        self.leave_unused(1);
+        let slot = self.slots.len();
+        self.put_last(interest);
+        self.mark(slot, ready);
     }
 
-    /// Takes the interest of a descriptor out.
-    pub(super) fn remove(&mut self, descriptor: usize)
-        requires { IsSome (position (is_of descriptor) self.old.list) }
+    // Puts an interest into the next slot.
+    fn put_last(&mut self, interest: Interest)
+        requires room { interest.descriptor < self.old.room }
+        requires absent { NoneHolds self.old.slots interest.descriptor }
+        requires unused { length self.old.slots < 3 * self.old.room }
+        ensures { self.new ≡ record self.old { slots = self.old.slots ++ Some interest ∷ [] } }
+    {
+        self.places[interest.descriptor] = Some(self.slots.len());
+        self.slots.push_reserved(Some(interest));
+    }
+
+    /// Replaces the interest in a slot by one of its descriptor.
+    pub(super) fn replace(&mut self, slot: usize, interest: Interest)
+        requires { Holds self.old.slots slot interest.descriptor }
+        ensures { self.new ≡ record self.old { slots = slice_set self.old.slots slot (Some interest) } }
+    {
+        self.slots[slot] = Some(interest);
+    }
+
+    /// Takes the interest of a descriptor out of its slot.
+    pub(super) fn remove(&mut self, slot: usize, descriptor: usize)
+        requires { Holds self.old.slots slot descriptor }
+        ensures { self.new ≡ record self.old { slots = slice_set self.old.slots slot None } }
+    {
+        self.slots[slot] = None;
+        self.places[descriptor] = None;
+    }
+
+    /// Leaves so many slots unused: where there are fewer, those that hold an interest come to the
+    /// front.
+    pub(super) fn leave_unused(&mut self, count: usize)
+        requires { count ≤ self.old.room }
         ensures room { self.new.room ≡ self.old.room }
-        ensures list { (k : ℕ) → position (is_of descriptor) self.old.list ≡ Some k → self.new.list ≡ remove self.old.list k }
+        ensures list { held self.new.slots ≡ held self.old.slots }
+        ensures marks { (p : Interest → Bool) → AreMarked p self.old → AreMarked p self.new }
+        ensures unused { length self.new.slots + count ≤ 3 * self.new.room }
     {
-        self.events[descriptor] = None;
-        self.queue.remove(descriptor);
+        if SLOTS * self.places.len() - self.slots.len() < count {
+            self.close_up();
+        }
     }
 
-    pub(super) fn first(&self) -> Option<Interest>
-        ensures { result ≡ slice_get self.now.list 0 }
-    {
-        interest_at(&self.events, self.queue.first())
-    }
-
-    /// The descriptor of the last interest.
-    pub(super) fn last(&self) -> Option<usize>
-        ensures { IsOfLast result self.now.list }
-    {
-        self.queue.last()
-    }
-
-    /// The interest right after one.
-    pub(super) fn after(&self, interest: Interest) -> Option<Interest>
-        requires { (ms ns : List Interest) × (self.now.list ≡ ms ++ interest ∷ ns) }
-        ensures { (ms ns : List Interest) → self.now.list ≡ ms ++ interest ∷ ns → result ≡ slice_get ns 0 }
-    {
-        interest_at(&self.events, self.queue.after(interest.descriptor))
-    }
-
-    /// Makes one of the interests the last.
-    pub(super) fn move_to_back(&mut self, interest: Interest)
-        requires { (ms ns : List Interest) × (self.old.list ≡ ms ++ interest ∷ ns) }
+    /// Moves the interest of a slot to the next unused one, and its mark with it.
+    pub(super) fn move_to_back(&mut self, slot: usize)
+        requires some { IsSome (slot_at self.old.slots slot) }
+        requires unused { length self.old.slots < 3 * self.old.room }
         ensures room { self.new.room ≡ self.old.room }
-        ensures list { (ms ns : List Interest) → self.old.list ≡ ms ++ interest ∷ ns → self.new.list ≡ (ms ++ ns) ++ interest ∷ [] }
+        ensures slots { self.new.slots ≡ slice_set self.old.slots slot None ++ slot_at self.old.slots slot ∷ [] }
+        ensures marks { (p : Interest → Bool) → AreMarked p self.old → AreMarked p self.new }
     {
-        self.queue.move_to_back(interest.descriptor);
+        let last = self.slots.len();
+        self.slots.push_reserved(None);
+        self.shift(slot, last);
+    }
+
+    // Moves the interest of a slot to an empty one, and its mark with it.
+    fn shift(&mut self, from: usize, to: usize)
+        requires some { IsSome (slot_at self.old.slots from) }
+        requires none { slot_at self.old.slots to ≡ None }
+        requires used { to < length self.old.slots }
+        ensures room { self.new.room ≡ self.old.room }
+        ensures slots { self.new.slots ≡ slice_set (slice_set self.old.slots from None) to (slot_at self.old.slots from) }
+        ensures marks { (p : Interest → Bool) → AreMarked p self.old → AreMarked p self.new }
+    {
+        let Some(interest) = self.slots[from] else {
+            return;
+        };
+        self.slots[from] = None;
+        self.slots[to] = Some(interest);
+        self.places[interest.descriptor] = Some(to);
+        move_mark(&mut self.ready, from, to);
+    }
+
+    // Moves what the slots hold to their front, in order.
+    fn close_up(&mut self)
+        ensures room { self.new.room ≡ self.old.room }
+        ensures slots { self.new.slots ≡ map Some (held self.old.slots) }
+        ensures marks { (p : Interest → Bool) → AreMarked p self.old → AreMarked p self.new }
+    {
+        let mut next = 0;
+        for slot in 0..self.slots.len() {
+            next = self.close_slot(slot, next);
+        }
+        self.slots.truncate(next);
+    }
+
+    // Moves what a slot holds to an earlier empty one, or leaves it where there is none; the answer
+    // is the slot after it, or `next` where it holds nothing.
+    fn close_slot(&mut self, slot: usize, next: usize) -> usize
+        requires used { slot < length self.old.slots }
+        requires order { next ≤ slot }
+        requires gap { next < slot → slot_at self.old.slots next ≡ None }
+        ensures room { self.new.room ≡ self.old.room }
+        ensures empty { slot_at self.old.slots slot ≡ None → (result ≡ next) × (self.new ≡ self.old) }
+        ensures stays { IsSome (slot_at self.old.slots slot) → slot ≤ next → (result ≡ next + 1) × (self.new ≡ self.old) }
+        ensures moves { IsSome (slot_at self.old.slots slot) → next < slot → (result ≡ next + 1) × (self.new.slots ≡ slice_set (slice_set self.old.slots slot None) next (slot_at self.old.slots slot)) }
+        ensures marks { (p : Interest → Bool) → AreMarked p self.old → AreMarked p self.new }
+    {
+        if self.interest_in(slot).is_none() {
+            return next;
+        }
+        let _slots = &self.slots;
+        let after = next + 1;
+        if next < slot {
+            self.shift(slot, next);
+        }
+        after
     }
 }
 
-fn event_of(events: &[Option<EpollEvent>], descriptor: usize) -> Option<EpollEvent>
-    ensures { result ≡ event_in events.now descriptor }
+fn place_of(places: &[Option<usize>], descriptor: usize) -> Option<usize>
+    ensures { result ≡ place_at places.now descriptor }
 {
-    match events.get(descriptor) {
-        Some(event) => *event,
+    match places.get(descriptor) {
+        Some(place) => *place,
         None => None,
     }
 }
 
-fn interest_of(events: &[Option<EpollEvent>], descriptor: usize) -> Interest
-    ensures { result ≡ interest_in events.now descriptor }
+// Takes the mark of one number for another, where it has one.
+fn move_mark(ready: &mut ReadySet, from: usize, to: usize)
+    requires from { from < length ready.old }
+    requires to { to < length ready.old }
+    ensures length { length ready.new ≡ length ready.old }
+    ensures marked { slice_index_or ready.old from false ≡ true → ready.new ≡ slice_set (slice_set ready.old from false) to true }
+    ensures unmarked { slice_index_or ready.old from false ≡ false → ready.new ≡ ready.old }
 {
-    let none = EpollEvent::new(EventSet::empty(), 0);
-    let event = event_of(events, descriptor).unwrap_or(none);
-    Interest { descriptor, event }
-}
-
-fn interest_at(events: &[Option<EpollEvent>], descriptor: Option<usize>) -> Option<Interest>
-    ensures { result ≡ option_map (interest_in events.now) descriptor }
-{
-    match descriptor {
-        Some(n) => Some(interest_of(events, n)),
-        None => None,
+    if ready.contains(from) {
+        ready.remove(from);
+        ready.insert(to);
     }
 }

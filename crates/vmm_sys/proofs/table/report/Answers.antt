@@ -1,67 +1,111 @@
-use Rattle.std.proofs.Common.{arith, ◌≡◌, length, set, ap, ◌∙◌, sym}
-use Rattle.std.specs.Prelude.{find}
-use Rattle.vmm_sys.specs.Table.{is_ready, entry_of}
-use Rattle.vmm_sys.proofs.Picks.{Picked-more, none_by, front, behind, found_here, done_by_room, done_by_none}
-use Rattle.vmm_sys.proofs.Walks.{goes_over, goes_behind, found_in_rest, found_next}
+use Rattle.std.proofs.Common.{◌≡◌, ◌∙◌, ◌++◌, ap, sym, subst, arith, length, drop, map, set, inl, inr, true, false, Some}
+use Rattle.std.proofs.lemmas.Bool.{cases_lt, false≢true}
+use Rattle.std.proofs.lemmas.Option.{get_or_from_slice_get}
+use Rattle.vmm_sys.specs.Table.{is_ready, entry_of, first_ready, first_ready_last}
+use Rattle.vmm_sys.specs.Lists.{held}
+use Rattle.vmm_sys.specs.Interests.{slot_at, passes}
+use Rattle.vmm_sys.proofs.Picks.{IsDone, done_by_room}
+use Rattle.vmm_sys.proofs.Walked.{Walked-start, Walked-more, picked, done_by_marks, done_by_all}
 use Rattle.vmm_sys.proofs.table.report.Goals as goal
 
-pub ready_from-requires : goal.ready_from-requires
-ready_from-requires c = goes_over (is_ready c.args.sources.now) (entry_of c.args.sources.now) c.loop-count.invariant.1 c.last-last.ensures c.in-Some.from c.in-Some.is
-
-pub following-next-requires : goal.following-next-requires
-following-next-requires c =
-    let p = is_ready c.args.sources.now in
-    let f = entry_of c.args.sources.now in
-    let h = c.loop-count.invariant.1 in
-    let end = c.last-last.ensures in
-    let y = c.in-Some-ready_from.interest in
-    let r = found_next p f h end c.in-Some.from y c.ready_from.result c.in-Some.is c.ready_from.ensures c.in-Some-ready_from.is in
-    (r.behind, goes_behind p f h end y r)
-
-pub move_to_back-requires : goal.move_to_back-requires
-move_to_back-requires c =
-    let p = is_ready c.args.sources.now in
-    let f = entry_of c.args.sources.now in
-    let h = c.loop-count.invariant.1 in
-    let y = c.in-Some-ready_from.interest in
-    let r = found_next p f h c.last-last.ensures c.in-Some.from y c.ready_from.result c.in-Some.is c.ready_from.ensures c.in-Some-ready_from.is in
-    (front p f h y r, behind p f h y r, found_here p f h y r)
+pub loop-count-init : goal.loop-count-init
+loop-count-init c = Walked-start (is_ready c.args.sources.now) (entry_of c.args.sources.now) c.leave_unused.new.self c.args.buffer.now (c.leave_unused.ensures.marks (is_ready c.args.sources.now) c.requires)
 
 pub loop-count-preserved : goal.loop-count-preserved
 loop-count-preserved c =
     let p = is_ready c.args.sources.now in
-    let f = entry_of c.args.sources.now in
-    let h = c.loop-count.invariant.1 in
-    let end = c.last-last.ensures in
-    let y = c.in-Some-ready_from.interest in
-    let r = found_next p f h end c.in-Some.from y c.ready_from.result c.in-Some.is c.ready_from.ensures c.in-Some-ready_from.is in
-    let next = c.following-next.ensures r.behind (goes_behind p f h end y r) in
-    let moved = c.move_to_back.ensures.list (front p f h y r) (behind p f h y r) (found_here p f h y r) in
-    (c.move_to_back.ensures.room ∙ c.loop-count.invariant.0, Picked-more p f h y r _ _ c.following-next.result c.loop-count-test.true moved (ap (set c.loop-count.buffer c.loop-count.count) c.entry_of.ensures) next)
+    let h = c.loop-count.invariant in
+    let end = c.end-end.ensures in
+    let below = c.if-slot-end.false in
+    let fits = c.min-room.ensures in
+    let more = c.loop-count-test.true in
+    let at : slot_at c.loop-count.interests.slots c.in-Some.slot ≡ Some c.in-Some-interest_in.interest = sym c.interest_in.ensures ∙ c.in-Some-interest_in.is in
+    Walked-more h c.in-Some.slot c.in-Some-interest_in.interest c.in-Some.ensures (omega arith) at c.move_to_back.new.self _ (omega arith) c.move_to_back.ensures.slots c.move_to_back.ensures.room
+    (c.move_to_back.ensures.marks p h.marks) (ap (set c.loop-count.buffer c.loop-count.count) c.entry_of.ensures)
 
-pub returns-in_default : goal.returns-in_default
-returns-in_default c =
-    let p = is_ready c.args.sources.now in
-    let h = c.loop-count.invariant.1 in
+-- none is marked any more
+
+none-left : (c : goal.In_default) → IsDone (is_ready c.args.sources.now) (entry_of c.args.sources.now) (picked c.loop-count.invariant)
+none-left c =
     let le = c.loop-count.auto.count-end in
-    let r = done_by_none p (entry_of c.args.sources.now) h (omega arith) (ap (find p) (none_by h.rest (sym h.next_is ∙ c.in_default.is))) in
-    record { count = r.0; room = c.loop-count.invariant.0; interests = r.1; buffer = r.2 }
+    let fits = c.min-room.ensures in
+    done_by_marks c.loop-count.invariant (omega arith) (λ s ge lt. c.in_default.ensures s ge)
 
-pub returns-in_default-ready_from : goal.returns-in_default-ready_from
-returns-in_default-ready_from c =
-    let p = is_ready c.args.sources.now in
-    let f = entry_of c.args.sources.now in
-    let h = c.loop-count.invariant.1 in
+pub returns-in_default-clause-count : goal.returns-in_default-clause-count
+returns-in_default-clause-count c = subst (λ l. c.loop-count.count ≡ length (first_ready c.args.sources.now l (length c.args.buffer.now))) c.leave_unused.ensures.list (none-left c).0
+
+pub returns-in_default-clause-interests : goal.returns-in_default-clause-interests
+returns-in_default-clause-interests c = subst (λ l. held c.loop-count.interests.slots ≡ first_ready_last c.args.sources.now l (length c.args.buffer.now)) c.leave_unused.ensures.list (none-left c).1
+
+pub returns-in_default-clause-buffer : goal.returns-in_default-clause-buffer
+returns-in_default-clause-buffer c =
+    subst (λ l. c.loop-count.buffer ≡ map (entry_of c.args.sources.now) (first_ready c.args.sources.now l (length c.args.buffer.now)) ++ drop c.loop-count.count c.args.buffer.now) c.leave_unused.ensures.list (none-left c).2
+
+-- the first that is marked came to the back in this walk
+
+none-below : (c : goal.Then-slot-end) → IsDone (is_ready c.args.sources.now) (entry_of c.args.sources.now) (picked c.loop-count.invariant)
+none-below c =
     let le = c.loop-count.auto.count-end in
-    let none = found_in_rest p f h c.last-last.ensures c.in-Some.from c.ready_from.result c.in-Some.is c.ready_from.ensures ∙ c.in_default-ready_from.is in
-    let r = done_by_none p f h (omega arith) none in
-    record { count = r.0; room = c.loop-count.invariant.0; interests = r.1; buffer = r.2 }
+    let fits = c.min-room.ensures in
+    let end = c.end-end.ensures in
+    let over = c.if-slot-end.true in
+    done_by_marks c.loop-count.invariant (omega arith) (λ s ge lt. c.in-Some.ensures.first s ge (omega arith))
 
-pub returns : goal.returns
-returns c =
+pub returns-then-slot-end-clause-count : goal.returns-then-slot-end-clause-count
+returns-then-slot-end-clause-count c = subst (λ l. c.loop-count.count ≡ length (first_ready c.args.sources.now l (length c.args.buffer.now))) c.leave_unused.ensures.list (none-below c).0
+
+pub returns-then-slot-end-clause-interests : goal.returns-then-slot-end-clause-interests
+returns-then-slot-end-clause-interests c = subst (λ l. held c.loop-count.interests.slots ≡ first_ready_last c.args.sources.now l (length c.args.buffer.now)) c.leave_unused.ensures.list (none-below c).1
+
+pub returns-then-slot-end-clause-buffer : goal.returns-then-slot-end-clause-buffer
+returns-then-slot-end-clause-buffer c =
+    subst (λ l. c.loop-count.buffer ≡ map (entry_of c.args.sources.now) (first_ready c.args.sources.now l (length c.args.buffer.now)) ++ drop c.loop-count.count c.args.buffer.now) c.leave_unused.ensures.list (none-below c).2
+
+-- a slot that is marked holds an interest
+
+holds-one : (c : goal.In_default-interest_in) → ⊥
+holds-one c =
+    let p = is_ready c.args.sources.now in
+    let slot = c.in-Some.slot in
+    let none = ap (passes p) (sym c.interest_in.ensures ∙ c.in_default-interest_in.is) in
+    false≢true (sym (c.loop-count.invariant.marks slot ∙ none) ∙ get_or_from_slice_get c.loop-count.interests.marks slot true false c.in-Some.ensures.marked)
+
+pub returns-in_default-interest_in-clause-count : goal.returns-in_default-interest_in-clause-count
+returns-in_default-interest_in-clause-count c = absurd (holds-one c)
+
+pub returns-in_default-interest_in-clause-interests : goal.returns-in_default-interest_in-clause-interests
+returns-in_default-interest_in-clause-interests c = absurd (holds-one c)
+
+pub returns-in_default-interest_in-clause-buffer : goal.returns-in_default-interest_in-clause-buffer
+returns-in_default-interest_in-clause-buffer c = absurd (holds-one c)
+
+-- the buffer is full, or all were moved
+
+full : (c : goal.After-loop-count) → IsDone (is_ready c.args.sources.now) (entry_of c.args.sources.now) (picked c.loop-count.invariant)
+full c =
     let le = c.loop-count.auto.count-end in
     let over = c.loop-count-test.false in
-    let same = c.loop-count.auto.buffer in
-    let all : length c.loop-count.buffer ≡ c.loop-count.count = omega arith in
-    let r = done_by_room (is_ready c.args.sources.now) (entry_of c.args.sources.now) c.loop-count.invariant.1 (omega arith) in
-    record { count = all ∙ r.0; room = c.loop-count.invariant.0; interests = r.1; buffer = rw all r.2 }
+    let fits = c.min-room.ensures in
+    let enough = c.room.ensures.enough in
+    let same = ap length c.leave_unused.ensures.list in
+    elim (cases_lt c.room.result (length c.args.buffer.now)) [
+      | inl lt ↦ done_by_all c.loop-count.invariant (omega arith) (omega arith)
+      | inr ge ↦ done_by_room (is_ready c.args.sources.now) (entry_of c.args.sources.now) (picked c.loop-count.invariant) (omega arith)
+    ]
+
+all-counted : (c : goal.After-loop-count) → c.loop-count.count ≡ c.min-room.result
+all-counted c =
+    let le = c.loop-count.auto.count-end in
+    let over = c.loop-count-test.false in
+    omega arith
+
+pub returns-clause-count : goal.returns-clause-count
+returns-clause-count c = sym (all-counted c) ∙ subst (λ l. c.loop-count.count ≡ length (first_ready c.args.sources.now l (length c.args.buffer.now))) c.leave_unused.ensures.list (full c).0
+
+pub returns-clause-interests : goal.returns-clause-interests
+returns-clause-interests c = subst (λ l. held c.loop-count.interests.slots ≡ first_ready_last c.args.sources.now l (length c.args.buffer.now)) c.leave_unused.ensures.list (full c).1
+
+pub returns-clause-buffer : goal.returns-clause-buffer
+returns-clause-buffer c =
+    subst (λ n. c.loop-count.buffer ≡ map (entry_of c.args.sources.now) (first_ready c.args.sources.now (held c.args.interests.now.slots) (length c.args.buffer.now)) ++ drop n c.args.buffer.now) (all-counted c)
+    (subst (λ l. c.loop-count.buffer ≡ map (entry_of c.args.sources.now) (first_ready c.args.sources.now l (length c.args.buffer.now)) ++ drop c.loop-count.count c.args.buffer.now) c.leave_unused.ensures.list (full c).2)

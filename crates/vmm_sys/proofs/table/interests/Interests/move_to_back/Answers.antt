@@ -1,22 +1,31 @@
-use Rattle.std.proofs.Common.{◌∙◌, ap}
-use Rattle.vmm_sys.specs.Interests.{InterestsState}
-use Rattle.vmm_sys.proofs.Queued.{interests-split, queued-move, interests-move}
+use Rattle.std.proofs.Common.{◌≡◌, ◌<◌, ◌*◌, ◌∙◌, sym, subst, refl, arith, length, None}
+use Rattle.std.specs.Prelude.{IsSome}
+use Rattle.std.proofs.lemmas.List.{length_push}
+use Rattle.vmm_sys.specs.Interests.{InterestsState, slot_at, AreMarked}
+use Rattle.vmm_sys.proofs.Held.{slot-moved, slot-grown}
+use Rattle.vmm_sys.proofs.Slots.{in-slots-same}
+use Rattle.vmm_sys.proofs.SlotMarks.{fit-same}
 use Rattle.vmm_sys.proofs.table.interests.Interests.move_to_back.Goals as goal
-
-pub move_to_back-requires : goal.move_to_back-requires
-move_to_back-requires c =
-    let l = ap (λ (s : InterestsState). s.list) c.self.view_is in
-    let r = interests-split c.self.inside.events.items c.self.inside.queue.numbers c.requires.0 c.requires.1 c.args.interest (l ∙ c.requires.2) in
-    (r.0, r.1, r.2)
 
 pub invariant_of-self : goal.invariant_of-self
 invariant_of-self c =
-    let l = ap (λ (s : InterestsState). s.list) c.self.view_is in
-    let r = interests-split c.self.inside.events.items c.self.inside.queue.numbers c.requires.0 c.requires.1 c.args.interest (l ∙ c.requires.2) in
-    queued-move c.self.inside.events.items c.self.inside.queue c.self.invariant c.args.interest.descriptor r.0 r.1 r.2 c.move_to_back.new.self c.move_to_back.ensures.room (c.move_to_back.ensures.numbers r.0 r.1 r.2)
+    let slots = c.self.inside.slots.items in
+    let unused = subst (λ (s : InterestsState). length s.slots < 3 * s.room) (sym c.self.view_is) c.requires.unused in
+    let room = c.self.invariant.1 in
+    let more = length_push slots None in (
+      rw c.push_reserved.ensures.items (in-slots-same c.self.inside.places.items slots _ (slot-grown slots) c.self.invariant.0),
+      rw (c.push_reserved.ensures.items, c.push_reserved.ensures.capacity) (record { descriptors = room.descriptors; slots = room.slots; marks = room.marks; used = omega arith }),
+    )
 
-pub returns-clause-list : goal.returns-clause-list
-returns-clause-list c = λ ms ns e.
-    let l = ap (λ (s : InterestsState). s.list) c.self.view_is in
-    let r = interests-split c.self.inside.events.items c.self.inside.queue.numbers ms ns c.args.interest (l ∙ e) in
-    interests-move c.self.inside.events.items r.0 r.1 c.move_to_back.new.self.numbers ms ns c.args.interest (c.move_to_back.ensures.numbers r.0 r.1 r.2) r.3 r.4 r.5
+pub returns-clause-slots : goal.returns-clause-slots
+returns-clause-slots c =
+    let slots = c.self.inside.slots.items in
+    let some = subst (λ (s : InterestsState). IsSome (slot_at s.slots c.args.slot)) (sym c.self.view_is) c.requires.some in
+    let last : c.len-last.result ≡ length slots = c.len-last.ensures ∙ c.self.inside.slots.ok.0 in
+    rw (← c.self.view_is) (c.shift.ensures.slots ∙ rw (c.push_reserved.ensures.items, last) (slot-moved slots c.args.slot some))
+
+pub returns-clause-marks : goal.returns-clause-marks
+returns-clause-marks c = λ p h.
+    let slots = c.self.inside.slots.items in
+    let fit = subst (AreMarked p) (sym c.self.view_is) h in
+    c.shift.ensures.marks p (rw c.push_reserved.ensures.items (fit-same p c.self.inside.ready c.self.inside.ready slots _ (λ s. refl) (slot-grown slots) fit))

@@ -1,27 +1,22 @@
-use Rattle.std.proofs.Common.{◌≡◌, ◌<◌, ap, sym, subst, refl, None, length-set}
-use Rattle.std.specs.Prelude.{position}
+use Rattle.std.proofs.Common.{◌≡◌, ◌<◌, ◌∙◌, ◌++◌, ◌∷◌, [], ap, arith, length, Some, rules}
 use Rattle.vmm_sys.specs.Interests.{InterestsState}
-use Rattle.vmm_sys.specs.Queue.{QueueState}
-use Rattle.vmm_sys.specs.Table.{is_of}
-use Rattle.vmm_sys.proofs.Queued.{absent-none, queued-push}
+use Rattle.vmm_sys.proofs.Held.{held-append}
+use Rattle.vmm_sys.proofs.Slots.{none-kept}
+use Rattle.vmm_sys.proofs.SlotMarks.{fit-push}
 use Rattle.vmm_sys.proofs.table.interests.Interests.push_back.Goals as goal
 
-pub push_back-requires-clause-absent : goal.push_back-requires-clause-absent
-push_back-requires-clause-absent c =
-    let n = c.args.interest.descriptor in
-    absent-none c.self.inside.events.items c.self.inside.queue c.self.invariant n (subst (λ (s : InterestsState). position (is_of n) s.list ≡ None) (sym c.self.view_is) c.requires.absent)
+pub put_last-requires-clause-absent : goal.put_last-requires-clause-absent
+put_last-requires-clause-absent c = none-kept c.args.self.now.slots c.leave_unused.new.self.slots c.args.interest.descriptor c.leave_unused.ensures.list c.requires.absent
 
-pub invariant_of-self : goal.invariant_of-self
-invariant_of-self c =
-    let n = c.args.interest.descriptor in
-    let out = absent-none c.self.inside.events.items c.self.inside.queue c.self.invariant n (subst (λ (s : InterestsState). position (is_of n) s.list ≡ None) (sym c.self.view_is) c.requires.absent) in
-    let below = subst (λ (s : InterestsState). n < s.room) (sym c.self.view_is) c.requires.room in
-    (queued-push c.self.inside.events.items c.self.inside.queue c.self.invariant n c.args.interest.event c.push_back.new.self below out (ap (λ (q : QueueState). q.room) c.push_back.ensures) (ap (λ (q : QueueState). q.numbers) c.push_back.ensures)).0
+pub returns-clause-list : goal.returns-clause-list
+returns-clause-list c =
+    let i = c.args.interest in
+    rw (c.mark.ensures.marked, c.put_last.ensures) (held-append c.leave_unused.new.self.slots (Some i ∷ []) ∙ ap (λ l. l ++ i ∷ []) c.leave_unused.ensures.list)
 
-pub returns : goal.returns
-returns c =
-    let n = c.args.interest.descriptor in
-    let out = absent-none c.self.inside.events.items c.self.inside.queue c.self.invariant n (subst (λ (s : InterestsState). position (is_of n) s.list ≡ None) (sym c.self.view_is) c.requires.absent) in
-    let below = subst (λ (s : InterestsState). n < s.room) (sym c.self.view_is) c.requires.room in
-    let list = (queued-push c.self.inside.events.items c.self.inside.queue c.self.invariant n c.args.interest.event c.push_back.new.self below out (ap (λ (q : QueueState). q.room) c.push_back.ensures) (ap (λ (q : QueueState). q.numbers) c.push_back.ensures)).1 in
-    rw (list, length-set, ← c.self.view_is) refl
+pub returns-clause-marks : goal.returns-clause-marks
+returns-clause-marks c = λ p h e.
+    let fit = c.leave_unused.ensures.marks p h in
+    let same = ap (λ (s : InterestsState). length s.marks) c.put_last.ensures in
+    let slot : c.len-slot.result ≡ length c.leave_unused.new.self.slots = search rules in
+    let within : length c.leave_unused.new.self.slots < length c.leave_unused.new.self.marks = (let w = c.mark.ensures.within in omega arith) in
+    rw (c.mark.ensures.marked, c.put_last.ensures, slot) (fit-push p c.leave_unused.new.self.marks c.leave_unused.new.self.slots c.args.interest c.args.ready fit within e)

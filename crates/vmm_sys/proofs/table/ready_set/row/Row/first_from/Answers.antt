@@ -1,0 +1,14 @@
+use Rattle.std.proofs.Common.{true, inl, inr, arith}
+use Rattle.std.proofs.lemmas.Bool.{cases_lt}
+use Rattle.std.proofs.lemmas.Option.{slice_get_within}
+use Rattle.vmm_sys.proofs.table.ready_set.row.Row.first_from.Goals as goal
+
+pub returns : goal.returns
+returns c = λ m from marked.
+    elim (cases_lt m c.loop-from.from) [
+      | inl before ↦ c.loop-from.invariant.none m from before marked
+      | inr past ↦
+          let within = slice_get_within c.args.self.now m true marked in
+          let end = c.loop-from-test.false in
+          omega arith
+    ]
