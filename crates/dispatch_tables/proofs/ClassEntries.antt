@@ -5,7 +5,7 @@ use Rattle.std.proofs.lemmas.List.Elements.{filter_more}
 use Rattle.vmm_sys.specs.declared.epoll.EpollEvent.{EpollEvent}
 use Rattle.dispatch_tables.specs.Priority.{number_of}
 use Rattle.dispatch_tables.specs.Event.{event_of_entry}
-use Rattle.dispatch_tables.specs.Owners.{OwnerMaps, class_in}
+use Rattle.dispatch_tables.specs.Ownership.{OwnerMap, class_in}
 use Rattle.dispatch_tables.specs.Classes.{numbered, classed_by, entries_of, AreAllLowest}
 use Rattle.dispatch_tables.specs.ClassOrder.{of_class, IsOrdered}
 use Rattle.dispatch_tables.specs.declared.dispatch_order.ClassedEntry.{ClassedEntry}
@@ -86,15 +86,15 @@ at_most_3 High = omega arith
 at_most_3 Highest = omega arith
 
 -- what the list says of the events of a report
-module _ (maps : OwnerMaps) where
+module _ (owners : OwnerMap) where
   abbrev class : ℕ → ℕ
-  class fd = class_in maps fd
+  class fd = class_in owners fd
 
   one_event : (b : Bool) (one : ClassedEntry) (rest : List ClassedEntry) → map event_of_entry (map (λ x. x.entry) (cond b (one ∷ rest) rest)) ≡ cond b (event_of_entry one.entry ∷ map event_of_entry (map (λ x. x.entry) rest)) (map event_of_entry (map (λ x. x.entry) rest))
   one_event true one rest = refl
   one_event false one rest = refl
 
-  events_as : (n : ℕ) (classed : List ClassedEntry) (es : List EpollEvent) → map numbered classed ≡ map (classed_by maps) es → map event_of_entry (entries_of n classed) ≡ of_class class n (map event_of_entry es)
+  events_as : (n : ℕ) (classed : List ClassedEntry) (es : List EpollEvent) → map numbered classed ≡ map (classed_by owners) es → map event_of_entry (entries_of n classed) ≡ of_class class n (map event_of_entry es)
   events_as n [] [] h = refl
   events_as n [] (e ∷ es) h = absurd (nil_cons _ _ h)
   events_as n (one ∷ classed) [] h = absurd (nil_cons _ _ (sym h))
@@ -104,7 +104,7 @@ module _ (maps : OwnerMaps) where
       one_event (number_of one.class == n) one (filter (λ x. number_of x.class == n) classed)
       ∙ (λ k. cond ((same k).0 == n) (event_of_entry (same k).1 ∷ rest k) (rest k))
 
-  events_at_most_3 : (classed : List ClassedEntry) (es : List EpollEvent) → map numbered classed ≡ map (classed_by maps) es → AreAtMost class 3 (map event_of_entry es)
+  events_at_most_3 : (classed : List ClassedEntry) (es : List EpollEvent) → map numbered classed ≡ map (classed_by owners) es → AreAtMost class 3 (map event_of_entry es)
   events_at_most_3 [] [] h = tt
   events_at_most_3 [] (e ∷ es) h = absurd (nil_cons _ _ h)
   events_at_most_3 (one ∷ classed) [] h = absurd (nil_cons _ _ (sym h))
@@ -112,13 +112,13 @@ module _ (maps : OwnerMaps) where
       let same = head_is _ _ _ _ h in
       (subst (λ n. n ≤ 3) (ap (λ (p : ℕ × EpollEvent). p.0) same) (at_most_3 one.class), events_at_most_3 classed es (tail_is _ _ _ _ h))
 
-  pub same_length : (classed : List ClassedEntry) (es : List EpollEvent) → map numbered classed ≡ map (classed_by maps) es → length classed ≡ length es
+  pub same_length : (classed : List ClassedEntry) (es : List EpollEvent) → map numbered classed ≡ map (classed_by owners) es → length classed ≡ length es
   same_length [] [] h = refl
   same_length [] (e ∷ es) h = absurd (nil_cons _ _ h)
   same_length (one ∷ classed) [] h = absurd (nil_cons _ _ (sym h))
   same_length (one ∷ classed) (e ∷ es) h = ap suc (same_length classed es (tail_is _ _ _ _ h))
 
-  lowest_events : (classed : List ClassedEntry) (es : List EpollEvent) → map numbered classed ≡ map (classed_by maps) es → AreAllLowest classed → AreAtMost class 0 (map event_of_entry es)
+  lowest_events : (classed : List ClassedEntry) (es : List EpollEvent) → map numbered classed ≡ map (classed_by owners) es → AreAllLowest classed → AreAtMost class 0 (map event_of_entry es)
   lowest_events [] [] h low = tt
   lowest_events [] (e ∷ es) h low = absurd (nil_cons _ _ h)
   lowest_events (one ∷ classed) [] h low = absurd (nil_cons _ _ (sym h))
@@ -127,11 +127,11 @@ module _ (maps : OwnerMaps) where
       (omega (arith, same, low 0 one (omega arith)), lowest_events classed es (tail_is _ _ _ _ h) (λ k d l. low (suc k) d (omega (arith, l))))
 
   -- where all are of the lowest class, the report is in order
-  pub lowest_in_order : (classed : List ClassedEntry) (es : List EpollEvent) → map numbered classed ≡ map (classed_by maps) es → AreAllLowest classed → IsOrdered class (map event_of_entry es) (map event_of_entry es)
+  pub lowest_in_order : (classed : List ClassedEntry) (es : List EpollEvent) → map numbered classed ≡ map (classed_by owners) es → AreAllLowest classed → IsOrdered class (map event_of_entry es) (map event_of_entry es)
   lowest_in_order classed es h low = ordered_already class (map event_of_entry es) (lowest_descends class (map event_of_entry es) (lowest_events classed es h low))
 
   -- and otherwise once the classes are written one after another
-  pub written_in_order : (classed : List ClassedEntry) (es now : List EpollEvent) → map numbered classed ≡ map (classed_by maps) es → now ≡ entries_of 3 classed ++ (entries_of 2 classed ++ (entries_of 1 classed ++ entries_of 0 classed)) → IsOrdered class (map event_of_entry es) (map event_of_entry now)
+  pub written_in_order : (classed : List ClassedEntry) (es now : List EpollEvent) → map numbered classed ≡ map (classed_by owners) es → now ≡ entries_of 3 classed ++ (entries_of 2 classed ++ (entries_of 1 classed ++ entries_of 0 classed)) → IsOrdered class (map event_of_entry es) (map event_of_entry now)
   written_in_order classed es now h is =
       let joined = ap (map event_of_entry) is
       ∙ map-append event_of_entry (entries_of 3 classed) (entries_of 2 classed ++ (entries_of 1 classed ++ entries_of 0 classed))

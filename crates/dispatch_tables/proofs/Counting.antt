@@ -1,16 +1,10 @@
--- How many owners there are, once one is put in or taken out.
-use Rattle.std.proofs.Common.{◌≡◌, ℕ, zero, suc, ◌+◌, ◌-◌, ◌≤◌, refl, sym, ap, ◌∙◌, Bool, true, false, cond, Option, Some, None, arith, is_some, nat_cmp}
+-- How many entries a finite map has, once one is put in or taken out.
+use Rattle.std.proofs.Common.{◌≡◌, ℕ, zero, suc, ◌+◌, ◌-◌, ◌≤◌, refl, sym, ap, ◌∙◌, true, false, cond, None, arith, is_some, nat_cmp}
 use Rattle.std.proofs.lemmas.Bool.{false≢true}
 use Rattle.std.specs.Cmp.{nat_cmp_total}
 use Rattle.std.specs.FinMap.{FinMap, get, insert, remove, len, len-insert, len-remove, empty_of_len, get-empty}
-use Rattle.dispatch_tables.specs.Owners.{owner_id}
-use Rattle.dispatch_tables.specs.declared.owners.Owner.{Owner}
 
-same_some : (o : Option Owner) → is_some (owner_id o) ≡ is_some o
-same_some None = refl
-same_some (Some owner) = refl
-
-module _ (owners : FinMap nat_cmp ℕ) (fd : ℕ) where
+module _ {X : Type 0} (owners : FinMap nat_cmp X) (fd : ℕ) where
   some_owner : (n : ℕ) → len owners ≡ n → is_some (get owners fd) ≡ true → 1 ≤ n
   some_owner zero none held = absurd (false≢true (ap is_some (sym (get-empty nat_cmp fd)) ∙ ap (λ m. is_some (get m fd)) (sym (empty_of_len owners none)) ∙ held))
   some_owner (suc n) is held = omega arith
@@ -24,9 +18,5 @@ module _ (owners : FinMap nat_cmp ℕ) (fd : ℕ) where
   pub none_fewer : is_some (get owners fd) ≡ false → len (remove owners fd) ≡ len owners
   none_fewer free = len-remove nat_cmp_total owners fd ∙ ap (λ b. cond b (len owners - 1) (len owners)) free
 
-  pub one_more_owner : (id : ℕ) → get owners fd ≡ None → len (insert owners fd id) ≡ len owners + 1
-  one_more_owner id free = len-insert nat_cmp_total owners fd id ∙ ap (λ o. cond (is_some o) (len owners) (len owners + 1)) free
-
-  -- what a removal answers says whether there was one
-  pub answered : (o : Option Owner) (b : Bool) → owner_id o ≡ get owners fd → is_some o ≡ b → is_some (get owners fd) ≡ b
-  answered o b is e = ap is_some (sym is) ∙ same_some o ∙ e
+  pub one_more_owner : (x : X) → get owners fd ≡ None → len (insert owners fd x) ≡ len owners + 1
+  one_more_owner x free = len-insert nat_cmp_total owners fd x ∙ ap (λ o. cond (is_some o) (len owners) (len owners + 1)) free

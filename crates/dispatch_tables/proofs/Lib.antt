@@ -7,6 +7,7 @@ pub mod Counting
 pub mod RaisedOwners
 pub mod RetainedKeys
 pub mod MapEntries
+pub mod Owning
 pub mod ClassEntries
 pub mod DispatchOrders
 pub mod Ascending

@@ -5,12 +5,12 @@ use Rattle.std.proofs.lemmas.Bool.{false≢true}
 use Rattle.std.specs.Cmp.{nat_cmp_is, nat_cmp_total}
 use Rattle.std.specs.FinMap.{FinMap, get, insert, remove, get-insert, get-remove, same_map, nat_cmp-IsAntisymmetric, get_tied}
 
-untouched : (m : FinMap nat_cmp ℕ) (k v q : ℕ) → get m k ≡ None → (r : Ordering) → nat_cmp q k ≡ r → cond (is_eq r) None (cond (is_eq r) (Some v) (get m q)) ≡ get m q
+untouched : {X : Type 0} (m : FinMap nat_cmp X) (k : ℕ) (v : X) (q : ℕ) → get m k ≡ None → (r : Ordering) → nat_cmp q k ≡ r → cond (is_eq r) None (cond (is_eq r) (Some v) (get m q)) ≡ get m q
 untouched m k v q free Less e = refl
 untouched m k v q free Equal e = sym free ∙ get_tied nat_cmp_total m q k e
 untouched m k v q free Greater e = refl
 
-pub remove_insert : (m : FinMap nat_cmp ℕ) (k v : ℕ) → get m k ≡ None → remove (insert m k v) k ≡ m
+pub remove_insert : {X : Type 0} (m : FinMap nat_cmp X) (k : ℕ) (v : X) → get m k ≡ None → remove (insert m k v) k ≡ m
 remove_insert m k v free = same_map nat_cmp_total nat_cmp-IsAntisymmetric _ _ (λ q. get-remove nat_cmp_total _ k q ∙ ap (cond (eq_by_cmp nat_cmp q k) None) (get-insert nat_cmp_total m k v q) ∙ untouched m k v q free _ refl)
 
 pub none_of : {A : Type 0} (o : Option A) → is_some o ≡ false → o ≡ None

@@ -4,14 +4,14 @@ use Rattle.std.specs.Cmp.{nat_cmp_total}
 use Rattle.std.specs.FinMap.{FinMap, retain_keys, len, entries, entries_sorted, from_sorted, get-retain_keys, get-from_sorted, get-entries, len-entries, entries-from_sorted, same_map, nat_cmp-IsAntisymmetric}
 use Rattle.std.specs.FinMap.Entries.{where_key, is_sorted-where_key, find-where_key}
 
-fewer : (p : ℕ → Bool) (es : List (ℕ × ℕ)) → length (where_key nat_cmp p es) ≤ length es
+fewer : {X : Type 0} (p : ℕ → Bool) (es : List (ℕ × X)) → length (where_key nat_cmp p es) ≤ length es
 fewer p [] = omega arith
 fewer p (e ∷ es) = elim (p e.0) as (λ b. length (cond b (e ∷ where_key nat_cmp p es) (where_key nat_cmp p es)) ≤ length (e ∷ es)) [
   | true ↦ omega (arith, fewer p es)
   | false ↦ omega (arith, fewer p es)
 ]
 
-module _ (m : FinMap nat_cmp ℕ) (p : ℕ → Bool) where
+module _ {X : Type 0} (m : FinMap nat_cmp X) (p : ℕ → Bool) where
   retained : retain_keys m p ≡ from_sorted (where_key nat_cmp p (entries m))
   retained = same_map nat_cmp_total nat_cmp-IsAntisymmetric _ _ (λ q.
       get-retain_keys m p q (λ x e. ap p (sym (nat_cmp-IsAntisymmetric q x e)))

@@ -1,12 +1,6 @@
 -- Events in the order of their classes.
-use Rattle.std.specs.Prelude.{◌≡◌, ℕ, ◌≤◌, ◌==◌, List, filter, AllPairs, Option, Some, None}
+use Rattle.std.specs.Prelude.{◌≡◌, ℕ, ◌≤◌, ◌==◌, List, filter, AllPairs}
 use Rattle.dispatch_tables.specs.Event.{Event}
-
--- the class of a descriptor, by its owner and its priority: 0 where nobody owns it
-abbrev pub class_by : Option ℕ → Option ℕ → ℕ
-class_by None priority = 0
-class_by (Some id) None = 0
-class_by (Some id) (Some number) = number
 
 -- class: which class each descriptor has
 module _ (class : ℕ → ℕ) where

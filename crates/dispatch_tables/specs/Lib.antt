@@ -1,5 +1,6 @@
 pub mod Event
 pub mod Priority
+pub mod Ownership
 pub mod ClassOrder
 pub mod Owners
 pub mod Classes

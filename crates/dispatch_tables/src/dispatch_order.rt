@@ -3,7 +3,7 @@
 ghost use Rattle.std.specs.Prelude.{◌≡◌, ◌≤◌, ◌<◌, ◌+◌, ◌++◌, ◌==◌, map, take, filter, length, vec_capacity, false, Bool};
 ghost use Rattle.dispatch_tables.specs.Priority.{number_of};
 ghost use Rattle.dispatch_tables.specs.Event.{event_of_entry};
-ghost use Rattle.dispatch_tables.specs.Owners.{class_in};
+ghost use Rattle.dispatch_tables.specs.Ownership.{class_in};
 ghost use Rattle.dispatch_tables.specs.Classes.{numbered, classed_by, entries_of, AreAllLowest};
 ghost use Rattle.dispatch_tables.specs.ClassOrder.{IsOrdered};
 

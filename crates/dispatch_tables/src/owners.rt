@@ -1,8 +1,10 @@
 //! Who owns which descriptor, and at which priority.
 
 ghost use Rattle.std.specs.Prelude.{◌≡◌, ◌<◌, ◌≤◌, length, None, Some, OnOk, OnErr};
+ghost use Rattle.std.specs.FinMap as map;
 ghost use Rattle.dispatch_tables.specs.Priority.{number_of};
-ghost use Rattle.dispatch_tables.specs.Owners.{no_owners, with_owner_at, with_none_at, owner_at, HasOwnerAt, IsOwnerAt, class_in};
+ghost use Rattle.dispatch_tables.specs.Ownership.{class_in};
+ghost use Rattle.dispatch_tables.specs.Owners.{ownership_of, owner_at, HasOwnerAt, IsOwnerAt};
 
 use crate::priority::Priority;
 use std::alloc::{AllocError, Global};
@@ -30,11 +32,12 @@ pub struct Owners {
 }
 
 impl Model for Owners {
-    ghost use Rattle.dispatch_tables.specs.Owners.{OwnerMaps, owner_maps_code, owners_in, AreApart};
+    ghost use Rattle.dispatch_tables.specs.Ownership.{OwnerMap, owner_map_code};
+    ghost use Rattle.dispatch_tables.specs.Owners.{owners_in, AreApart};
 
-    ghost Value = { OwnerMaps };
+    ghost Value = { OwnerMap };
 
-    ghost coded = { owner_maps_code };
+    ghost coded = { owner_map_code };
 
     ghost view = { λ o. owners_in o.low.items o.high.entries };
 
@@ -44,7 +47,7 @@ impl Model for Owners {
 impl Owners {
     /// No owner.
     pub fn new(alloc: Global) -> Self
-        ensures { result ≡ no_owners }
+        ensures { result ≡ map.empty }
     {
         Owners {
             low: Vec::new(alloc),
@@ -74,7 +77,7 @@ impl Owners {
 
     /// Enters the owner of a descriptor. Where memory is refused, all owners stay as they were.
     pub fn insert(&mut self, fd: u32, owner: Owner) -> std::result::Result<(), AllocError>
-        ensures ok { OnOk result (self.new ≡ with_owner_at fd owner self.old) }
+        ensures ok { OnOk result (self.new ≡ map.insert self.old fd (ownership_of owner)) }
         ensures err { OnErr result (self.new ≡ self.old) }
     {
         if fd < LOW_DESCRIPTORS {
@@ -91,7 +94,7 @@ impl Owners {
     /// Takes out the owner of the descriptor, and answers it. Takes no memory.
     pub fn remove(&mut self, fd: u32) -> Option<Owner>
         ensures value { IsOwnerAt self.old fd result }
-        ensures removed { self.new ≡ with_none_at fd self.old }
+        ensures removed { self.new ≡ map.remove self.old fd }
     {
         if fd < LOW_DESCRIPTORS {
             return take_at(&mut self.low, fd as usize);

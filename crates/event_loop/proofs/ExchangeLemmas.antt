@@ -1,6 +1,7 @@
 -- Lists of exchanges, put together.
 use Rattle.std.proofs.Common.{◌≡◌, ℕ, List, [], ◌∷◌, ◌++◌, refl, sym, ap, subst, ◌∙◌, append_assoc, inl, inr, arith, Ok, Err, Bool, true, false, ◌||◌, ◌==◌, not, cond, map}
 use Rattle.std.proofs.lemmas.List.{append-nil}
+use Rattle.std.proofs.lemmas.List.Folds.{list_any-append}
 use Rattle.std.proofs.lemmas.Bool.Decides.{nat_tests}
 use Rattle.dispatch_tables.specs.Event.{Event}
 use Rattle.event_loop.specs.PollerCall.{PollerCall, Control, Wait}
@@ -19,17 +20,13 @@ use Rattle.event_loop.specs.declared.events.EventOps.{EventOps}
 eq_symm : (a b : ℕ) → (a == b) ≡ (b == a)
 eq_symm a b = grind (arith, nat_tests)
 
-or_false : (b : Bool) → b || false ≡ b
+pub or_false : (b : Bool) → b || false ≡ b
 or_false true = refl
 or_false false = refl
 
 or_assoc : (a b c : Bool) → a || (b || c) ≡ (a || b) || c
 or_assoc true b c = refl
 or_assoc false b c = refl
-
-removes_join : (fd : ℕ) (t u : Exchanges) → removes fd (t ++ u) ≡ removes fd t || removes fd u
-removes_join fd [] u = refl
-removes_join fd (x ∷ t) u = ap (λ b. is_removal fd x.0 x.1 || b) (removes_join fd t u) ∙ or_assoc (is_removal fd x.0 x.1) (removes fd t) (removes fd u)
 
 -- with a mark at each position whose descriptor the exchanges remove, for no exchange too
 abbrev pub marked : Exchanges → List (Event × Bool) → List (Event × Bool)
@@ -41,7 +38,9 @@ marked_none ((e, m) ∷ ready) = ap (λ b. (e, b) ∷ marked [] ready) (or_false
 
 marked_join : (t u : Exchanges) (ready : List (Event × Bool)) → marked (t ++ u) ready ≡ marked u (marked t ready)
 marked_join t u [] = refl
-marked_join t u ((e, m) ∷ ready) = ap (λ b. (e, b) ∷ marked (t ++ u) ready) (ap (λ b. m || b) (removes_join e.fd t u) ∙ or_assoc m (removes e.fd t) (removes e.fd u)) ∙ ap (λ r. (e, (m || removes e.fd t) || removes e.fd u) ∷ r) (marked_join t u ready)
+marked_join t u ((e, m) ∷ ready) =
+    ap (λ b. (e, b) ∷ marked (t ++ u) ready) (ap (λ b. m || b) (list_any-append (λ exchange. is_removal e.fd exchange.0 exchange.1) t u) ∙ or_assoc m (removes e.fd t) (removes e.fd u))
+    ∙ ap (λ r. (e, (m || removes e.fd t) || removes e.fd u) ∷ r) (marked_join t u ready)
 
 pub cancel_removed_marks : (exchanges : Exchanges) (ready : List (Event × Bool)) → cancel_removed exchanges ready ≡ marked exchanges ready
 cancel_removed_marks [] ready = sym (marked_none ready)

@@ -4,7 +4,6 @@ pub mod DispatchSoFar
 pub mod ExchangeLemmas
 pub mod Positions
 pub mod Releasing
-pub mod ReportedInOrder
 pub mod RequestsSoFar
 pub mod StepExchangeLemmas
 pub mod Watching

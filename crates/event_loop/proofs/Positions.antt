@@ -1,14 +1,20 @@
 -- One position of a batch, and the batch.
-use Rattle.std.proofs.Common.{◌≡◌, ℕ, refl, sym, ap, subst, ◌∙◌, List, [], ◌∷◌, ◌++◌, Bool, true, false, ◌⊎◌, Some, None, Option, ⊎_elim, not, cond, ◌||◌, ◌==◌, map, append_assoc, length, Result, Ok, Err, ℤ}
+use Rattle.std.proofs.Common.{◌≡◌, ℕ, refl, sym, ap, subst, ◌∙◌, List, [], ◌∷◌, ◌++◌, Bool, true, false, ◌⊎◌, Some, None, Option, option_map, ⊎_elim, not, cond, ◌||◌, ◌==◌, map, length, Result, Ok, Err, ℤ}
 use Rattle.vmm_sys.specs.declared.errno.Errno.{Errno}
 use Rattle.event_loop.specs.Registry as model
-use Rattle.std.proofs.lemmas.List.{append-nil}
+use Rattle.std.proofs.lemmas.List.{append-nil, map-append}
+use Rattle.std.proofs.lemmas.List.Concat.{flat_map-append}
+use Rattle.std.proofs.lemmas.List.Folds.{list_any-append}
+use Rattle.std.proofs.lemmas.List.Sorted.{list_any-IsPermutation}
 use Rattle.std.specs.FinMap.{get, insert}
 use Rattle.dispatch_tables.specs.Event.{Event}
-use Rattle.event_loop.specs.Registrations.{Owns}
+use Rattle.event_loop.specs.Registrations.{Registrations, Owns}
+use Rattle.dispatch_tables.specs.Ownership.{owner_id, owner_of}
+use Rattle.dispatch_tables.specs.Owners.{ownership_of}
+use Rattle.dispatch_tables.specs.declared.owners.Owner.{Owner}
 use Rattle.event_loop.specs.DispatchOrder.{class_of, IsDispatchOrder}
 use Rattle.dispatch_tables.proofs.DispatchOrders.{nil_cons, head_is, tail_is}
-use Rattle.event_loop.proofs.ReportedInOrder.{reported_in_order}
+use Rattle.dispatch_tables.proofs.DispatchOrders.{ordered_permutation}
 use Rattle.event_loop.specs.PollerCall.{PollerCall, Wait}
 use Rattle.event_loop.specs.Exchange.{Exchanges, ExchangesFit, removes}
 use Rattle.event_loop.specs.RegistrationState.{RegistrationState, not_cancelled, registrations_of, cancel_removed, all_pending, HasWaited}
@@ -20,7 +26,7 @@ use Rattle.event_loop.specs.Requests.{AreMade}
 use Rattle.event_loop.specs.PollerCall.{Controls, Waits, Leads}
 use Rattle.event_loop.specs.Subscribers.{registry_of, idle, loop_state, HasOutcome, TakesPosition, IsDispatched, IsBatch}
 use Rattle.event_loop.specs.declared.subscribers.Registry.{Registry}
-use Rattle.event_loop.proofs.ExchangeLemmas.{cancel_removed_marks, marked, leads_join, exchanges_keep_endpoint}
+use Rattle.event_loop.proofs.ExchangeLemmas.{or_false, cancel_removed_marks, marked, leads_join, exchanges_keep_endpoint}
 
 module _ {S P : Type 0} {controls : Controls P} {waits : Waits P} (serves : S → Event → Exchanges → S → Type 0) where
   pub nobody_position : (before after : Registry S P) (event : Event) (cancelled is_endpoint : Bool) (rest : List (Event × Bool))
@@ -45,7 +51,7 @@ module _ {S P : Type 0} {controls : Controls P} {waits : Waits P} (serves : S �
 
   pub served_position : (before after : Registry S P) (event : Event) (is_endpoint : Bool) (rest : List (Event × Bool)) (mid : RegistrationState)
       (id : ℕ) (value held : S) (exchanges : Exchanges) (calls : List PollerCall)
-      → before.ops.epoll.registrations.ready ≡ (event, false) ∷ rest → mid ≡ record before.ops.epoll.registrations { ready = rest } → get mid.owner event.fd ≡ Some id → HasId (registry_of before) id value → serves value event exchanges held
+      → before.ops.epoll.registrations.ready ≡ (event, false) ∷ rest → mid ≡ record before.ops.epoll.registrations { ready = rest } → owner_of mid.owners event.fd ≡ Some id → HasId (registry_of before) id value → serves value event exchanges held
       → AreMade controls waits (record { registrations = mid; poller = before.ops.epoll.poller }) after.ops.epoll id exchanges calls
       → after.subscribers ≡ insert before.subscribers id held → after.next ≡ before.next
       → is_endpoint ≡ (event.fd == before.ops.epoll.registrations.endpoint)
@@ -59,7 +65,7 @@ module _ {S P : Type 0} {controls : Controls P} {waits : Waits P} (serves : S �
     had = (
       value,
       refl,
-      subst (λ (b : RegistrationState). get b.owner event.fd ≡ Some id) registrations owns,
+      subst (λ (b : RegistrationState). owner_of b.owners event.fd ≡ Some id) registrations owns,
       has,
       served,
       subst (λ (b : RegistrationState). ExchangesFit id (registrations_of b) exchanges calls (registrations_of after.ops.epoll.registrations)) registrations made.fits,
@@ -78,34 +84,30 @@ taken x e = cc
 same_some : {A : Type 0} (o : Option A) (x y : A) → o ≡ Some x → o ≡ Some y → x ≡ y
 same_some o x y e f = cc
 
-module _ {S P : Type 0} (before : Registry S P) (mid : RegistrationState) (fd : ℕ) (rest : List (Event × Bool)) where
-  pub not_owned : mid ≡ record before.ops.epoll.registrations { ready = rest } → get mid.owner fd ≡ None → (i : ℕ) (value : S) → ¬ (Owns i (registrations_of before.ops.epoll.registrations) fd × HasId (registry_of before) i value)
-  not_owned registrations none i value h = taken i (sym (subst (λ (b : RegistrationState). get b.owner fd ≡ None) registrations none) ∙ h.0)
+-- the id of the owner that a look-up found
+abbrev pub found_id : Option Owner → Option ℕ
+found_id found = owner_id (option_map ownership_of found)
 
-  pub not_there : (id : ℕ) → mid ≡ record before.ops.epoll.registrations { ready = rest } → get mid.owner fd ≡ Some id → get before.subscribers id ≡ None → (i : ℕ) (value : S) → ¬ (Owns i (registrations_of before.ops.epoll.registrations) fd × HasId (registry_of before) i value)
+module _ {S P : Type 0} (before : Registry S P) (mid : RegistrationState) (fd : ℕ) (rest : List (Event × Bool)) where
+  pub not_owned : mid ≡ record before.ops.epoll.registrations { ready = rest } → owner_of mid.owners fd ≡ None → (i : ℕ) (value : S) → ¬ (Owns i (registrations_of before.ops.epoll.registrations) fd × HasId (registry_of before) i value)
+  not_owned registrations none i value h = taken i (sym (subst (λ (b : RegistrationState). owner_of b.owners fd ≡ None) registrations none) ∙ h.0)
+
+  pub not_there : (id : ℕ) → mid ≡ record before.ops.epoll.registrations { ready = rest } → owner_of mid.owners fd ≡ Some id → get before.subscribers id ≡ None → (i : ℕ) (value : S) → ¬ (Owns i (registrations_of before.ops.epoll.registrations) fd × HasId (registry_of before) i value)
   not_there id registrations owns none i value h =
-      let same = same_some _ id i (subst (λ (b : RegistrationState). get b.owner fd ≡ Some id) registrations owns) h.0 in
+      let same = same_some _ id i (subst (λ (b : RegistrationState). owner_of b.owners fd ≡ Some id) registrations owns) h.0 in
       taken value (sym (subst (λ j. get before.subscribers j ≡ None) same none) ∙ h.1)
 
 -- with a mark where one of these positions removed the descriptor
 abbrev pub cancelled_by : {V : Type 0} → List (Position V) → List Event → List (Event × Bool)
 cancelled_by positions later = map (λ (e : Event). (e, is_removed e.fd positions)) later
 
-or_false : (b : Bool) → b || false ≡ b
-or_false true = refl
-or_false false = refl
-
-or_assoc : (a b c : Bool) → a || (b || c) ≡ (a || b) || c
-or_assoc true b c = refl
-or_assoc false b c = refl
-
-removed_more : {V : Type 0} (fd : ℕ) (positions : List (Position V)) (d : Position V) → is_removed fd (positions ++ d ∷ []) ≡ is_removed fd positions || removes fd (exchanges_of d.outcome)
-removed_more fd [] d = or_false (removes fd (exchanges_of d.outcome))
-removed_more fd (x ∷ positions) d = ap (λ b. removes fd (exchanges_of x.outcome) || b) (removed_more fd positions d) ∙ or_assoc (removes fd (exchanges_of x.outcome)) (is_removed fd positions) (removes fd (exchanges_of d.outcome))
+pub is_removed-push : {V : Type 0} (fd : ℕ) (positions : List (Position V)) (d : Position V) → is_removed fd (positions ++ d ∷ []) ≡ is_removed fd positions || removes fd (exchanges_of d.outcome)
+is_removed-push {V} fd positions d =
+    list_any-append (λ (p : Position V). removes fd (exchanges_of p.outcome)) positions (d ∷ []) ∙ ap (λ b. is_removed fd positions || b) (or_false (removes fd (exchanges_of d.outcome)))
 
 marked_more : {V : Type 0} (positions : List (Position V)) (d : Position V) (later : List Event) → marked (exchanges_of d.outcome) (cancelled_by positions later) ≡ cancelled_by (positions ++ d ∷ []) later
 marked_more positions d [] = refl
-marked_more positions d (e ∷ later) = ap (λ b. (e, b) ∷ marked (exchanges_of d.outcome) (cancelled_by positions later)) (sym (removed_more e.fd positions d)) ∙ ap (λ r. (e, is_removed e.fd (positions ++ d ∷ [])) ∷ r) (marked_more positions d later)
+marked_more positions d (e ∷ later) = ap (λ b. (e, b) ∷ marked (exchanges_of d.outcome) (cancelled_by positions later)) (sym (is_removed-push e.fd positions d)) ∙ ap (λ r. (e, is_removed e.fd (positions ++ d ∷ [])) ∷ r) (marked_more positions d later)
 
 cancelled_more : {V : Type 0} (positions : List (Position V)) (d : Position V) (later : List Event) → cancel_removed (exchanges_of d.outcome) (cancelled_by positions later) ≡ cancelled_by (positions ++ d ∷ []) later
 cancelled_more positions d later = cancel_removed_marks (exchanges_of d.outcome) (cancelled_by positions later) ∙ marked_more positions d later
@@ -119,16 +121,21 @@ not_cancelled_marks positions [] = refl
 not_cancelled_marks positions (e ∷ later) = not_cancelled_one e (is_removed e.fd positions) (cancelled_by positions later) (still_pending positions later) (not_cancelled_marks positions later)
 
 calls_more : {V : Type 0} (positions : List (Position V)) (d : Position V) → calls_of_positions (positions ++ d ∷ []) ≡ calls_of_positions positions ++ calls_of_outcome d.outcome
-calls_more [] d = append-nil (calls_of_outcome d.outcome)
-calls_more (x ∷ positions) d = ap (λ xs. calls_of_outcome x.outcome ++ xs) (calls_more positions d) ∙ sym (append_assoc (calls_of_outcome x.outcome) (calls_of_positions positions) (calls_of_outcome d.outcome))
+calls_more {V} positions d =
+    flat_map-append (λ (p : Position V). calls_of_outcome p.outcome) positions (d ∷ []) ∙ ap (λ xs. calls_of_positions positions ++ xs) (append-nil (calls_of_outcome d.outcome))
 
 events_more : {V : Type 0} (positions : List (Position V)) (d : Position V) (later : List Event) → events_of (positions ++ d ∷ []) ++ later ≡ events_of positions ++ d.event ∷ later
 events_more [] d later = refl
 events_more (x ∷ positions) d later = ap (λ xs. x.event ∷ xs) (events_more positions d later)
 
 reported_more : {V : Type 0} (fd : ℕ) (positions : List (Position V)) (d : Position V) → is_reported fd (events_of (positions ++ d ∷ [])) ≡ is_reported fd (events_of positions) || (d.event.fd == fd)
-reported_more fd [] d = or_false (d.event.fd == fd)
-reported_more fd (x ∷ positions) d = ap (λ b. (x.event.fd == fd) || b) (reported_more fd positions d) ∙ or_assoc (x.event.fd == fd) (is_reported fd (events_of positions)) (d.event.fd == fd)
+reported_more {V} fd positions d =
+    ap (is_reported fd) (map-append (λ (p : Position V). p.event) positions (d ∷ [])) ∙ list_any-append (λ (e : Event). e.fd == fd) (events_of positions) (d.event ∷ [])
+    ∙ ap (λ b. is_reported fd (events_of positions) || b) (or_false (d.event.fd == fd))
+
+-- an order of dispatch reports what the report does
+reported_in_order : (registrations : Registrations) (fd : ℕ) (report ordered : List Event) → IsDispatchOrder registrations report ordered → is_reported fd ordered ≡ is_reported fd report
+reported_in_order registrations fd report ordered h = sym (list_any-IsPermutation (λ (e : Event). e.fd == fd) report ordered (ordered_permutation (λ q. class_of registrations q) report ordered h))
 
 no_events : {V : Type 0} (positions : List (Position V)) (later : List Event) → cancelled_by positions later ≡ [] → later ≡ []
 no_events positions [] e = refl
@@ -250,7 +257,7 @@ module _ {S P : Type 0} (serves : S → Event → Exchanges → S → Type 0) (c
         answer = ap Ok (ok_same result n (length report) is counted);
         noticed =
             dispatched.noticed ∙ ap (λ l. is_reported registrations.endpoint l) ready ∙ ap (λ (b : RegistrationState). is_reported b.endpoint ordered) after_wait
-            ∙ reported_in_order (λ fd. class_of (registrations_of start.ops.epoll.registrations) fd) start.ops.epoll.registrations.endpoint report ordered order;
+            ∙ reported_in_order (registrations_of start.ops.epoll.registrations) start.ops.epoll.registrations.endpoint report ordered order;
         dispatched = (subst (λ es. IsDispatchOrder (registrations_of start.ops.epoll.registrations) report es) (sym (dispatched.events ∙ ready)) order, onto);
         led = leads_join controls waits start.ops.epoll.poller poller after.ops.epoll.poller (Wait ms start.ops.epoll.registrations.capacity (Ok report) ∷ []) (calls_of_positions dispatched.positions) led dispatched.led;
         same_capacity = dispatched.same_capacity ∙ ap (λ (b : RegistrationState). b.capacity) after_wait;

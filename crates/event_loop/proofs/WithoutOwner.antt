@@ -1,7 +1,12 @@
 -- What a map answers that is left without the descriptors of one id.
-use Rattle.std.proofs.Common.{◌≡◌, ℕ, cond, not, None, sym, ap, nat_cmp}
-use Rattle.std.specs.FinMap.{FinMap, get, get-retain_keys, nat_cmp-IsAntisymmetric}
+use Rattle.std.proofs.Common.{◌≡◌, ℕ, cond, not, None, sym, ap, ◌∙◌}
+use Rattle.std.specs.FinMap.{get, get-retain_keys, nat_cmp-IsAntisymmetric}
+use Rattle.dispatch_tables.specs.Ownership.{OwnerMap, owner_id, owner_of}
+use Rattle.dispatch_tables.proofs.Owning.{owner_id-cond}
 use Rattle.event_loop.specs.Registry.{is_id, without_owner}
 
-pub get-without_owner : (i : ℕ) (owner entries : FinMap nat_cmp ℕ) (fd : ℕ) → get (without_owner i owner entries) fd ≡ cond (not (is_id i (get owner fd))) (get entries fd) None
-get-without_owner i owner entries fd = get-retain_keys entries _ fd (λ x e. ap (λ y. not (is_id i (get owner y))) (sym (nat_cmp-IsAntisymmetric fd x e)))
+pub get-without_owner : (i : ℕ) (owners : OwnerMap) (fd : ℕ) → get (without_owner i owners) fd ≡ cond (not (is_id i (owner_of owners fd))) (get owners fd) None
+get-without_owner i owners fd = get-retain_keys owners _ fd (λ x e. ap (λ y. not (is_id i (owner_of owners y))) (sym (nat_cmp-IsAntisymmetric fd x e)))
+
+pub owner_of-without_owner : (i : ℕ) (owners : OwnerMap) (fd : ℕ) → owner_of (without_owner i owners) fd ≡ cond (not (is_id i (owner_of owners fd))) (owner_of owners fd) None
+owner_of-without_owner i owners fd = ap owner_id (get-without_owner i owners fd) ∙ owner_id-cond (not (is_id i (owner_of owners fd))) (get owners fd) None

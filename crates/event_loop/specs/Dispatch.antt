@@ -1,5 +1,6 @@
 -- Who gets which event of a batch.
-use Rattle.std.specs.Prelude.{◌≡◌, ℕ, Bool, false, not, ◌||◌, List, [], ◌∷◌, ◌++◌, map, filter}
+use Rattle.std.specs.Prelude.{◌≡◌, ℕ, Bool, false, not, List, [], ◌∷◌, ◌++◌, map, filter}
+use Rattle.std.specs.List.{list_any}
 use Rattle.std.specs.FinMap as finite
 use Rattle.dispatch_tables.specs.Event.{Event}
 use Rattle.event_loop.specs.Registrations.{Registrations, Owns}
@@ -24,8 +25,7 @@ exchanges_of (To id exchanges calls after) = exchanges
 
 -- whether the exchanges of one of these positions hold an agreed Remove of the descriptor
 abbrev pub is_removed : {V : Type 0} → ℕ → List (Position V) → Bool
-is_removed fd [] = false
-is_removed fd (position ∷ positions) = removes fd (exchanges_of position.outcome) || is_removed fd positions
+is_removed fd positions = list_any (λ position. removes fd (exchanges_of position.outcome)) positions
 
 -- the later events whose descriptor no exchange of the earlier positions removed
 abbrev pub still_pending : {V : Type 0} → List (Position V) → List Event → List Event

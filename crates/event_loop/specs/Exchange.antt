@@ -1,10 +1,12 @@
 -- Requests of a subscriber, their answers, and what they do to the registrations.
-use Rattle.std.specs.Prelude.{◌≡◌, ℕ, ◌==◌, ℤ, Bool, false, ◌||◌, List, [], ◌∷◌, ◌++◌, map, ◌⊎◌, Result, Ok, Err, pos}
+use Rattle.std.specs.Prelude.{◌≡◌, ℕ, ◌==◌, ℤ, Bool, false, List, [], ◌∷◌, ◌++◌, map, ◌⊎◌, Result, Ok, Err, pos}
+use Rattle.std.specs.List.{list_any}
 use Rattle.std.specs.FinMap as finite
 use Rattle.dispatch_tables.specs.Event.{Event}
 use Rattle.event_loop.specs.PollerCall.{PollerCall, Control}
 use Rattle.event_loop.specs.Registrations.{Registrations, Owns, IsFree, not_on}
-use Rattle.dispatch_tables.specs.Priority.{number_of}
+use Rattle.dispatch_tables.specs.declared.priority.Priority.{Priority}
+use Rattle.dispatch_tables.specs.declared.priority.Priority.TheVariants.{Lowest}
 use Rattle.vmm_sys.specs.declared.errno.Errno.{Errno}
 use Rattle.vmm_sys.specs.declared.epoll.ControlOperation.{ControlOperation}
 use Rattle.vmm_sys.specs.declared.epoll.ControlOperation.TheVariants as operation
@@ -67,16 +69,16 @@ ReachesPoller i registrations (AddWithPriority e priority) = IsFree registration
 ReachesPoller i registrations (Modify e) = Owns i registrations e.fd
 ReachesPoller i registrations (Remove e) = Owns i registrations e.fd
 
--- with the descriptor of an event owned by id i, at the priority of this number
-abbrev pub entered : ℕ → Event → ℕ → Registrations → Registrations
-entered i e number registrations = record registrations { owner = finite.insert registrations.owner e.fd i; priority = finite.insert registrations.priority e.fd number }
+-- with the descriptor of an event owned by id i, at this priority
+abbrev pub entered : ℕ → Event → Priority → Registrations → Registrations
+entered i e priority registrations = record registrations { owners = finite.insert registrations.owners e.fd (record { id = i; priority = priority }) }
 
 -- the registrations once the poller agreed: an addition without a priority is one at the lowest
 abbrev pub registrations_after : ℕ → Request → Registrations → Registrations
-registrations_after i (Add e) registrations = entered i e 0 registrations
-registrations_after i (AddWithPriority e priority) registrations = entered i e (number_of priority) registrations
+registrations_after i (Add e) registrations = entered i e Lowest registrations
+registrations_after i (AddWithPriority e priority) registrations = entered i e priority registrations
 registrations_after i (Modify e) registrations = registrations
-registrations_after i (Remove e) registrations = record registrations { owner = finite.remove registrations.owner e.fd; priority = finite.remove registrations.priority e.fd; pending = not_on e.fd registrations.pending }
+registrations_after i (Remove e) registrations = record registrations { owners = finite.remove registrations.owners e.fd; pending = not_on e.fd registrations.pending }
 
 -- From these registrations, id i may get this answer to the request after these poller calls, and leave the registrations after.
 pub data Fits (i : ℕ) (registrations : Registrations) (request : Request) (answer : Answer) (calls : List PollerCall) (after : Registrations) : Type 0 where
@@ -133,5 +135,4 @@ is_removal fd (AddWithPriority e priority) answer = false
 is_removal fd (Modify e) answer = false
 
 abbrev pub removes : ℕ → Exchanges → Bool
-removes fd [] = false
-removes fd (exchange ∷ exchanges) = is_removal fd exchange.0 exchange.1 || removes fd exchanges
+removes fd exchanges = list_any (λ exchange. is_removal fd exchange.0 exchange.1) exchanges

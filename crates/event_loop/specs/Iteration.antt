@@ -1,5 +1,6 @@
 -- One wait, the batch that it reports, and the jobs after it.
-use Rattle.std.specs.Prelude.{◌≡◌, ◌≢◌, ◌==◌, ◌||◌, Bool, false, ℕ, ◌+◌, ℤ, pos, List, [], ◌∷◌, ◌++◌, length, All, Result, Ok, Err, if◌then◌else◌}
+use Rattle.std.specs.Prelude.{◌≡◌, ◌≢◌, ◌==◌, Bool, ℕ, ◌+◌, ℤ, pos, List, [], ◌∷◌, ◌++◌, length, All, Result, Ok, Err, if◌then◌else◌}
+use Rattle.std.specs.List.{list_any, flat_map}
 use Rattle.std.specs.Ordering.{int_eq}
 use Rattle.dispatch_tables.specs.Event.{Event}
 use Rattle.event_loop.specs.PollerCall.{PollerCall, Wait}
@@ -36,8 +37,7 @@ answer_of (Err errno) = if int_eq errno.0 (pos 4) then Ok 0 else Err (Epoll errn
 
 -- whether an event of the report is on this descriptor
 abbrev pub is_reported : ℕ → List Event → Bool
-is_reported fd [] = false
-is_reported fd (e ∷ report) = (e.fd == fd) || is_reported fd report
+is_reported fd report = list_any (λ e. e.fd == fd) report
 
 module _ {V : Type 0} (begins : V → Exchanges → V → Type 0) where
   -- the steps, one after another
@@ -64,20 +64,17 @@ module _ {V J R : Type 0} (begins : V → Exchanges → V → Type 0) (serves : 
   IsIteration before iteration after = IsAfterWait before iteration.waited iteration.positions iteration.jobs after
 
 abbrev pub calls_of_steps : {V : Type 0} → List (Step V) → List PollerCall
-calls_of_steps [] = []
-calls_of_steps (step ∷ steps) = calls_of step ++ calls_of_steps steps
+calls_of_steps steps = flat_map calls_of steps
 
 abbrev pub calls_of_outcome : {V : Type 0} → Outcome V → List PollerCall
 calls_of_outcome Nobody = []
 calls_of_outcome (To id exchanges calls after) = calls
 
 abbrev pub calls_of_positions : {V : Type 0} → List (Position V) → List PollerCall
-calls_of_positions [] = []
-calls_of_positions (position ∷ positions) = calls_of_outcome position.outcome ++ calls_of_positions positions
+calls_of_positions positions = flat_map (λ position. calls_of_outcome position.outcome) positions
 
 abbrev pub calls_of_jobs : {V J R : Type 0} → List (JobRun V J R) → List PollerCall
-calls_of_jobs [] = []
-calls_of_jobs (job_run ∷ jobs) = calls_of_steps job_run.steps ++ calls_of_jobs jobs
+calls_of_jobs jobs = flat_map (λ job_run. calls_of_steps job_run.steps) jobs
 
 -- the poller calls of an iteration, by the manager's capacity
 abbrev pub calls_of_iteration : {V J R : Type 0} → ℕ → Iteration V J R → List PollerCall

@@ -1,5 +1,6 @@
 pub use Rattle.dispatch_tables.specs.Event
 pub use Rattle.dispatch_tables.specs.Priority
+pub use Rattle.dispatch_tables.specs.Ownership
 pub use Rattle.dispatch_tables.specs.ClassOrder
 pub use Rattle.dispatch_tables.specs.Owners
 pub use Rattle.dispatch_tables.specs.Places

@@ -8,7 +8,7 @@ use Rattle.event_loop.specs.declared.events.Request.{Request}
 use Rattle.dispatch_tables.specs.Event.{Event}
 use Rattle.event_loop.specs.PollerCall.{PollerCall, Controls, Waits, Leads}
 use Rattle.event_loop.specs.Exchange.{Exchanges, Answer}
-use Rattle.event_loop.specs.Registry.{Registry, Step, Steps, Joined, NotJoined, Left, NotLeft, Requested, NotRequested, calls_of}
+use Rattle.event_loop.specs.Registry.{Registry, Step, Steps, Joined, NotJoined, Left, NotLeft, Requested, NotRequested, calls_of, new_registry}
 use Rattle.event_loop.specs.Dispatch.{Position, IsDispatch}
 use Rattle.event_loop.specs.Iteration.{ManagerState, Iteration, AllSteps, IsIteration, calls_of_steps, calls_of_iteration, answer_of}
 
@@ -22,7 +22,7 @@ pub record LoopState (S P : Type 0) : Type 0 where
 -- a new one
 abbrev pub new_loop : {S P : Type 0} → ℕ → P → ℕ → LoopState S P
 new_loop endpoint poller capacity = record {
-  registry = record { values = map.empty; next = 1; registrations = record { owner = map.empty; priority = map.empty; endpoint = endpoint; pending = [] } };
+  registry = new_registry endpoint;
   taken = 0;
   poller = poller;
   capacity = capacity;

@@ -1,11 +1,11 @@
 -- The ready list: the part of the buffer that is still to come.
 use Rattle.std.specs.Prelude.{ℕ, ◌^◌, ℤ, Bool, List, take, drop, map, ◌<◌, IsSome, Result, Ok, Err}
 use Rattle.vmm_sys.specs.declared.errno.Errno.{Errno}
-use Rattle.std.specs.Ordering.{nat_cmp}
 use Rattle.std.specs.FinMap as finite
 use Rattle.vmm_sys.specs.declared.epoll.EpollEvent.{EpollEvent}
 use Rattle.vmm_sys.specs.EpollEvent.{fd_of}
 use Rattle.dispatch_tables.specs.Event.{Event, event_of_entry}
+use Rattle.dispatch_tables.specs.Ownership.{OwnerMap}
 use Rattle.dispatch_tables.specs.Cancelled.{is_among}
 
 -- whether the entry's descriptor stands in the list
@@ -17,8 +17,8 @@ abbrev pub ready_of : List EpollEvent → List ℤ → ℕ → ℕ → List (Eve
 ready_of buffer cancelled i n = map (λ e. (event_of_entry e, is_cancelled cancelled e)) (drop i (take n buffer))
 
 -- each descriptor is one from 0 up, as `i32` reads it
-abbrev pub AreDescriptors : finite.FinMap nat_cmp ℕ → Type 0
-AreDescriptors owner = (q : ℕ) → IsSome (finite.get owner q) → q < 2 ^ 31
+abbrev pub AreDescriptors : OwnerMap → Type 0
+AreDescriptors owners = (q : ℕ) → IsSome (finite.get owners q) → q < 2 ^ 31
 
 -- what a wait reported
 abbrev pub report_of : Result ℕ Errno → List EpollEvent → Result (List Event) Errno

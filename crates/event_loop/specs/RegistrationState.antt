@@ -1,10 +1,9 @@
--- What the code keeps: the owners with the priorities, the endpoint's descriptor, the capacity, and the positions of the batch that are still to come, each with a mark where it is cancelled.
-use Rattle.std.specs.Prelude.{◌≡◌, ℕ, ◌==◌, Bool, true, false, ◌||◌, List, [], ◌∷◌, map, refl, Result, Ok, Err, length}
+-- What the code keeps: the owners, the endpoint's descriptor, the capacity, and the positions of the batch that are still to come, each with a mark where it is cancelled.
+use Rattle.std.specs.Prelude.{◌≡◌, ℕ, ◌==◌, Bool, false, not, ◌||◌, List, [], ◌∷◌, map, filter, refl, Result, Ok, Err, length}
 use Rattle.vmm_sys.specs.declared.errno.Errno.{Errno}
-use Rattle.std.specs.FinMap as finite
-use Rattle.std.specs.Ordering.{nat_cmp}
 use Rattle.std.specs.Coded.{Coded, code_by, coded×, coded_ℕ, coded_bool, coded_list}
 use Rattle.dispatch_tables.specs.Event.{Event}
+use Rattle.dispatch_tables.specs.Ownership.{OwnerMap, owner_map_code}
 use Rattle.event_loop.specs.Registrations.{Registrations}
 use Rattle.event_loop.specs.DispatchOrder.{IsDispatchOrder}
 use Rattle.event_loop.specs.Registry.{without_owner}
@@ -12,27 +11,24 @@ use Rattle.event_loop.specs.Exchange.{Exchanges, removes}
 use Rattle.dispatch_tables.specs.Event.{event_code}
 
 pub record RegistrationState : Type 0 where
-  pub owner : finite.FinMap nat_cmp ℕ
-  pub priority : finite.FinMap nat_cmp ℕ
+  pub owners : OwnerMap
   pub endpoint : ℕ
   pub capacity : ℕ
   pub ready : List (Event × Bool)
 
 abbrev pub registration_state_code : Coded RegistrationState
-registration_state_code = code_by (finite.FinMap nat_cmp ℕ × (finite.FinMap nat_cmp ℕ × (ℕ × (ℕ × List (Event × Bool))))) (coded× (finite.code coded_ℕ coded_ℕ) (coded× (finite.code coded_ℕ coded_ℕ) (coded× coded_ℕ (coded× coded_ℕ (coded_list (coded× event_code coded_bool)))))) (λ b. (b.owner, (b.priority, (b.endpoint, (b.capacity, b.ready))))) (λ p. record { owner = p.0; priority = p.1.0; endpoint = p.1.1.0; capacity = p.1.1.1.0; ready = p.1.1.1.1 }) (λ _. refl)
+registration_state_code = code_by (OwnerMap × (ℕ × (ℕ × List (Event × Bool)))) (coded× owner_map_code (coded× coded_ℕ (coded× coded_ℕ (coded_list (coded× event_code coded_bool))))) (λ b. (b.owners, (b.endpoint, (b.capacity, b.ready)))) (λ p. record { owners = p.0; endpoint = p.1.0; capacity = p.1.1.0; ready = p.1.1.1 }) (λ _. refl)
 
 -- the events that aren't cancelled
 abbrev pub not_cancelled : List (Event × Bool) → List Event
-not_cancelled [] = []
-not_cancelled ((e, true) ∷ ready) = not_cancelled ready
-not_cancelled ((e, false) ∷ ready) = e ∷ not_cancelled ready
+not_cancelled ready = map (λ p. p.0) (filter (λ p. not p.1) ready)
 
 abbrev pub registrations_of : RegistrationState → Registrations
-registrations_of s = record { owner = s.owner; priority = s.priority; endpoint = s.endpoint; pending = not_cancelled s.ready }
+registrations_of s = record { owners = s.owners; endpoint = s.endpoint; pending = not_cancelled s.ready }
 
 -- once id i left
 abbrev pub left_in : ℕ → RegistrationState → RegistrationState
-left_in i s = record s { owner = without_owner i s.owner s.owner; priority = without_owner i s.owner s.priority }
+left_in i s = record s { owners = without_owner i s.owners }
 
 -- with a mark at each position on the descriptor
 abbrev pub cancel_on : ℕ → List (Event × Bool) → List (Event × Bool)

@@ -3,6 +3,7 @@ use Rattle.std.specs.Prelude.{◌≡◌, ℕ, ◌+◌, ◌-◌, ◌^◌, ◌<◌
 use Rattle.std.specs.FinMap as map
 use Rattle.std.specs.Ordering.{nat_cmp}
 use Rattle.dispatch_tables.specs.Event.{Event}
+use Rattle.dispatch_tables.specs.Ownership.{OwnerMap, owner_of}
 use Rattle.event_loop.specs.Registrations.{Registrations, Owns}
 use Rattle.event_loop.specs.PollerCall.{PollerCall, Control}
 use Rattle.event_loop.specs.Exchange.{Exchanges, ExchangesFit}
@@ -33,15 +34,12 @@ abbrev pub is_id : ℕ → Option ℕ → Bool
 is_id i None = false
 is_id i (Some j) = j == i
 
--- the entries without those at descriptors of id i; the registrations once id i left
-abbrev pub without_owner : ℕ → map.FinMap nat_cmp ℕ → map.FinMap nat_cmp ℕ → map.FinMap nat_cmp ℕ
-without_owner i owner entries = map.retain_keys entries (λ fd. not (is_id i (map.get owner fd)))
+-- the owners without id i; the registrations once id i left
+abbrev pub without_owner : ℕ → OwnerMap → OwnerMap
+without_owner i owners = map.retain_keys owners (λ fd. not (is_id i (owner_of owners fd)))
 
 abbrev pub left_by : ℕ → Registrations → Registrations
-left_by i registrations = record registrations {
-  owner = without_owner i registrations.owner registrations.owner;
-  priority = without_owner i registrations.owner registrations.priority;
-}
+left_by i registrations = record registrations { owners = without_owner i registrations.owners }
 
 abbrev pub empty_event : Event
 empty_event = record { fd = 0; payload = 0; set = 0 }
@@ -61,6 +59,10 @@ HasId registry i value = map.get registry.values i ≡ Some value
 
 abbrev pub LacksId : {V : Type 0} → Registry V → ℕ → Type 0
 LacksId registry i = map.get registry.values i ≡ None
+
+-- with no subscriber, by the endpoint's descriptor
+abbrev pub new_registry : {V : Type 0} → ℕ → Registry V
+new_registry endpoint = record { values = map.empty; next = 1; registrations = record { owners = map.empty; endpoint = endpoint; pending = [] } }
 
 -- each id that is held is below this one
 abbrev pub AreBelow : {V : Type 0} → ℕ → map.FinMap nat_cmp V → Type 0

@@ -1,21 +1,16 @@
 -- How the descriptors of an id are freed when it leaves.
 use Rattle.std.specs.Prelude.{◌≡◌, ℕ, cond, List, None, nat_lt}
-use Rattle.std.specs.Ordering.{nat_cmp}
 use Rattle.std.specs.FinMap as map
 use Rattle.event_loop.specs.PollerCall.{PollerCall, Controls, Waits, Leads}
 use Rattle.event_loop.specs.Registry.{AreOwnedBy, AreDeletes}
 use Rattle.event_loop.specs.RegistrationState.{registrations_of, left_in}
 use Rattle.dispatch_tables.specs.WatchLists.{times_in}
-use Rattle.dispatch_tables.specs.Owners.{OwnerMaps}
+use Rattle.dispatch_tables.specs.Ownership.{OwnerMap}
 use Rattle.event_loop.specs.declared.epoll.EpollWrapper.{EpollWrapper}
 
--- the map without the keys in the list
-abbrev pub IsWithout : List ℕ → map.FinMap nat_cmp ℕ → map.FinMap nat_cmp ℕ → Type 0
-IsWithout fds before after = (q : ℕ) → map.get after q ≡ cond (nat_lt 0 (times_in fds q)) None (map.get before q)
-
--- no descriptor in the list has an owner any more
-abbrev pub AreWithout : List ℕ → OwnerMaps → OwnerMaps → Type 0
-AreWithout fds before after = IsWithout fds before.owner after.owner × IsWithout fds before.priority after.priority
+-- no descriptor in the list has an owner any more, and the others have the same
+abbrev pub AreWithout : List ℕ → OwnerMap → OwnerMap → Type 0
+AreWithout fds before after = (q : ℕ) → map.get after q ≡ cond (nat_lt 0 (times_in fds q)) None (map.get before q)
 
 module _ {P : Type 0} (controls : Controls P) (waits : Waits P) where
   -- the descriptors of id i are free, after one Delete for each, whatever it answered; all else is as before

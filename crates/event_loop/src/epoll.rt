@@ -6,9 +6,8 @@ ghost use Rattle.dispatch_tables.specs.Event.{Event, event_of_entry};
 ghost use Rattle.event_loop.specs.PollerCall.{Control, Wait, Leads};
 ghost use Rattle.event_loop.specs.Registrations.{Owns, IsFree};
 ghost use Rattle.event_loop.specs.Registry.{AreOwnedBy};
-ghost use Rattle.dispatch_tables.specs.Priority.{number_of};
 ghost use Rattle.event_loop.specs.Exchange.{IsVacant};
-ghost use Rattle.dispatch_tables.specs.Owners.{owner_id, with_none_at, AreCounted};
+ghost use Rattle.dispatch_tables.specs.Owners.{ownership_of, IsOwnerAt, AreCounted};
 ghost use Rattle.event_loop.specs.RegistrationState.{registrations_of, cancel_on, left_in, HasWaited};
 ghost use Rattle.event_loop.specs.Releasing.{AreWithout, HasReleased};
 ghost use Rattle.vmm_sys.specs.declared.errno.Errno.{Errno};
@@ -29,7 +28,7 @@ use vmm_sys::errno::Errno;
 /// Takes out the owner of one descriptor, if it has one, and counts the owned and the raised ones.
 fn disown(owners: &mut Owners, owned: &mut usize, raised: &mut usize, fd: u32)
     requires { AreCounted owners.old owned.old raised.old }
-    ensures disowned { owners.new ≡ with_none_at fd owners.old }
+    ensures disowned { owners.new ≡ map.remove owners.old fd }
     ensures counted { AreCounted owners.new owned.new raised.new }
     ensures fewer { owned.new ≤ owned.old }
 {
@@ -90,8 +89,7 @@ impl Model for Registrations {
     ghost coded = { registration_state_code };
 
     ghost view = { λ b. record {
-      owner = b.owners.owner;
-      priority = b.owners.priority;
+      owners = b.owners;
       endpoint = b.endpoint;
       capacity = vec_len b.buffer;
       ready = ready_of b.buffer.items b.cancelled.items b.at b.count;
@@ -107,7 +105,7 @@ impl Registrations {
         endpoint: u32,
         capacity: usize,
     ) -> std::result::Result<Self, AllocError>
-        ensures { IfOk result (λ r. r ≡ record { owner = map.empty; priority = map.empty; endpoint = endpoint; capacity = capacity; ready = [] }) }
+        ensures { IfOk result (λ r. r ≡ record { owners = map.empty; endpoint = endpoint; capacity = capacity; ready = [] }) }
     {
         let buffer = vec![in alloc; EpollEvent::new(EventSet::empty(), 0); capacity]?;
         let classed = Vec::with_capacity(alloc, capacity)?;
@@ -127,8 +125,7 @@ impl Registrations {
 
     /// Whether the descriptor may be added, as far as the registrations say.
     pub(crate) fn check_vacant(&self, events: Events) -> Result<()>
-        ensures vacant { IsVacant (registrations_of self.now) events result }
-        ensures no_priority { OnOk result (map.get self.now.priority events.fd ≡ None) }
+        ensures { IsVacant (registrations_of self.now) events result }
     {
         let fd = events.number();
         if self.owners.get(fd).is_some() {
@@ -153,9 +150,8 @@ impl Registrations {
     /// Enters the owner of the descriptor, and the descriptor in the watch list of the owner's id; makes the room that a
     /// removal needs. Where memory is refused, all stays as it was.
     pub(crate) fn register(&mut self, events: Events, owner: Owner) -> Result<()>
-        requires free { IsFree (registrations_of self.old) events.fd }
-        requires no_priority { map.get self.old.priority events.fd ≡ None }
-        ensures ok { OnOk result (self.new ≡ record self.old { owner = map.insert self.old.owner events.fd owner.id; priority = map.insert self.old.priority events.fd (number_of owner.priority) }) }
+        requires { IsFree (registrations_of self.old) events.fd }
+        ensures ok { OnOk result (self.new ≡ record self.old { owners = map.insert self.old.owners events.fd (ownership_of owner) }) }
         ensures err { IfErr result (λ e. (e ≡ Error.OutOfMemory) × (self.new ≡ self.old)) }
     {
         let fd = events.number();
@@ -179,7 +175,7 @@ impl Registrations {
     /// Frees a descriptor of the id's. Takes no memory.
     pub(crate) fn unregister(&mut self, events: Events, id: u64)
         requires { Owns id (registrations_of self.old) events.fd }
-        ensures { self.new ≡ record self.old { owner = map.remove self.old.owner events.fd; priority = map.remove self.old.priority events.fd } }
+        ensures { self.new ≡ record self.old { owners = map.remove self.old.owners events.fd } }
     {
         let fd = events.number();
         self.watched.remove(id, fd);
@@ -190,7 +186,7 @@ impl Registrations {
     /// entered as cancelled. Takes no memory.
     pub(crate) fn remove(&mut self, events: Events, id: u64)
         requires { Owns id (registrations_of self.old) events.fd }
-        ensures { self.new ≡ record self.old { owner = map.remove self.old.owner events.fd; priority = map.remove self.old.priority events.fd; ready = cancel_on events.fd self.old.ready } }
+        ensures { self.new ≡ record self.old { owners = map.remove self.old.owners events.fd; ready = cancel_on events.fd self.old.ready } }
     {
         let fd = events.number();
         self.watched.remove(id, fd);
@@ -235,7 +231,7 @@ impl Registrations {
 
     /// The owner of the descriptor of an entry.
     pub(crate) fn owner(&self, entry: &EpollEvent) -> Option<Owner>
-        ensures value { owner_id result ≡ map.get self.now.owner (event_of_entry entry.now).fd }
+        ensures value { IsOwnerAt self.now.owners (event_of_entry entry.now).fd result }
         ensures is_descriptor { IfSome result (λ _. (event_of_entry entry.now).fd < 2 ^ 31) }
     {
         self.owners.get(fd_of(entry))

@@ -10,7 +10,8 @@ use Rattle.event_loop.specs.LoopState.{LoopState, HasStepped, IsJoin, IsLeave, I
 use Rattle.event_loop.specs.declared.error.Error.{Error}
 use Rattle.event_loop.specs.declared.error.Error.TheVariants.{InvalidId}
 use Rattle.event_manager.specs.Trace.{Effect, Stepped, Iterated, Entry, Matches, HasEffect, IsTrace, calls_of_effect, calls_of_trace}
-use Rattle.event_manager.specs.Driven.{IsAsk, IsReplacement, HasCalled, IsTraceOf, IsDriven}
+use Rattle.event_manager.specs.SingleCall.{IsAsk, IsReplacement, HasCalled}
+use Rattle.event_manager.specs.Driven.{IsTraceOf, IsDriven}
 use Rattle.event_manager.specs.Guarantees.{RemovedStayUnknown}
 use Rattle.event_manager.specs.declared.calls.Call.{Call}
 use Rattle.event_manager.specs.declared.calls.Call.TheVariants as call

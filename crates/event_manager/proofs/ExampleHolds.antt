@@ -2,6 +2,8 @@
 use Rattle.std.proofs.Common.{◌≡◌, ℕ, true≢false, refl, ap, [], ◌∷◌, Some, None, Ok, lit<, arith, nat_cmp, ◌==◌}
 use Rattle.std.specs.FinMap.{get, insert, remove, empty, get-empty, get-insert, get-remove}
 use Rattle.std.specs.Cmp.{nat_cmp_total}
+use Rattle.dispatch_tables.specs.Ownership.{Ownership, owner_id, owner_of}
+use Rattle.dispatch_tables.specs.declared.priority.Priority.TheVariants.{Lowest}
 use Rattle.event_loop.specs.Registrations.{Registrations}
 use Rattle.event_loop.specs.DispatchOrder.{class_of}
 use Rattle.dispatch_tables.proofs.DispatchOrders.{ordered_already}
@@ -14,20 +16,27 @@ use Rattle.event_manager.specs.Example.{three, joins, iterates, any_begins, any_
 not_end : ¬ (◌≡◌ {A = ℕ} 3 9)
 not_end e = true≢false (ap (λ x. 3 == x) e)
 
+-- the id of the subscriber that joined, at the lowest priority
+abbrev first : Ownership
+first = record { id = 1; priority = Lowest }
+
 -- the registrations after a join, and after the exchanges
+abbrev first_added : Registrations
+first_added = record { owners = insert empty 3 first; endpoint = 9; pending = [] }
+
 abbrev joined : ManagerState ℕ
 joined = record {
-  registry = record { values = insert empty 1 0; next = 2; registrations = record { owner = insert empty 3 1; priority = insert empty 3 0; endpoint = 9; pending = [] } };
+  registry = record { values = insert empty 1 0; next = 2; registrations = first_added };
   taken = 0;
 }
 
 pub example_joins : HasEffect any_begins any_serves any_may (new_state 9) joins joined
 example_joins = (
   (
-    record { owner = insert empty 3 1; priority = insert empty 3 0; endpoint = 9; pending = [] },
+    first_added,
     lit< tt,
     refl,
-    (call_for (Add three) (Ok tt) ∷ [], [], record { owner = insert empty 3 1; priority = insert empty 3 0; endpoint = 9; pending = [] }, refl, by_agreement (get-empty nat_cmp 3, not_end) refl refl refl, (refl, refl)),
+    (call_for (Add three) (Ok tt) ∷ [], [], first_added, refl, by_agreement (get-empty nat_cmp 3, not_end) refl refl refl, (refl, refl)),
     tt,
     refl,
   ),
@@ -36,19 +45,19 @@ example_joins = (
 
 -- after the exchanges in the first event
 abbrev removed : Registrations
-removed = record { owner = remove (insert empty 3 1) 3; priority = remove (insert empty 3 0) 3; endpoint = 9; pending = [] }
+removed = record { owners = remove (insert empty 3 first) 3; endpoint = 9; pending = [] }
 
 abbrev added : Registrations
-added = record { owner = insert (remove (insert empty 3 1) 3) 3 1; priority = insert (remove (insert empty 3 0) 3) 3 0; endpoint = 9; pending = [] }
+added = record { owners = insert (remove (insert empty 3 first) 3) 3 first; endpoint = 9; pending = [] }
 
 abbrev iterated : ManagerState ℕ
 iterated = record { registry = record { values = insert (insert empty 1 0) 1 1; next = 2; registrations = added }; taken = 0 }
 
-held : get joined.registry.registrations.owner 3 ≡ Some 1
-held = get-insert nat_cmp_total empty 3 1 3
+held : owner_of joined.registry.registrations.owners 3 ≡ Some 1
+held = ap owner_id (get-insert nat_cmp_total empty 3 first 3)
 
-three_is_free : get removed.owner 3 ≡ None
-three_is_free = get-remove nat_cmp_total joined.registry.registrations.owner 3 3
+three_is_free : get removed.owners 3 ≡ None
+three_is_free = get-remove nat_cmp_total joined.registry.registrations.owners 3 3
 
 pub example_iterations : HasEffect any_begins any_serves any_may joined iterates iterated
 example_iterations = (

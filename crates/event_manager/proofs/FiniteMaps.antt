@@ -3,96 +3,100 @@ use Rattle.std.proofs.Common.{◌≡◌, ◌≢◌, ℕ, ◌==◌, cond, Bool, t
 use Rattle.std.specs.Ordering.{eq_by_cmp}
 use Rattle.std.specs.FinMap.{FinMap, get, insert, remove, same_map, get-insert, get-remove, get-retain_keys, nat_cmp-IsAntisymmetric}
 use Rattle.std.specs.Cmp.{nat_cmp_total}
+use Rattle.dispatch_tables.specs.Ownership.{Ownership, OwnerMap, owner_id, owner_of}
 use Rattle.dispatch_tables.proofs.NumberTests.{nat_tied}
+use Rattle.dispatch_tables.proofs.Owning.{owner_id-cond}
 use Rattle.event_loop.specs.Registry.{is_id, without_owner}
 use Rattle.event_loop.proofs.WithoutOwner.{get-without_owner}
 use Rattle.event_manager.specs.Projection.{owned_by, only_values}
 
+-- an ownership, if it is id i's; if it isn't id j's
+abbrev if_own : ℕ → Option Ownership → Option Ownership
+if_own i o = cond (is_id i (owner_id o)) o None
+
+abbrev unless_own : ℕ → Option Ownership → Option Ownership
+unless_own j o = cond (not (is_id j (owner_id o))) o None
+
+if_own-cond : (i : ℕ) (b : Bool) (o p : Option Ownership) → if_own i (cond b o p) ≡ cond b (if_own i o) (if_own i p)
+if_own-cond i true o p = refl
+if_own-cond i false o p = refl
+
+if_own-other : (i j : ℕ) (o : Option Ownership) → j ≢ i → owner_id o ≡ Some j → if_own i o ≡ None
+if_own-other i j o differ is = ap (λ p. cond (is_id i p) o None) is ∙ ap (λ t. cond t o None) (ne_eqb j i differ)
+
+none_already : (b : Bool) (o : Option Ownership) → (b ≡ true → o ≡ None) → cond b None o ≡ o
+none_already true o none = sym (none refl)
+none_already false o none = refl
+
 -- what a map of one id's descriptors answers
-pub get-owned_by : (i : ℕ) (owner entries : FinMap nat_cmp ℕ) (fd : ℕ) → get (owned_by i owner entries) fd ≡ cond (is_id i (get owner fd)) (get entries fd) None
-get-owned_by i owner entries fd = get-retain_keys entries _ fd (λ x e. ap (λ y. is_id i (get owner y)) (sym (nat_cmp-IsAntisymmetric fd x e)))
+pub get-owned_by : (i : ℕ) (owners : OwnerMap) (fd : ℕ) → get (owned_by i owners) fd ≡ if_own i (get owners fd)
+get-owned_by i owners fd = get-retain_keys owners _ fd (λ x e. ap (λ y. is_id i (owner_of owners y)) (sym (nat_cmp-IsAntisymmetric fd x e)))
+
+pub owner_of-owned_by : (i : ℕ) (owners : OwnerMap) (fd : ℕ) → owner_of (owned_by i owners) fd ≡ cond (is_id i (owner_of owners fd)) (owner_of owners fd) None
+owner_of-owned_by i owners fd = ap owner_id (get-owned_by i owners fd) ∙ owner_id-cond (is_id i (owner_of owners fd)) (get owners fd) None
 
 pub get_only : {V : Type 0} (i : ℕ) (values : FinMap nat_cmp V) (j : ℕ) → get (only_values i values) j ≡ cond (j == i) (get values j) None
 get_only i values j = get-retain_keys values _ j (λ x e. ap (λ y. y == i) (sym (nat_cmp-IsAntisymmetric j x e)))
 
--- adding one's own descriptor
-own_answer : (i x : ℕ) (o p : Option ℕ) (b : Bool) → cond (is_id i (cond b (Some i) o)) (cond b (Some x) p) None ≡ cond b (Some x) (cond (is_id i o) p None)
-own_answer i x o p true = ap (λ t. cond t (Some x) None) (eq-eqb i i refl)
-own_answer i x o p false = refl
+module _ (i : ℕ) (owners : OwnerMap) where
+  inserted : (fd : ℕ) (one : Ownership) (shown : Option Ownership) → if_own i (Some one) ≡ shown → (q : ℕ) → get (owned_by i (insert owners fd one)) q ≡ cond (eq_by_cmp nat_cmp q fd) shown (if_own i (get owners q))
+  inserted fd one shown is q =
+      get-owned_by i (insert owners fd one) q ∙ ap (if_own i) (get-insert nat_cmp_total owners fd one q) ∙ if_own-cond i (eq_by_cmp nat_cmp q fd) (Some one) (get owners q)
+      ∙ ap (λ o. cond (eq_by_cmp nat_cmp q fd) o (if_own i (get owners q))) is
 
-pub owned_by-insert_own : (i x : ℕ) (owner entries : FinMap nat_cmp ℕ) (fd : ℕ) → owned_by i (insert owner fd i) (insert entries fd x) ≡ insert (owned_by i owner entries) fd x
-owned_by-insert_own i x owner entries fd = same_map nat_cmp_total nat_cmp-IsAntisymmetric _ _ (λ q.
-    get-owned_by i (insert owner fd i) (insert entries fd x) q
-    ∙ (λ k. cond (is_id i (get-insert nat_cmp_total owner fd i q k)) (get-insert nat_cmp_total entries fd x q k) None)
-    ∙ own_answer i x (get owner q) (get entries q) (eq_by_cmp nat_cmp q fd)
-    ∙ sym (get-insert nat_cmp_total (owned_by i owner entries) fd x q ∙ ap (λ o. cond (eq_by_cmp nat_cmp q fd) (Some x) o) (get-owned_by i owner entries q)))
+  removed : (fd q : ℕ) → get (owned_by i (remove owners fd)) q ≡ cond (eq_by_cmp nat_cmp q fd) None (if_own i (get owners q))
+  removed fd q = get-owned_by i (remove owners fd) q ∙ ap (if_own i) (get-remove nat_cmp_total owners fd q) ∙ if_own-cond i (eq_by_cmp nat_cmp q fd) None (get owners q)
 
--- a neighbour adds a free one
-free_answer : (i j x : ℕ) (o p : Option ℕ) (b : Bool) → j ≢ i → (b ≡ true → o ≡ None) → cond (is_id i (cond b (Some j) o)) (cond b (Some x) p) None ≡ cond (is_id i o) p None
-free_answer i j x o p true differ is_free = ap (λ t. cond t (Some x) None) (ne_eqb j i differ) ∙ sym (ap (λ t. cond (is_id i t) p None) (is_free refl))
-free_answer i j x o p false differ is_free = refl
+  -- adding one's own descriptor; a neighbour adds a free one
+  pub owned_by-insert_own : (fd : ℕ) (one : Ownership) → one.id ≡ i → owned_by i (insert owners fd one) ≡ insert (owned_by i owners) fd one
+  owned_by-insert_own fd one own = same_map nat_cmp_total nat_cmp-IsAntisymmetric _ _ (λ q.
+      inserted fd one (Some one) (ap (λ t. cond t (Some one) None) (eq-eqb one.id i own)) q
+      ∙ sym (get-insert nat_cmp_total (owned_by i owners) fd one q ∙ ap (λ o. cond (eq_by_cmp nat_cmp q fd) (Some one) o) (get-owned_by i owners q)))
 
-pub owned_by-insert_other : (i j x : ℕ) (owner entries : FinMap nat_cmp ℕ) (fd : ℕ) → j ≢ i → get owner fd ≡ None → owned_by i (insert owner fd j) (insert entries fd x) ≡ owned_by i owner entries
-owned_by-insert_other i j x owner entries fd differ is_free = same_map nat_cmp_total nat_cmp-IsAntisymmetric _ _ (λ q.
-    get-owned_by i (insert owner fd j) (insert entries fd x) q
-    ∙ (λ k. cond (is_id i (get-insert nat_cmp_total owner fd j q k)) (get-insert nat_cmp_total entries fd x q k) None)
-    ∙ free_answer i j x (get owner q) (get entries q) (eq_by_cmp nat_cmp q fd) differ (λ e. ap (get owner) (nat_tied q fd e) ∙ is_free)
-    ∙ sym (get-owned_by i owner entries q))
+  pub owned_by-insert_other : (fd : ℕ) (one : Ownership) → one.id ≢ i → get owners fd ≡ None → owned_by i (insert owners fd one) ≡ owned_by i owners
+  owned_by-insert_other fd one differ is_free = same_map nat_cmp_total nat_cmp-IsAntisymmetric _ _ (λ q.
+      inserted fd one None (if_own-other i one.id (Some one) differ refl) q
+      ∙ none_already (eq_by_cmp nat_cmp q fd) (if_own i (get owners q)) (λ e. ap (if_own i) (ap (get owners) (nat_tied q fd e) ∙ is_free))
+      ∙ sym (get-owned_by i owners q))
 
--- removing one's own descriptor
-gone_answer : (i : ℕ) (o p : Option ℕ) (b : Bool) → cond (is_id i (cond b None o)) (cond b None p) None ≡ cond b None (cond (is_id i o) p None)
-gone_answer i o p true = refl
-gone_answer i o p false = refl
+  -- removing one's own descriptor; a neighbour removes its own
+  pub owned_by-remove : (fd : ℕ) → owned_by i (remove owners fd) ≡ remove (owned_by i owners) fd
+  owned_by-remove fd = same_map nat_cmp_total nat_cmp-IsAntisymmetric _ _ (λ q.
+      removed fd q ∙ sym (get-remove nat_cmp_total (owned_by i owners) fd q ∙ ap (λ o. cond (eq_by_cmp nat_cmp q fd) None o) (get-owned_by i owners q)))
 
-pub owned_by-remove : (i : ℕ) (owner entries : FinMap nat_cmp ℕ) (fd : ℕ) → owned_by i (remove owner fd) (remove entries fd) ≡ remove (owned_by i owner entries) fd
-owned_by-remove i owner entries fd = same_map nat_cmp_total nat_cmp-IsAntisymmetric _ _ (λ q.
-    get-owned_by i (remove owner fd) (remove entries fd) q
-    ∙ (λ k. cond (is_id i (get-remove nat_cmp_total owner fd q k)) (get-remove nat_cmp_total entries fd q k) None)
-    ∙ gone_answer i (get owner q) (get entries q) (eq_by_cmp nat_cmp q fd)
-    ∙ sym (get-remove nat_cmp_total (owned_by i owner entries) fd q ∙ ap (λ o. cond (eq_by_cmp nat_cmp q fd) None o) (get-owned_by i owner entries q)))
+  pub owned_by-remove_other : (fd j : ℕ) → j ≢ i → owner_of owners fd ≡ Some j → owned_by i (remove owners fd) ≡ owned_by i owners
+  owned_by-remove_other fd j differ held = same_map nat_cmp_total nat_cmp-IsAntisymmetric _ _ (λ q.
+      removed fd q
+      ∙ none_already (eq_by_cmp nat_cmp q fd) (if_own i (get owners q)) (λ e. if_own-other i j (get owners q) differ (ap (owner_of owners) (nat_tied q fd e) ∙ held))
+      ∙ sym (get-owned_by i owners q))
 
--- a neighbour removes its own
-other_gone : (i j : ℕ) (o p : Option ℕ) (b : Bool) → j ≢ i → (b ≡ true → o ≡ Some j) → cond (is_id i (cond b None o)) (cond b None p) None ≡ cond (is_id i o) p None
-other_gone i j o p true differ held = sym (ap (λ t. cond (is_id i t) p None) (held refl) ∙ ap (λ t. cond t p None) (ne_eqb j i differ))
-other_gone i j o p false differ held = refl
+  -- all descriptors of an id go: one's own, a neighbour's
+  left_by_test : (one : Ownership) (b : Bool) → (one.id == i) ≡ b → if_own i (cond (not b) (Some one) None) ≡ unless_own i (cond b (Some one) None)
+  left_by_test one true e = sym (ap (λ t. cond (not t) (Some one) None) e)
+  left_by_test one false e = ap (λ t. cond t (Some one) None) e
 
-pub owned_by-remove_other : (i j : ℕ) (owner entries : FinMap nat_cmp ℕ) (fd : ℕ) → j ≢ i → get owner fd ≡ Some j → owned_by i (remove owner fd) (remove entries fd) ≡ owned_by i owner entries
-owned_by-remove_other i j owner entries fd differ held = same_map nat_cmp_total nat_cmp-IsAntisymmetric _ _ (λ q.
-    get-owned_by i (remove owner fd) (remove entries fd) q
-    ∙ (λ k. cond (is_id i (get-remove nat_cmp_total owner fd q k)) (get-remove nat_cmp_total entries fd q k) None)
-    ∙ other_gone i j (get owner q) (get entries q) (eq_by_cmp nat_cmp q fd) differ (λ e. ap (get owner) (nat_tied q fd e) ∙ held)
-    ∙ sym (get-owned_by i owner entries q))
+  left_answer : (o : Option Ownership) → if_own i (unless_own i o) ≡ unless_own i (if_own i o)
+  left_answer None = refl
+  left_answer (Some one) = left_by_test one (one.id == i) refl
 
--- all descriptors of an id go: one's own, a neighbour's
-left_by_test : (i j : ℕ) (p : Option ℕ) (b : Bool) → (j == i) ≡ b → cond (is_id i (cond (not b) (Some j) None)) (cond (not b) p None) None ≡ cond (not (is_id i (cond b (Some j) None))) (cond b p None) None
-left_by_test i j p true e = sym (ap (λ t. cond (not t) p None) e)
-left_by_test i j p false e = ap (λ t. cond t p None) e
+  pub owned_by-without_owner : owned_by i (without_owner i owners) ≡ without_owner i (owned_by i owners)
+  owned_by-without_owner = same_map nat_cmp_total nat_cmp-IsAntisymmetric _ _ (λ q.
+      get-owned_by i (without_owner i owners) q
+      ∙ ap (if_own i) (get-without_owner i owners q)
+      ∙ left_answer (get owners q)
+      ∙ sym (get-without_owner i (owned_by i owners) q ∙ ap (unless_own i) (get-owned_by i owners q)))
 
-left_answer : (i : ℕ) (o p : Option ℕ) → cond (is_id i (cond (not (is_id i o)) o None)) (cond (not (is_id i o)) p None) None ≡ cond (not (is_id i (cond (is_id i o) o None))) (cond (is_id i o) p None) None
-left_answer i None p = refl
-left_answer i (Some j) p = left_by_test i j p (j == i) refl
+  other_by_test : (j : ℕ) (one : Ownership) (b : Bool) → (one.id == j) ≡ b → j ≢ i → if_own i (cond (not b) (Some one) None) ≡ if_own i (Some one)
+  other_by_test j one true e differ = sym (if_own-other i one.id (Some one) (λ s. differ (sym (eqb-true one.id j e) ∙ s)) refl)
+  other_by_test j one false e differ = refl
 
-pub owned_by-without_owner : (i : ℕ) (owner entries : FinMap nat_cmp ℕ) → owned_by i (without_owner i owner owner) (without_owner i owner entries) ≡ without_owner i (owned_by i owner owner) (owned_by i owner entries)
-owned_by-without_owner i owner entries = same_map nat_cmp_total nat_cmp-IsAntisymmetric _ _ (λ q.
-    get-owned_by i (without_owner i owner owner) (without_owner i owner entries) q
-    ∙ (λ k. cond (is_id i (get-without_owner i owner owner q k)) (get-without_owner i owner entries q k) None)
-    ∙ left_answer i (get owner q) (get entries q)
-    ∙ sym (get-without_owner i (owned_by i owner owner) (owned_by i owner entries) q ∙ (λ k. cond (not (is_id i (get-owned_by i owner owner q k))) (get-owned_by i owner entries q k) None)))
+  other_left : (j : ℕ) (o : Option Ownership) → j ≢ i → if_own i (unless_own j o) ≡ if_own i o
+  other_left j None differ = refl
+  other_left j (Some one) differ = other_by_test j one (one.id == j) refl differ
 
-other_by_test : (i j k : ℕ) (p : Option ℕ) (b : Bool) → (k == j) ≡ b → j ≢ i → cond (is_id i (cond (not b) (Some k) None)) (cond (not b) p None) None ≡ cond (k == i) p None
-other_by_test i j k p true e differ = sym (ap (λ t. cond t p None) (ne_eqb k i (λ s. differ (sym (eqb-true k j e) ∙ s))))
-other_by_test i j k p false e differ = refl
-
-other_left : (i j : ℕ) (o p : Option ℕ) → j ≢ i → cond (is_id i (cond (not (is_id j o)) o None)) (cond (not (is_id j o)) p None) None ≡ cond (is_id i o) p None
-other_left i j None p differ = refl
-other_left i j (Some k) p differ = other_by_test i j k p (k == j) refl differ
-
-pub owned_by-disowned_other : (i j : ℕ) (owner entries : FinMap nat_cmp ℕ) → j ≢ i → owned_by i (without_owner j owner owner) (without_owner j owner entries) ≡ owned_by i owner entries
-owned_by-disowned_other i j owner entries differ = same_map nat_cmp_total nat_cmp-IsAntisymmetric _ _ (λ q.
-    get-owned_by i (without_owner j owner owner) (without_owner j owner entries) q
-    ∙ (λ k. cond (is_id i (get-without_owner j owner owner q k)) (get-without_owner j owner entries q k) None)
-    ∙ other_left i j (get owner q) (get entries q) differ
-    ∙ sym (get-owned_by i owner entries q))
+  pub owned_by-disowned_other : (j : ℕ) → j ≢ i → owned_by i (without_owner j owners) ≡ owned_by i owners
+  owned_by-disowned_other j differ = same_map nat_cmp_total nat_cmp-IsAntisymmetric _ _ (λ q.
+      get-owned_by i (without_owner j owners) q ∙ ap (if_own i) (get-without_owner j owners q) ∙ other_left j (get owners q) differ ∙ sym (get-owned_by i owners q))
 
 -- the values
 value_answer : {V : Type 0} (u o : Option V) (b c : Bool) → (b ≡ true → c ≡ true) → cond c (cond b u o) None ≡ cond b u (cond c o None)

@@ -1,22 +1,25 @@
 -- What one id does leaves the others as they were; exchanges join; leaving frees exactly its own.
-use Rattle.std.proofs.Common.{◌≡◌, ◌≢◌, ℕ, ◌==◌, cond, Bool, true, false, not, refl, sym, ◌∙◌, ap, subst, Some, None, Option, inl, inr, nat_cmp, List, [], ◌∷◌, ◌++◌, filter, true≢false, if◌then◌else◌, eq-eqb, eqb-true, ◌↔◌, append_assoc, arith}
+use Rattle.std.proofs.Common.{◌≡◌, ◌≢◌, ℕ, ◌==◌, cond, Bool, true, false, not, refl, sym, ◌∙◌, ap, subst, Some, None, Option, inl, inr, nat_cmp, List, [], ◌∷◌, ◌++◌, filter, true≢false, if◌then◌else◌, eq-eqb, append_assoc, arith}
 use Rattle.std.specs.FinMap.{FinMap, get, insert, remove, get-insert, get-remove}
 use Rattle.std.specs.Ordering.{eq_by_cmp}
 use Rattle.std.specs.Cmp.{nat_cmp_total}
 use Rattle.std.proofs.lemmas.Bool.Decides.{eqb_tells, nat_tests}
 use Rattle.dispatch_tables.specs.Event.{Event}
-use Rattle.event_loop.specs.Registrations.{Registrations, Owns, IsFree, not_on}
-use Rattle.dispatch_tables.specs.Priority.{number_of}
+use Rattle.event_loop.specs.Registrations.{Registrations, IsFree, not_on}
+use Rattle.dispatch_tables.specs.Ownership.{Ownership, OwnerMap, owner_id, owner_of}
+use Rattle.dispatch_tables.specs.declared.priority.Priority.{Priority}
+use Rattle.dispatch_tables.specs.declared.priority.Priority.TheVariants.{Lowest}
 use Rattle.event_loop.specs.PollerCall.{PollerCall}
 use Rattle.event_loop.specs.Exchange.{Answer, Exchanges, Fits, by_manager, by_poller, by_agreement, ExchangesFit, ReachesPoller, entered, registrations_after}
-use Rattle.event_loop.specs.Registry.{Registry, Step, Joined, NotJoined, Left, NotLeft, Replaced, NotReplaced, Requested, NotRequested, Steps, is_id, without_owner, left_by}
+use Rattle.event_loop.specs.Registry.{Registry, Step, Joined, NotJoined, Left, NotLeft, Replaced, NotReplaced, Requested, NotRequested, Steps, is_id, left_by}
 use Rattle.event_loop.specs.Dispatch.{Position, To, IsOutcome, still_pending}
-use Rattle.event_manager.specs.Projection.{names}
+use Rattle.event_manager.specs.Projection.{names, owned_by}
 use Rattle.event_manager.specs.Guarantees.{pending_of, IsUntouched, FreesExactly}
 use Rattle.event_loop.specs.declared.events.Request.{Request}
 use Rattle.event_loop.specs.declared.events.Request.TheVariants.{Add, AddWithPriority, Modify, Remove}
 use Rattle.dispatch_tables.proofs.NumberTests.{fd_tells, nat_tied}
 use Rattle.event_loop.proofs.WithoutOwner.{get-without_owner}
+use Rattle.event_manager.proofs.FiniteMaps.{owner_of-owned_by, owned_by-insert_other, owned_by-remove_other, owned_by-disowned_other}
 
 -- exchanges join
 pub exchanges_join : (i : ℕ) (before mid after : Registrations) (exchanges more : Exchanges) (calls rest : List PollerCall) → ExchangesFit i before exchanges calls mid → ExchangesFit i mid more rest after → ExchangesFit i before (exchanges ++ more) (calls ++ rest) after
@@ -26,30 +29,33 @@ exchanges_join i before mid after (exchange ∷ exchanges) more calls rest (firs
     (first, then_asked ++ rest, next, ap (λ xs. xs ++ rest) joined ∙ append_assoc first then_asked rest, fits, exchanges_join i next mid after exchanges more then_asked rest others k)
 
 -- leaving
-frees_answer : (i : ℕ) (o : Option ℕ) → cond (not (is_id i o)) o None ≡ (if is_id i o then None else o)
+frees_answer : (i : ℕ) (o : Option Ownership) → cond (not (is_id i (owner_id o))) o None ≡ (if is_id i (owner_id o) then None else o)
 frees_answer i None = refl
-frees_answer i (Some j) = elim (j == i) as (λ b. cond (not b) (Some j) None ≡ (if b then None else Some j)) [ true ↦ refl | false ↦ refl ]
+frees_answer i (Some one) = elim (one.id == i) as (λ b. cond (not b) (Some one) None ≡ (if b then None else Some one)) [ true ↦ refl | false ↦ refl ]
 
 pub frees_exactly : (i : ℕ) (registrations : Registrations) → FreesExactly i registrations (left_by i registrations)
-frees_exactly i registrations fd = get-without_owner i registrations.owner registrations.owner fd ∙ frees_answer i (get registrations.owner fd)
+frees_exactly i registrations fd = get-without_owner i registrations.owners fd ∙ frees_answer i (get registrations.owners fd)
 
 -- what j has of the registrations
 pub record IsKept (j : ℕ) (before after : Registrations) : Type 0 where
-  pub same : (fd : ℕ) → is_id j (get after.owner fd) ≡ is_id j (get before.owner fd)
+  pub same : owned_by j after.owners ≡ owned_by j before.owners
   pub same_pending : pending_of j after ≡ pending_of j before
 
-is_own : (j : ℕ) (o p : Option ℕ) → is_id j o ≡ is_id j p → o ≡ Some j → p ≡ Some j
-is_own j o None e h = absurd (true≢false (sym (ap (is_id j) h ∙ eq-eqb j j refl) ∙ e))
-is_own j o (Some k) e h = ap Some (eqb-true k j (sym e ∙ ap (is_id j) h ∙ eq-eqb j j refl))
+own_test : (j : ℕ) (o : Option ℕ) → is_id j (cond (is_id j o) o None) ≡ is_id j o
+own_test j None = refl
+own_test j (Some k) = grind (arith, nat_tests)
 
-pub kept_owns : (j : ℕ) (before after : Registrations) → IsKept j before after → (fd : ℕ) → Owns j after fd ↔ Owns j before fd
-kept_owns j before after k fd = ((λ h. is_own j _ _ (k.same fd) h), λ h. is_own j _ _ (sym (k.same fd)) h)
+-- whether a descriptor is j's is told by the map of j's descriptors
+same_tests : (j : ℕ) (before after : Registrations) → owned_by j after.owners ≡ owned_by j before.owners → (fd : ℕ) → is_id j (owner_of after.owners fd) ≡ is_id j (owner_of before.owners fd)
+same_tests j before after same fd =
+    let told : (owners : OwnerMap) → is_id j (owner_of (owned_by j owners) fd) ≡ is_id j (owner_of owners fd) = λ owners. ap (is_id j) (owner_of-owned_by j owners fd) ∙ own_test j (owner_of owners fd) in
+    sym (told after.owners) ∙ ap (λ owners. is_id j (owner_of owners fd)) same ∙ told before.owners
 
 pub kept_refl : (j : ℕ) (registrations : Registrations) → IsKept j registrations registrations
-kept_refl j registrations = record { same = λ fd. refl; same_pending = refl }
+kept_refl j registrations = record { same = refl; same_pending = refl }
 
 kept_trans : (j : ℕ) (a b c : Registrations) → IsKept j a b → IsKept j b c → IsKept j a c
-kept_trans j a b c h k = record { same = λ fd. k.same fd ∙ h.same fd; same_pending = k.same_pending ∙ h.same_pending }
+kept_trans j a b c h k = record { same = k.same ∙ h.same; same_pending = k.same_pending ∙ h.same_pending }
 
 filter_same : (p q : Event → Bool) (events : List Event) → ((e : Event) → p e ≡ q e) → filter p events ≡ filter q events
 filter_same p q [] same = refl
@@ -63,39 +69,21 @@ filter_not_on p fd (e ∷ events) apart = elim (fd_tells e.fd fd) [
   | inr t ↦ ap (λ b. filter p (cond (not b) (e ∷ not_on fd events) (not_on fd events))) t.2 ∙ ap (λ es. cond (p e) (e ∷ es) es) (filter_not_on p fd events apart)
 ]
 
-insert_unseen : (i j : ℕ) (owner : FinMap nat_cmp ℕ) (fd : ℕ) → j ≢ i → get owner fd ≡ None → (q : ℕ) → is_id j (get (insert owner fd i) q) ≡ is_id j (get owner q)
-insert_unseen i j owner fd differ is_free q = elim (fd_tells q fd) [
-  | inl t ↦
-      let e : get (insert owner fd i) q ≡ Some i = get-insert nat_cmp_total owner fd i q ∙ ap (λ b. cond b (Some i) (get owner q)) t.0 in
-      let f : get owner q ≡ None = ap (get owner) t.1 ∙ is_free in
-      ap (is_id j) e ∙ elim (eqb_tells i j) [ inl p ↦ absurd (differ (sym p.1)) | inr p ↦ p.0 ] ∙ sym (ap (is_id j) f)
-  | inr t ↦ ap (is_id j) (get-insert nat_cmp_total owner fd i q ∙ ap (λ b. cond b (Some i) (get owner q)) t.0)
-]
-
-remove_unseen : (i j : ℕ) (owner : FinMap nat_cmp ℕ) (fd : ℕ) → j ≢ i → get owner fd ≡ Some i → (q : ℕ) → is_id j (get (remove owner fd) q) ≡ is_id j (get owner q)
-remove_unseen i j owner fd differ held q = elim (fd_tells q fd) [
-  | inl t ↦
-      let e : get (remove owner fd) q ≡ None = get-remove nat_cmp_total owner fd q ∙ ap (λ b. cond b None (get owner q)) t.0 in
-      let f : get owner q ≡ Some i = ap (get owner) t.1 ∙ held in
-      ap (is_id j) e ∙ sym (ap (is_id j) f ∙ elim (eqb_tells i j) [ inl p ↦ absurd (differ (sym p.1)) | inr p ↦ p.0 ])
-  | inr t ↦ ap (is_id j) (get-remove nat_cmp_total owner fd q ∙ ap (λ b. cond b None (get owner q)) t.0)
-]
-
-kept_entered : (i j : ℕ) (registrations : Registrations) (e : Event) (number : ℕ) → j ≢ i → IsFree registrations e.fd → IsKept j registrations (entered i e number registrations)
-kept_entered i j registrations e number differ free =
-    let s = insert_unseen i j registrations.owner e.fd differ free in
-    record { same = s; same_pending = filter_same _ _ registrations.pending (λ x. s x.fd) }
+kept_entered : (i j : ℕ) (registrations : Registrations) (e : Event) (priority : Priority) → j ≢ i → IsFree registrations e.fd → IsKept j registrations (entered i e priority registrations)
+kept_entered i j registrations e priority differ free =
+    let s = owned_by-insert_other j registrations.owners e.fd (record { id = i; priority = priority }) (λ is. differ (sym is)) free in
+    record { same = s; same_pending = filter_same _ _ registrations.pending (λ x. same_tests j registrations (entered i e priority registrations) s x.fd) }
 
 kept_after : (i j : ℕ) (registrations : Registrations) (request : Request) → j ≢ i → ReachesPoller i registrations request → IsKept j registrations (registrations_after i request registrations)
-kept_after i j registrations (Add e) differ h = kept_entered i j registrations e 0 differ h.0
-kept_after i j registrations (AddWithPriority e priority) differ h = kept_entered i j registrations e (number_of priority) differ h.0
+kept_after i j registrations (Add e) differ h = kept_entered i j registrations e Lowest differ h.0
+kept_after i j registrations (AddWithPriority e priority) differ h = kept_entered i j registrations e priority differ h.0
 kept_after i j registrations (Modify e) differ h = kept_refl j registrations
 kept_after i j registrations (Remove e) differ h =
-    let s = remove_unseen i j registrations.owner e.fd differ h in
+    let s = owned_by-remove_other j registrations.owners e.fd i (λ is. differ (sym is)) h in
     record {
       same = s;
-      same_pending = filter_same _ _ (not_on e.fd registrations.pending) (λ x. s x.fd)
-          ∙ filter_not_on (λ x. is_id j (get registrations.owner x.fd)) e.fd registrations.pending (λ x t. ap (λ q. is_id j (get registrations.owner q)) t ∙ ap (is_id j) h ∙ elim (eqb_tells i j) [ inl p ↦ absurd (differ (sym p.1)) | inr p ↦ p.0 ]);
+      same_pending = filter_same _ _ (not_on e.fd registrations.pending) (λ x. same_tests j registrations (registrations_after i (Remove e) registrations) s x.fd)
+          ∙ filter_not_on (λ x. is_id j (owner_of registrations.owners x.fd)) e.fd registrations.pending (λ x t. ap (λ q. is_id j (owner_of registrations.owners q)) t ∙ ap (is_id j) h ∙ elim (eqb_tells i j) [ inl p ↦ absurd (differ (sym p.1)) | inr p ↦ p.0 ]);
     }
 
 kept_fits : (i j : ℕ) (registrations : Registrations) (request : Request) (answer : Answer) (calls : List PollerCall) (after : Registrations) → j ≢ i → Fits i registrations request answer calls after → IsKept j registrations after
@@ -108,14 +96,10 @@ kept_exchanges i j registrations [] calls after differ h = subst (IsKept j regis
 kept_exchanges i j registrations (exchange ∷ exchanges) calls after differ (first, rest, mid, joined, fits, more) =
     kept_trans j registrations mid after (kept_fits i j registrations exchange.0 exchange.1 first mid differ fits) (kept_exchanges i j mid exchanges rest after differ more)
 
-other_left : (i j : ℕ) (o : Option ℕ) → j ≢ i → is_id j (cond (not (is_id i o)) o None) ≡ is_id j o
-other_left i j None differ = refl
-other_left i j (Some k) differ = grind (arith, nat_tests)
-
 kept_left : (i j : ℕ) (registrations : Registrations) → j ≢ i → IsKept j registrations (left_by i registrations)
 kept_left i j registrations differ =
-    let s : (fd : ℕ) → is_id j (get (without_owner i registrations.owner registrations.owner) fd) ≡ is_id j (get registrations.owner fd) = λ fd. ap (is_id j) (get-without_owner i registrations.owner registrations.owner fd) ∙ other_left i j (get registrations.owner fd) differ in
-    record { same = s; same_pending = filter_same _ _ registrations.pending (λ x. s x.fd) }
+    let s = owned_by-disowned_other j registrations.owners i (λ is. differ (sym is)) in
+    record { same = s; same_pending = filter_same _ _ registrations.pending (λ x. same_tests j registrations (left_by i registrations) s x.fd) }
 
 -- values
 untied : (a b : ℕ) → a ≢ b → eq_by_cmp nat_cmp a b ≡ false
@@ -132,7 +116,7 @@ unnamed i j e = λ s. true≢false (sym (eq-eqb i j (sym s)) ∙ e)
 
 module _ {V : Type 0} where
   untouched : (j : ℕ) (before after : Registry V) → get after.values j ≡ get before.values j → IsKept j before.registrations after.registrations → IsUntouched j before after
-  untouched j before after v k = (v, kept_owns j before.registrations after.registrations k, k.same_pending)
+  untouched j before after v k = (v, k.same, k.same_pending)
 
   untouched_at : (j : ℕ) (before made after : Registry V) → after ≡ made → get made.values j ≡ get before.values j → IsKept j before.registrations made.registrations → IsUntouched j before after
   untouched_at j before made after e v k = subst (IsUntouched j before) (sym e) (untouched j before made v k)

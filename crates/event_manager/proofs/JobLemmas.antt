@@ -1,7 +1,7 @@
 -- Jobs after a batch, put together to an iteration.
-use Rattle.std.proofs.Common.{◌≡◌, ◌≢◌, All, ℕ, ◌+◌, ℤ, List, [], ◌∷◌, refl, sym, ap, ◌∙◌, true, false, ◌||◌, ne_eqb, Result, Ok, Err}
+use Rattle.std.proofs.Common.{◌≡◌, ◌≢◌, All, ℕ, ◌+◌, ◌==◌, ℤ, List, [], ◌∷◌, refl, sym, ap, ◌∙◌, true, false, get_or, ne_eqb, Result, Ok, Err}
 use Rattle.std.proofs.lemmas.Bool.{false≢true}
-use Rattle.std.proofs.lemmas.List.Elements.{All-head, All-tail}
+use Rattle.std.proofs.lemmas.List.Folds.{list_any_none}
 use Rattle.vmm_sys.specs.declared.errno.Errno.{Errno}
 use Rattle.dispatch_tables.specs.Event.{Event}
 use Rattle.event_loop.specs.PollerCall.{Wait, Controls, Waits}
@@ -21,8 +21,7 @@ pub with_taken : {S P : Type 0} {begins : S → Exchanges → S → Type 0} {con
 with_taken n did = record { stepped = did.stepped; led = did.led; same_taken = refl; same_capacity = did.same_capacity }
 
 none_reported : (fd : ℕ) (report : List Event) → All (λ e. e.fd ≢ fd) report → is_reported fd report ≡ false
-none_reported fd [] all = refl
-none_reported fd (e ∷ report) all = ap (λ b. b || is_reported fd report) (ne_eqb e.fd fd (All-head (λ x. x.fd ≢ fd) e report all)) ∙ none_reported fd report (All-tail (λ x. x.fd ≢ fd) e report all)
+none_reported fd report all = list_any_none (λ (e : Event). e.fd == fd) report (λ k d within. ne_eqb (get_or report k d).fd fd (all k d within))
 
 module _ {S P J R : Type 0} (begins : S → Exchanges → S → Type 0) (serves : S → Event → Exchanges → S → Type 0) (may : J → List (Step S) → R → Type 0) (controls : Controls P) (waits : Waits P) where
   -- none of no jobs

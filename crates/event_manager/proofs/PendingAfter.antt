@@ -10,7 +10,7 @@ use Rattle.event_loop.specs.declared.events.Request.{Request}
 use Rattle.event_loop.specs.declared.events.Request.TheVariants.{Add, AddWithPriority, Modify, Remove}
 use Rattle.dispatch_tables.proofs.NumberTests.{fd_tells}
 use Rattle.event_manager.proofs.ProjectedExchanges.{no_removal, unasked_is_error}
-use Rattle.event_manager.proofs.ProjectedDispatch.{is_removed-push}
+use Rattle.event_loop.proofs.Positions.{is_removed-push}
 
 -- filters
 filter_alike : (p q : Event → Bool) (events : List Event) → ((e : Event) → p e ≡ q e) → filter p events ≡ filter q events

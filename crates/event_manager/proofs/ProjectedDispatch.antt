@@ -3,6 +3,7 @@ use Rattle.std.proofs.Common.{◌≡◌, ◌≢◌, ℕ, Bool, true, false, ◌|
 use Rattle.std.specs.FinMap.{FinMap, get}
 use Rattle.std.proofs.lemmas.Bool.Decides.{eqb_tells}
 use Rattle.dispatch_tables.specs.Event.{Event}
+use Rattle.dispatch_tables.specs.Ownership.{owner_of}
 use Rattle.event_loop.specs.PollerCall.{PollerCall}
 use Rattle.event_loop.specs.Exchange.{Exchanges, removes}
 use Rattle.event_loop.specs.Registry.{Registry}
@@ -10,7 +11,9 @@ use Rattle.event_loop.specs.Dispatch.{Outcome, Nobody, To, Position, exchanges_o
 use Rattle.event_manager.specs.Projection.{owned_by, only_values, projected_registrations, projected_registry, is_to, IsOnly, AreProjected, outcome_exchanges, positions_exchanges, asks_to_add, adds}
 use Rattle.dispatch_tables.proofs.DispatchOrders.{nil_cons, head_is, tail_is}
 use Rattle.event_manager.proofs.FiniteMaps.{only_outcome-insert_own, only_outcome-insert_other}
-use Rattle.event_manager.proofs.ProjectedExchanges.{IsMine, own_exchanges, other_exchanges, owned_projected, owned_from_projected, projected_is_own, or_assoc, calls_first, calls_then, adds_first, adds_then}
+use Rattle.event_manager.proofs.ProjectedExchanges.{IsMine, own_exchanges, other_exchanges, owned_projected, owned_from_projected, projected_is_own, calls_first, calls_then, adds_first, adds_then}
+use Rattle.event_loop.proofs.ExchangeLemmas.{or_false}
+use Rattle.event_loop.proofs.Positions.{is_removed-push}
 use Rattle.event_manager.proofs.ProjectedSteps.{has_projected, has_from_projected}
 
 -- what other ids got becomes nobody's
@@ -33,14 +36,6 @@ pub data Woven {V : Type 0} (i : ℕ) (mine : ℕ → Bool) : List (Position V) 
 abbrev projected_with : {V : Type 0} → ℕ → ℕ → List Event → Registry V → Registry V
 projected_with i n pending r = record { values = only_values i r.values; next = n; registrations = projected_registrations i pending r.registrations }
 
-or_ends : (a : Bool) → (a || false) ≡ a
-or_ends true = refl
-or_ends false = refl
-
-pub is_removed-push : {V : Type 0} (fd : ℕ) (positions : List (Position V)) (d : Position V) → is_removed fd (positions ++ d ∷ []) ≡ (is_removed fd positions || removes fd (exchanges_of d.outcome))
-is_removed-push fd [] d = or_ends _
-is_removed-push fd (x ∷ positions) d = ap (λ b. removes fd (exchanges_of x.outcome) || b) (is_removed-push fd positions d) ∙ or_assoc (removes fd (exchanges_of x.outcome)) (is_removed fd positions) (removes fd (exchanges_of d.outcome))
-
 module _ {V : Type 0} (serves : V → Event → Exchanges → V → Type 0) (i : ℕ) (mine : ℕ → Bool) (n : ℕ) where
   abbrev IsClaimed : Exchanges → Type 0
   IsClaimed exchanges = (fd : ℕ) → asks_to_add fd exchanges ≡ true → mine fd ≡ true
@@ -49,14 +44,14 @@ module _ {V : Type 0} (serves : V → Event → Exchanges → V → Type 0) (i :
   record Same (before : Registry V) (pending : List Event) (removed : List (Position V)) (e : Event) (later : List Event) (outcome shown : Outcome V) (after : Registry V) : Type 0 where
     left : List Event
     fits : IsOutcome serves (projected_with i n pending before) removed e later shown (projected_with i n left after)
-    still : IsMine i mine after.registrations.owner
+    still : IsMine i mine after.registrations.owners
     next : after.next ≡ before.next
     alike : (fd : ℕ) → mine fd ≡ true → removes fd (exchanges_of shown) ≡ removes fd (exchanges_of outcome)
 
   abbrev Agree : List (Position V) → List (Position V) → Type 0
   Agree earlier removed = (fd : ℕ) → mine fd ≡ true → is_removed fd removed ≡ is_removed fd earlier
 
-  own_to : (before : Registry V) (pending : List Event) (earlier removed : List (Position V)) (e : Event) (real later : List Event) (exchanges : Exchanges) (calls : List PollerCall) (held : V) (after : Registry V) → mine e.fd ≡ true → IsMine i mine before.registrations.owner → IsClaimed exchanges → Agree earlier removed → IsOutcome serves before earlier e real (To i exchanges calls held) after → Same before pending removed e later (To i exchanges calls held) (To i exchanges calls held) after
+  own_to : (before : Registry V) (pending : List Event) (earlier removed : List (Position V)) (e : Event) (real later : List Event) (exchanges : Exchanges) (calls : List PollerCall) (held : V) (after : Registry V) → mine e.fd ≡ true → IsMine i mine before.registrations.owners → IsClaimed exchanges → Agree earlier removed → IsOutcome serves before earlier e real (To i exchanges calls held) after → Same before pending removed e later (To i exchanges calls held) (To i exchanges calls held) after
   own_to before pending earlier removed e real later exchanges calls held after here m claimed agree (value, registrations, for, serving, fits, is) =
       let t = own_exchanges i mine (still_pending removed later) (record before.registrations { pending = still_pending earlier real }) exchanges calls registrations m claimed fits in
       record {
@@ -64,26 +59,26 @@ module _ {V : Type 0} (serves : V → Event → Exchanges → V → Type 0) (i :
         fits = (
           value,
           projected_registrations i t.left registrations,
-          (owned_projected i before.registrations.owner e.fd for.0, agree e.fd here ∙ for.1, has_projected i before.values value for.2),
+          (owned_projected i before.registrations.owners e.fd for.0, agree e.fd here ∙ for.1, has_projected i before.values value for.2),
           serving,
           t.fits,
           ap (projected_with i n t.left) is ∙ ap (λ (v : FinMap nat_cmp V). record { values = v; next = n; registrations = projected_registrations i t.left registrations }) (only_outcome-insert_own i before.values held),
         );
-        still = subst (λ (r : Registry V). IsMine i mine r.registrations.owner) (sym is) t.still;
+        still = subst (λ (r : Registry V). IsMine i mine r.registrations.owners) (sym is) t.still;
         next = ap (λ (r : Registry V). r.next) is;
         alike = λ fd h. refl;
       }
 
   none_for : (before : Registry V) (pending : List Event) (earlier removed : List (Position V)) (e : Event) → mine e.fd ≡ true → Agree earlier removed → ((j : ℕ) (v : V) → ¬ IsFor before earlier e j v) → (j : ℕ) (v : V) → ¬ IsFor (projected_with i n pending before) removed e j v
   none_for before pending earlier removed e here agree nobody j v (owns, kept, has) =
-      let is : j ≡ i = projected_is_own i j before.registrations.owner e.fd owns in
-      nobody i v (owned_from_projected i before.registrations.owner e.fd (subst (λ k. get (owned_by i before.registrations.owner before.registrations.owner) e.fd ≡ Some k) is owns), sym (agree e.fd here) ∙ kept, has_from_projected i before.values v (subst (λ k. get (only_values i before.values) k ≡ Some v) is has))
+      let is : j ≡ i = projected_is_own i j before.registrations.owners e.fd owns in
+      nobody i v (owned_from_projected i before.registrations.owners e.fd (subst (λ k. owner_of (owned_by i before.registrations.owners) e.fd ≡ Some k) is owns), sym (agree e.fd here) ∙ kept, has_from_projected i before.values v (subst (λ k. get (only_values i before.values) k ≡ Some v) is has))
 
-  one_same : (before : Registry V) (pending : List Event) (earlier removed : List (Position V)) (e : Event) (real later : List Event) (outcome : Outcome V) (after : Registry V) → mine e.fd ≡ true → IsMine i mine before.registrations.owner → IsClaimed (outcome_exchanges i outcome) → Agree earlier removed → IsOutcome serves before earlier e real outcome after → Same before pending removed e later outcome (only_outcome i outcome) after
+  one_same : (before : Registry V) (pending : List Event) (earlier removed : List (Position V)) (e : Event) (real later : List Event) (outcome : Outcome V) (after : Registry V) → mine e.fd ≡ true → IsMine i mine before.registrations.owners → IsClaimed (outcome_exchanges i outcome) → Agree earlier removed → IsOutcome serves before earlier e real outcome after → Same before pending removed e later outcome (only_outcome i outcome) after
   one_same before pending earlier removed e real later Nobody after here m claimed agree (nobody, is) = record {
     left = still_pending removed later;
     fits = (none_for before pending earlier removed e here agree nobody, ap (projected_with i n (still_pending removed later)) is);
-    still = subst (λ (r : Registry V). IsMine i mine r.registrations.owner) (sym is) m;
+    still = subst (λ (r : Registry V). IsMine i mine r.registrations.owners) (sym is) m;
     next = ap (λ (r : Registry V). r.next) is;
     alike = λ fd h. refl;
   }
@@ -100,27 +95,27 @@ module _ {V : Type 0} (serves : V → Event → Exchanges → V → Type 0) (i :
   -- one position that is a neighbour's or nobody's
   record Unseen (before : Registry V) (outcome : Outcome V) (after : Registry V) : Type 0 where
     same : (pending : List Event) → projected_with i n pending after ≡ projected_with i n pending before
-    still : IsMine i mine after.registrations.owner
+    still : IsMine i mine after.registrations.owners
     next : after.next ≡ before.next
     apart : (fd : ℕ) → mine fd ≡ true → removes fd (exchanges_of outcome) ≡ false
     nobody : only_outcome i outcome ≡ Nobody
 
-  one_unseen : (before : Registry V) (earlier : List (Position V)) (e : Event) (later : List Event) (outcome : Outcome V) (after : Registry V) → mine e.fd ≡ false → IsMine i mine before.registrations.owner → ((fd : ℕ) (j : ℕ) → j ≢ i → adds fd (outcome_exchanges j outcome) ≡ true → mine fd ≡ false) → IsOutcome serves before earlier e later outcome after → Unseen before outcome after
+  one_unseen : (before : Registry V) (earlier : List (Position V)) (e : Event) (later : List Event) (outcome : Outcome V) (after : Registry V) → mine e.fd ≡ false → IsMine i mine before.registrations.owners → ((fd : ℕ) (j : ℕ) → j ≢ i → adds fd (outcome_exchanges j outcome) ≡ true → mine fd ≡ false) → IsOutcome serves before earlier e later outcome after → Unseen before outcome after
   one_unseen before earlier e later Nobody after there m foreign (nobody, is) = record {
     same = λ p. ap (projected_with i n p) is;
-    still = subst (λ (r : Registry V). IsMine i mine r.registrations.owner) (sym is) m;
+    still = subst (λ (r : Registry V). IsMine i mine r.registrations.owners) (sym is) m;
     next = ap (λ (r : Registry V). r.next) is;
     apart = λ fd h. refl;
     nobody = refl;
   }
   one_unseen before earlier e later (To j exchanges calls held) after there m foreign (value, registrations, for, serving, fits, is) =
       elim (eqb_tells j i) [
-        | inl p ↦ absurd (true≢false (sym (m.own e.fd (subst (λ k. get before.registrations.owner e.fd ≡ Some k) p.1 for.0)) ∙ there))
+        | inl p ↦ absurd (true≢false (sym (m.own e.fd (subst (λ k. owner_of before.registrations.owners e.fd ≡ Some k) p.1 for.0)) ∙ there))
         | inr p ↦
             let t = other_exchanges i j mine (record before.registrations { pending = still_pending earlier later }) exchanges calls registrations p.1 m (λ fd a. foreign fd j p.1 (ap (λ b. adds fd (if b then exchanges else [])) (eq-eqb j j refl) ∙ a)) fits in
             record {
               same = λ q. ap (projected_with i n q) is ∙ (λ k. record { values = only_outcome-insert_other i j before.values held p.1 k; next = n; registrations = t.same q k });
-              still = subst (λ (r : Registry V). IsMine i mine r.registrations.owner) (sym is) t.still;
+              still = subst (λ (r : Registry V). IsMine i mine r.registrations.owners) (sym is) t.still;
               next = ap (λ (r : Registry V). r.next) is;
               apart = t.apart;
               nobody = ap (λ b. if b then To j exchanges calls held else Nobody) p.0;
@@ -128,16 +123,16 @@ module _ {V : Type 0} (serves : V → Event → Exchanges → V → Type 0) (i :
       ]
 
   -- one position that only the projection has
-  one_added : (before : Registry V) (pending : List Event) (removed : List (Position V)) (e : Event) (later : List Event) → mine e.fd ≡ false → IsMine i mine before.registrations.owner → IsOutcome serves (projected_with i n pending before) removed e later Nobody (projected_with i n (still_pending removed later) before)
+  one_added : (before : Registry V) (pending : List Event) (removed : List (Position V)) (e : Event) (later : List Event) → mine e.fd ≡ false → IsMine i mine before.registrations.owners → IsOutcome serves (projected_with i n pending before) removed e later Nobody (projected_with i n (still_pending removed later) before)
   one_added before pending removed e later there m = (
-    (λ j v for. true≢false (sym (m.own e.fd (owned_from_projected i before.registrations.owner e.fd (subst (λ k. get (owned_by i before.registrations.owner before.registrations.owner) e.fd ≡ Some k) (projected_is_own i j before.registrations.owner e.fd for.0) for.0))) ∙ there)),
+    (λ j v for. true≢false (sym (m.own e.fd (owned_from_projected i before.registrations.owners e.fd (subst (λ k. owner_of (owned_by i before.registrations.owners) e.fd ≡ Some k) (projected_is_own i j before.registrations.owners e.fd for.0) for.0))) ∙ there)),
     refl,
   )
 
   -- all positions
   pub record DealtAlone (before : Registry V) (pending : List Event) (removed : List (Position V)) (shown : List (Position V)) (after : Registry V) : Type 0 where
     pub fits : AreDispatched serves (projected_with i n pending before) removed shown (projected_registry i n after)
-    pub still : IsMine i mine after.registrations.owner
+    pub still : IsMine i mine after.registrations.owners
     pub next : after.next ≡ before.next
 
   agree_push : (earlier removed : List (Position V)) (d shown : Position V) → Agree earlier removed → ((fd : ℕ) → mine fd ≡ true → removes fd (exchanges_of shown.outcome) ≡ removes fd (exchanges_of d.outcome)) → Agree (earlier ++ d ∷ []) (removed ++ shown ∷ [])
@@ -146,16 +141,16 @@ module _ {V : Type 0} (serves : V → Event → Exchanges → V → Type 0) (i :
 
   agree_skip : (earlier removed : List (Position V)) (d : Position V) → Agree earlier removed → ((fd : ℕ) → mine fd ≡ true → removes fd (exchanges_of d.outcome) ≡ false) → Agree (earlier ++ d ∷ []) removed
   agree_skip earlier removed d agree apart fd h =
-      agree fd h ∙ sym (is_removed-push fd earlier d ∙ ap (λ b. is_removed fd earlier || b) (apart fd h) ∙ or_ends _)
+      agree fd h ∙ sym (is_removed-push fd earlier d ∙ ap (λ b. is_removed fd earlier || b) (apart fd h) ∙ or_false _)
 
   agree_add : (earlier removed : List (Position V)) (shown : Position V) → Agree earlier removed → shown.outcome ≡ Nobody → Agree earlier (removed ++ shown ∷ [])
   agree_add earlier removed shown agree none fd h =
-      is_removed-push fd removed shown ∙ ap (λ o. is_removed fd removed || removes fd (exchanges_of o)) none ∙ or_ends _ ∙ agree fd h
+      is_removed-push fd removed shown ∙ ap (λ o. is_removed fd removed || removes fd (exchanges_of o)) none ∙ or_false _ ∙ agree fd h
 
-  pub projected_dispatch : (pending : List Event) (before : Registry V) (earlier removed : List (Position V)) (real shown : List (Position V)) (after : Registry V) → Woven i mine real shown → IsMine i mine before.registrations.owner → IsClaimed (positions_exchanges i real) → ((fd : ℕ) (j : ℕ) → j ≢ i → adds fd (positions_exchanges j real) ≡ true → mine fd ≡ false) → Agree earlier removed → AreDispatched serves before earlier real after → DealtAlone before pending removed shown after
+  pub projected_dispatch : (pending : List Event) (before : Registry V) (earlier removed : List (Position V)) (real shown : List (Position V)) (after : Registry V) → Woven i mine real shown → IsMine i mine before.registrations.owners → IsClaimed (positions_exchanges i real) → ((fd : ℕ) (j : ℕ) → j ≢ i → adds fd (positions_exchanges j real) ≡ true → mine fd ≡ false) → Agree earlier removed → AreDispatched serves before earlier real after → DealtAlone before pending removed shown after
   projected_dispatch pending before earlier removed [] [] after ends m claimed foreign agree is = record {
     fits = ap (projected_registry i n) is;
-    still = subst (λ (r : Registry V). IsMine i mine r.registrations.owner) (sym is) m;
+    still = subst (λ (r : Registry V). IsMine i mine r.registrations.owners) (sym is) m;
     next = ap (λ (r : Registry V). r.next) is;
   }
   projected_dispatch pending before earlier removed (_ ∷ real) (_ ∷ shown) after (both d here w) m claimed foreign agree (mid, out, more) =
@@ -191,11 +186,11 @@ module _ {V : Type 0} (serves : V → Event → Exchanges → V → Type 0) (i :
   Foreign [] = Unit {0}
   Foreign (d ∷ positions) = (mine d.event.fd ≡ false → only_outcome i d.outcome ≡ Nobody) × Foreign positions
 
-  pub foreign_positions : (before : Registry V) (earlier : List (Position V)) (real : List (Position V)) (after : Registry V) → IsMine i mine before.registrations.owner → IsClaimed (positions_exchanges i real) → ((fd : ℕ) (j : ℕ) → j ≢ i → adds fd (positions_exchanges j real) ≡ true → mine fd ≡ false) → AreDispatched serves before earlier real after → Foreign real
+  pub foreign_positions : (before : Registry V) (earlier : List (Position V)) (real : List (Position V)) (after : Registry V) → IsMine i mine before.registrations.owners → IsClaimed (positions_exchanges i real) → ((fd : ℕ) (j : ℕ) → j ≢ i → adds fd (positions_exchanges j real) ≡ true → mine fd ≡ false) → AreDispatched serves before earlier real after → Foreign real
   unfolding Foreign
   foreign_positions before earlier [] after m claimed foreign h = tt
   foreign_positions before earlier (d ∷ real) after m claimed foreign (mid, out, more) =
-      let first : (b : Bool) → mine d.event.fd ≡ b → (mine d.event.fd ≡ false → only_outcome i d.outcome ≡ Nobody) × IsMine i mine mid.registrations.owner = elim [
+      let first : (b : Bool) → mine d.event.fd ≡ b → (mine d.event.fd ≡ false → only_outcome i d.outcome ≡ Nobody) × IsMine i mine mid.registrations.owners = elim [
         | true ↦ λ e. let one = one_same before [] earlier earlier d.event (events_of real) [] d.outcome mid e m (λ fd t. claimed fd (calls_first fd (outcome_exchanges i d.outcome) (positions_exchanges i real) t)) (λ fd h. refl) out in ((λ f. absurd (true≢false (sym e ∙ f))), one.still)
         | false ↦ λ e. let one = one_unseen before earlier d.event (events_of real) d.outcome mid e m (λ fd j differ t. foreign fd j differ (adds_first fd (outcome_exchanges j d.outcome) (positions_exchanges j real) t)) out in ((λ f. one.nobody), one.still)
       ]

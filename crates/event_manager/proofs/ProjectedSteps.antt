@@ -2,12 +2,13 @@
 use Rattle.std.proofs.Common.{◌≡◌, ◌≢◌, ℕ, ◌+◌, ◌<◌, ◌≤◌, ◌==◌, cond, Bool, true, false, not, refl, sym, ◌∙◌, ap, subst, arith, Some, None, Option, inl, inr, nat_cmp, List, [], true≢false, if◌then◌else◌, eq-eqb, eqb-true, le_of_eq}
 use Rattle.std.specs.FinMap.{FinMap, get}
 use Rattle.std.proofs.lemmas.Bool.Decides.{eqb_tells}
+use Rattle.dispatch_tables.specs.Ownership.{OwnerMap, owner_of}
 use Rattle.event_loop.specs.Registrations.{Registrations}
 use Rattle.event_loop.specs.PollerCall.{PollerCall}
 use Rattle.event_loop.specs.Exchange.{Exchanges, ExchangesFit}
 use Rattle.event_loop.specs.Registry.{Registry, Step, Joined, NotJoined, Left, NotLeft, Replaced, NotReplaced, Requested, NotRequested, Steps, is_id, without_owner, ids_end}
 use Rattle.event_manager.specs.Projection.{only_values, projected_registrations, projected_registry, names, step_exchanges, asks_to_add, adds}
-use Rattle.event_loop.proofs.WithoutOwner.{get-without_owner}
+use Rattle.event_loop.proofs.WithoutOwner.{owner_of-without_owner}
 use Rattle.event_manager.proofs.FiniteMaps.{get_only, owned_by-without_owner, owned_by-disowned_other, only_outcome-insert_own, only_outcome-insert_other, only_outcome-remove_own, only_outcome-remove_other}
 use Rattle.event_manager.proofs.ProjectedExchanges.{IsMine, own_exchanges, other_exchanges, owned_projected, owned_from_projected}
 
@@ -19,11 +20,11 @@ disowned_answer i j (Some k) e = elim (eqb_tells k j) [
   | inr p ↦ sym (ap (λ b. cond (not b) (Some k) None) p.0) ∙ e
 ]
 
-pub from_disowned : (j : ℕ) (owner : FinMap nat_cmp ℕ) (fd : ℕ) (k : ℕ) → get (without_owner j owner owner) fd ≡ Some k → get owner fd ≡ Some k
-from_disowned j owner fd k h = disowned_answer k j (get owner fd) (sym (get-without_owner j owner owner fd) ∙ h)
+pub from_disowned : (j : ℕ) (owners : OwnerMap) (fd : ℕ) (k : ℕ) → owner_of (without_owner j owners) fd ≡ Some k → owner_of owners fd ≡ Some k
+from_disowned j owners fd k h = disowned_answer k j (owner_of owners fd) (sym (owner_of-without_owner j owners fd) ∙ h)
 
-pub mine-without_owner : (i j : ℕ) (mine : ℕ → Bool) (owner : FinMap nat_cmp ℕ) → IsMine i mine owner → IsMine i mine (without_owner j owner owner)
-mine-without_owner i j mine owner m = record { own = λ q h. m.own q (from_disowned j owner q i h); other = λ q k differ h. m.other q k differ (from_disowned j owner q k h) }
+pub mine-without_owner : (i j : ℕ) (mine : ℕ → Bool) (owners : OwnerMap) → IsMine i mine owners → IsMine i mine (without_owner j owners)
+mine-without_owner i j mine owners m = record { own = λ q h. m.own q (from_disowned j owners q i h); other = λ q k differ h. m.other q k differ (from_disowned j owners q k h) }
 
 -- projected values
 pub has_projected : {V : Type 0} (i : ℕ) (values : FinMap nat_cmp V) (v : V) → get values i ≡ Some v → get (only_values i values) i ≡ Some v
@@ -40,21 +41,21 @@ module _ {V : Type 0} (begins : V → Exchanges → V → Type 0) where
   pub record OwnStep (i : ℕ) (mine : ℕ → Bool) (n : ℕ) (before : Registry V) (step : Step V) (after : Registry V) : Type 0 where
     pub next : ℕ
     pub fits : Steps begins (projected_registry i n before) step (projected_registry i next after)
-    pub still : IsMine i mine after.registrations.owner
+    pub still : IsMine i mine after.registrations.owners
     pub joins : after.next ≤ i → next ≡ i
 
   abbrev IsClaimed : (ℕ → Bool) → Exchanges → Type 0
   IsClaimed mine exchanges = (fd : ℕ) → asks_to_add fd exchanges ≡ true → mine fd ≡ true
 
-  unchanged : (i : ℕ) (mine : ℕ → Bool) (n : ℕ) (before after : Registry V) (step : Step V) → IsMine i mine before.registrations.owner → (before.next ≤ i → n ≡ i) → after ≡ before → (projected_registry i n after ≡ projected_registry i n before → Steps begins (projected_registry i n before) step (projected_registry i n after)) → OwnStep i mine n before step after
+  unchanged : (i : ℕ) (mine : ℕ → Bool) (n : ℕ) (before after : Registry V) (step : Step V) → IsMine i mine before.registrations.owners → (before.next ≤ i → n ≡ i) → after ≡ before → (projected_registry i n after ≡ projected_registry i n before → Steps begins (projected_registry i n before) step (projected_registry i n after)) → OwnStep i mine n before step after
   unchanged i mine n before after step m joins e fits = record {
     next = n;
     fits = fits (ap (projected_registry i n) e);
-    still = subst (λ (r : Registry V). IsMine i mine r.registrations.owner) (sym e) m;
+    still = subst (λ (r : Registry V). IsMine i mine r.registrations.owners) (sym e) m;
     joins = λ le. joins (subst (λ (r : Registry V). r.next ≤ i) e le);
   }
 
-  own_joined : (i : ℕ) (mine : ℕ → Bool) (n : ℕ) (before after : Registry V) (value : V) (exchanges : Exchanges) (calls : List PollerCall) (held : V) → IsMine i mine before.registrations.owner → IsClaimed mine exchanges → (before.next ≤ i → n ≡ i) → Steps begins before (Joined value i exchanges calls held) after → OwnStep i mine n before (Joined value i exchanges calls held) after
+  own_joined : (i : ℕ) (mine : ℕ → Bool) (n : ℕ) (before after : Registry V) (value : V) (exchanges : Exchanges) (calls : List PollerCall) (held : V) → IsMine i mine before.registrations.owners → IsClaimed mine exchanges → (before.next ≤ i → n ≡ i) → Steps begins before (Joined value i exchanges calls held) after → OwnStep i mine n before (Joined value i exchanges calls held) after
   own_joined i mine n before after value exchanges calls held m claimed joins (registrations, capacity, is, fits, beg, e) =
       let t = own_exchanges i mine [] before.registrations exchanges calls registrations m claimed fits in
       let k : n ≡ i = joins (le_of_eq (sym is)) in
@@ -69,44 +70,43 @@ module _ {V : Type 0} (begins : V → Exchanges → V → Type 0) where
           beg,
           ap (projected_registry i (n + 1)) e ∙ ap (λ (v : FinMap nat_cmp V). record { values = v; next = n + 1; registrations = projected_registrations i [] registrations }) (only_outcome-insert_own i before.values held),
         );
-        still = subst (λ (r : Registry V). IsMine i mine r.registrations.owner) (sym e) t.still;
+        still = subst (λ (r : Registry V). IsMine i mine r.registrations.owners) (sym e) t.still;
         joins = λ le. absurd (omega arith);
       }
 
   abbrev projected_of : ℕ → ℕ → FinMap nat_cmp V → Registrations → Registry V
   projected_of i n values registrations = record { values = values; next = n; registrations = registrations }
 
-  own_left : (i : ℕ) (mine : ℕ → Bool) (n : ℕ) (before after : Registry V) (value : V) (calls : List PollerCall) → IsMine i mine before.registrations.owner → (before.next ≤ i → n ≡ i) → Steps begins before (Left i value calls) after → OwnStep i mine n before (Left i value calls) after
+  own_left : (i : ℕ) (mine : ℕ → Bool) (n : ℕ) (before after : Registry V) (value : V) (calls : List PollerCall) → IsMine i mine before.registrations.owners → (before.next ≤ i → n ≡ i) → Steps begins before (Left i value calls) after → OwnStep i mine n before (Left i value calls) after
   own_left i mine n before after value calls m joins (fds, has, is_owner, deletes, e) = record {
     next = n;
     fits = (
       fds,
       has_projected i before.values value has,
-      (is_owner.0, λ fd. ((λ c. owned_projected i before.registrations.owner fd ((is_owner.1 fd).0 c)), λ o. (is_owner.1 fd).1 (owned_from_projected i before.registrations.owner fd o))),
+      (is_owner.0, λ fd. ((λ c. owned_projected i before.registrations.owners fd ((is_owner.1 fd).0 c)), λ o. (is_owner.1 fd).1 (owned_from_projected i before.registrations.owners fd o))),
       deletes,
       ap (projected_registry i n) e ∙ (λ k. projected_of i n (only_outcome-remove_own i before.values k) (record {
-        owner = owned_by-without_owner i before.registrations.owner before.registrations.owner k;
-        priority = owned_by-without_owner i before.registrations.owner before.registrations.priority k;
+        owners = owned_by-without_owner i before.registrations.owners k;
         endpoint = before.registrations.endpoint;
         pending = [];
       })),
     );
-    still = subst (λ (r : Registry V). IsMine i mine r.registrations.owner) (sym e) (mine-without_owner i i mine before.registrations.owner m);
+    still = subst (λ (r : Registry V). IsMine i mine r.registrations.owners) (sym e) (mine-without_owner i i mine before.registrations.owners m);
     joins = λ le. joins (subst (λ (r : Registry V). r.next ≤ i) e le);
   }
 
-  own_touched : (i : ℕ) (mine : ℕ → Bool) (n : ℕ) (before after : Registry V) (old new : V) → IsMine i mine before.registrations.owner → (before.next ≤ i → n ≡ i) → Steps begins before (Replaced i old new) after → OwnStep i mine n before (Replaced i old new) after
+  own_touched : (i : ℕ) (mine : ℕ → Bool) (n : ℕ) (before after : Registry V) (old new : V) → IsMine i mine before.registrations.owners → (before.next ≤ i → n ≡ i) → Steps begins before (Replaced i old new) after → OwnStep i mine n before (Replaced i old new) after
   own_touched i mine n before after old new m joins (has, e) = record {
     next = n;
     fits = (
       has_projected i before.values old has,
       ap (projected_registry i n) e ∙ ap (λ (v : FinMap nat_cmp V). record { values = v; next = n; registrations = projected_registrations i [] before.registrations }) (only_outcome-insert_own i before.values new),
     );
-    still = subst (λ (r : Registry V). IsMine i mine r.registrations.owner) (sym e) m;
+    still = subst (λ (r : Registry V). IsMine i mine r.registrations.owners) (sym e) m;
     joins = λ le. joins (subst (λ (r : Registry V). r.next ≤ i) e le);
   }
 
-  own_made : (i : ℕ) (mine : ℕ → Bool) (n : ℕ) (before after : Registry V) (exchanges : Exchanges) (calls : List PollerCall) → IsMine i mine before.registrations.owner → IsClaimed mine exchanges → (before.next ≤ i → n ≡ i) → Steps begins before (Requested i exchanges calls) after → OwnStep i mine n before (Requested i exchanges calls) after
+  own_made : (i : ℕ) (mine : ℕ → Bool) (n : ℕ) (before after : Registry V) (exchanges : Exchanges) (calls : List PollerCall) → IsMine i mine before.registrations.owners → IsClaimed mine exchanges → (before.next ≤ i → n ≡ i) → Steps begins before (Requested i exchanges calls) after → OwnStep i mine n before (Requested i exchanges calls) after
   own_made i mine n before after exchanges calls m claimed joins (value, registrations, has, fits, e) =
       let t = own_exchanges i mine [] before.registrations exchanges calls registrations m claimed fits in
       record {
@@ -118,14 +118,14 @@ module _ {V : Type 0} (begins : V → Exchanges → V → Type 0) where
           subst (λ p. ExchangesFit i (projected_registrations i [] before.registrations) exchanges calls (projected_registrations i p registrations)) (t.none refl) t.fits,
           ap (projected_registry i n) e,
         );
-        still = subst (λ (r : Registry V). IsMine i mine r.registrations.owner) (sym e) t.still;
+        still = subst (λ (r : Registry V). IsMine i mine r.registrations.owners) (sym e) t.still;
         joins = λ le. joins (subst (λ (r : Registry V). r.next ≤ i) e le);
       }
 
   claims_of : (mine : ℕ → Bool) (exchanges : Exchanges) (b : Bool) → b ≡ true → IsClaimed mine (if b then exchanges else []) → IsClaimed mine exchanges
   claims_of mine exchanges b e h = λ fd t. h fd (ap (λ x. asks_to_add fd (if x then exchanges else [])) e ∙ t)
 
-  pub own_step : (i : ℕ) (mine : ℕ → Bool) (n : ℕ) (before : Registry V) (step : Step V) (after : Registry V) → names i step ≡ true → IsMine i mine before.registrations.owner → IsClaimed mine (step_exchanges i step) → (before.next ≤ i → n ≡ i) → Steps begins before step after → OwnStep i mine n before step after
+  pub own_step : (i : ℕ) (mine : ℕ → Bool) (n : ℕ) (before : Registry V) (step : Step V) (after : Registry V) → names i step ≡ true → IsMine i mine before.registrations.owners → IsClaimed mine (step_exchanges i step) → (before.next ≤ i → n ≡ i) → Steps begins before step after → OwnStep i mine n before step after
   own_step i mine n before (Joined value id exchanges calls held) after named m claimed joins h =
       subst (λ k. Steps begins before (Joined value k exchanges calls held) after → OwnStep i mine n before (Joined value k exchanges calls held) after) (sym (eqb-true id i named))
       (own_joined i mine n before after value exchanges calls held m (claims_of mine exchanges (id == i) named claimed) joins) h
@@ -144,26 +144,26 @@ module _ {V : Type 0} (begins : V → Exchanges → V → Type 0) where
   -- a step of a neighbour's
   pub record OtherStep (i : ℕ) (mine : ℕ → Bool) (before after : Registry V) : Type 0 where
     pub same : (n : ℕ) → projected_registry i n after ≡ projected_registry i n before
-    pub still : IsMine i mine after.registrations.owner
+    pub still : IsMine i mine after.registrations.owners
     pub later : before.next ≤ after.next
 
-  other_same : (i : ℕ) (mine : ℕ → Bool) (before after : Registry V) → IsMine i mine before.registrations.owner → after ≡ before → OtherStep i mine before after
+  other_same : (i : ℕ) (mine : ℕ → Bool) (before after : Registry V) → IsMine i mine before.registrations.owners → after ≡ before → OtherStep i mine before after
   other_same i mine before after m e = record {
     same = λ n. ap (projected_registry i n) e;
-    still = subst (λ (r : Registry V). IsMine i mine r.registrations.owner) (sym e) m;
+    still = subst (λ (r : Registry V). IsMine i mine r.registrations.owners) (sym e) m;
     later = le_of_eq (sym (ap (λ (r : Registry V). r.next) e));
   }
 
   made : (j : ℕ) (exchanges : Exchanges) (fd : ℕ) → adds fd exchanges ≡ true → adds fd (if j == j then exchanges else []) ≡ true
   made j exchanges fd t = ap (λ b. adds fd (if b then exchanges else [])) (eq-eqb j j refl) ∙ t
 
-  pub other_step : (i : ℕ) (mine : ℕ → Bool) (before : Registry V) (step : Step V) (after : Registry V) → names i step ≡ false → IsMine i mine before.registrations.owner → ((fd : ℕ) (j : ℕ) → j ≢ i → adds fd (step_exchanges j step) ≡ true → mine fd ≡ false) → Steps begins before step after → OtherStep i mine before after
+  pub other_step : (i : ℕ) (mine : ℕ → Bool) (before : Registry V) (step : Step V) (after : Registry V) → names i step ≡ false → IsMine i mine before.registrations.owners → ((fd : ℕ) (j : ℕ) → j ≢ i → adds fd (step_exchanges j step) ≡ true → mine fd ≡ false) → Steps begins before step after → OtherStep i mine before after
   other_step i mine before (Joined value id exchanges calls held) after named m foreign (registrations, capacity, is, fits, beg, e) =
       let differ : id ≢ i = λ s. true≢false (sym (eq-eqb id i s) ∙ named) in
       let t = other_exchanges i id mine before.registrations exchanges calls registrations differ m (λ fd a. foreign fd id differ (made id exchanges fd a)) fits in
       record {
         same = λ n. ap (projected_registry i n) e ∙ (λ k. projected_of i n (only_outcome-insert_other i id before.values held differ k) (t.same [] k));
-        still = subst (λ (r : Registry V). IsMine i mine r.registrations.owner) (sym e) t.still;
+        still = subst (λ (r : Registry V). IsMine i mine r.registrations.owners) (sym e) t.still;
         later = let grown : after.next ≡ before.next + 1 = ap (λ (r : Registry V). r.next) e in omega arith;
       }
   other_step i mine before (NotJoined value error) after named m foreign h = other_same i mine before after m h.1
@@ -171,12 +171,11 @@ module _ {V : Type 0} (begins : V → Exchanges → V → Type 0) where
       let differ : id ≢ i = λ s. true≢false (sym (eq-eqb id i s) ∙ named) in
       record {
         same = λ n. ap (projected_registry i n) e ∙ (λ k. projected_of i n (only_outcome-remove_other i id before.values differ k) (record {
-          owner = owned_by-disowned_other i id before.registrations.owner before.registrations.owner differ k;
-          priority = owned_by-disowned_other i id before.registrations.owner before.registrations.priority differ k;
+          owners = owned_by-disowned_other i before.registrations.owners id differ k;
           endpoint = before.registrations.endpoint;
           pending = [];
         }));
-        still = subst (λ (r : Registry V). IsMine i mine r.registrations.owner) (sym e) (mine-without_owner i id mine before.registrations.owner m);
+        still = subst (λ (r : Registry V). IsMine i mine r.registrations.owners) (sym e) (mine-without_owner i id mine before.registrations.owners m);
         later = le_of_eq (sym (ap (λ (r : Registry V). r.next) e));
       }
   other_step i mine before (NotLeft id) after named m foreign h = other_same i mine before after m h.1
@@ -184,7 +183,7 @@ module _ {V : Type 0} (begins : V → Exchanges → V → Type 0) where
       let differ : id ≢ i = λ s. true≢false (sym (eq-eqb id i s) ∙ named) in
       record {
         same = λ n. ap (projected_registry i n) e ∙ (λ k. projected_of i n (only_outcome-insert_other i id before.values new differ k) (projected_registrations i [] before.registrations));
-        still = subst (λ (r : Registry V). IsMine i mine r.registrations.owner) (sym e) m;
+        still = subst (λ (r : Registry V). IsMine i mine r.registrations.owners) (sym e) m;
         later = le_of_eq (sym (ap (λ (r : Registry V). r.next) e));
       }
   other_step i mine before (NotReplaced id) after named m foreign h = other_same i mine before after m h.1
@@ -193,7 +192,7 @@ module _ {V : Type 0} (begins : V → Exchanges → V → Type 0) where
       let t = other_exchanges i id mine before.registrations exchanges calls registrations differ m (λ fd a. foreign fd id differ (made id exchanges fd a)) fits in
       record {
         same = λ n. ap (projected_registry i n) e ∙ (λ k. projected_of i n (only_values i before.values) (t.same [] k));
-        still = subst (λ (r : Registry V). IsMine i mine r.registrations.owner) (sym e) t.still;
+        still = subst (λ (r : Registry V). IsMine i mine r.registrations.owners) (sym e) t.still;
         later = le_of_eq (sym (ap (λ (r : Registry V). r.next) e));
       }
   other_step i mine before (NotRequested id) after named m foreign h = other_same i mine before after m h.1

@@ -1,12 +1,10 @@
 -- The projection of a trace is a trace: non-interference.
-use Rattle.std.proofs.Common.{◌≡◌, ◌≢◌, ℕ, ◌+◌, ◌≤◌, Bool, true, false, ◌||◌, refl, sym, ◌∙◌, ap, subst, Some, None, Option, ◌⊎◌, inl, inr, List, [], ◌∷◌, cond, true≢false, if◌then◌else◌, eq-eqb, eqb-true, le-ltb, le_of_eq, arith, Ok, Err, Result}
-use Rattle.std.specs.FinMap.{get}
+use Rattle.std.proofs.Common.{◌≡◌, ◌≢◌, ℕ, ◌+◌, ◌≤◌, Bool, true, false, ◌||◌, refl, sym, ◌∙◌, ap, subst, Some, None, Option, ◌⊎◌, inl, inr, List, [], ◌∷◌, true≢false, if◌then◌else◌, eq-eqb, eqb-true, le-ltb, le_of_eq, arith, Ok, Err, Result}
 use Rattle.std.specs.Bool.{MatchBool}
-use Rattle.std.proofs.lemmas.Bool.Decides.{eqb_tells}
 use Rattle.dispatch_tables.specs.Event.{Event}
 use Rattle.event_loop.specs.Exchange.{Exchanges}
 use Rattle.event_loop.specs.Registrations.{Registrations, Owns}
-use Rattle.dispatch_tables.specs.ClassOrder.{class_by}
+use Rattle.dispatch_tables.specs.Ownership.{class_by, owner_of}
 use Rattle.event_loop.specs.DispatchOrder.{class_of, IsDispatchOrder}
 use Rattle.event_loop.specs.Registry.{Step, is_id}
 use Rattle.event_loop.specs.Dispatch.{Position, events_of}
@@ -14,21 +12,14 @@ use Rattle.event_loop.specs.Iteration.{ManagerState, JobRun, IsAfterWait, AreRun
 use Rattle.event_manager.specs.Trace.{Effect, Stepped, Iterated, Entry, Matches, HasEffect, IsTrace}
 use Rattle.event_manager.specs.Projection.{projected_registrations, projected_registry, projected_state, AreProjected, positions_exchanges, effect_exchanges, exchanges_in, asks_to_add, adds, stays, names, IsProjectedEffect, IsProjection, projected_next, NonInterference}
 use Rattle.vmm_sys.specs.declared.errno.Errno.{Errno}
-use Rattle.event_manager.proofs.ProjectedExchanges.{IsMine, calls_first, calls_then, adds_first, adds_then, or_left, or_right}
+use Rattle.event_manager.proofs.ProjectedExchanges.{IsMine, same_at_mine, calls_first, calls_then, adds_first, adds_then, or_left, or_right}
 use Rattle.event_manager.proofs.ProjectedSteps.{own_step, other_step}
 use Rattle.dispatch_tables.proofs.DispatchOrders.{by_class, ordered_by_class, one_order_of_mine}
-use Rattle.event_manager.proofs.FiniteMaps.{get-owned_by}
 use Rattle.event_manager.proofs.ProjectedDispatch.{projected_dispatch, foreign_positions, weave, woven_projected}
 
 -- at a descriptor of i's, i's own registrations give the class that all give
-class_answer : (i : ℕ) (o p : Option ℕ) → ((j : ℕ) → j ≢ i → o ≡ Some j → ⊥) → class_by (cond (is_id i o) o None) (cond (is_id i o) p None) ≡ class_by o p
-class_answer i None p alien = refl
-class_answer i (Some j) p alien = elim (eqb_tells j i) [ inl t ↦ ap (λ b. class_by (cond b (Some j) None) (cond b p None)) t.0 | inr t ↦ absurd (alien j t.1 refl) ]
-
-own_class : (i : ℕ) (mine : ℕ → Bool) (pending : List Event) (registrations : Registrations) → IsMine i mine registrations.owner → (fd : ℕ) → mine fd ≡ true → class_of (projected_registrations i pending registrations) fd ≡ class_of registrations fd
-own_class i mine pending registrations m fd e =
-    (λ k. class_by (get-owned_by i registrations.owner registrations.owner fd k) (get-owned_by i registrations.owner registrations.priority fd k))
-    ∙ class_answer i (get registrations.owner fd) (get registrations.priority fd) (λ j differ held. true≢false (sym e ∙ m.other fd j differ held))
+own_class : (i : ℕ) (mine : ℕ → Bool) (pending : List Event) (registrations : Registrations) → IsMine i mine registrations.owners → (fd : ℕ) → mine fd ≡ true → class_of (projected_registrations i pending registrations) fd ≡ class_of registrations fd
+own_class i mine pending registrations m fd e = ap class_by (same_at_mine i mine registrations.owners fd m e)
 
 module _ {V J R : Type 0} (begins : V → Exchanges → V → Type 0) (serves : V → Event → Exchanges → V → Type 0) (may : J → List (Step V) → R → Type 0) where
   -- jobs are counted
@@ -64,15 +55,15 @@ module _ {V J R : Type 0} (begins : V → Exchanges → V → Type 0) (serves : 
       shown : List (Position V)
       projected : AreProjected i positions shown
       fits : IsAfterWait begins serves may (projected_state i n before) waited shown jobs (projected_state i n after)
-      still : IsMine i mine after.registry.registrations.owner
+      still : IsMine i mine after.registry.registrations.owners
       next : after.registry.next ≡ before.registry.next
 
-    wait_projected : (n : ℕ) (before : ManagerState V) (waited : Result (List Event) Errno) (positions : List (Position V)) (jobs : List (JobRun V J R)) (after : ManagerState V) → after.taken ≡ before.taken → IsMine i mine before.registry.registrations.owner → IsClaimed (positions_exchanges i positions) → Apart (λ j. positions_exchanges j positions) → IsAfterWait begins serves may before waited positions jobs after → TurnAlone n before waited positions jobs after
+    wait_projected : (n : ℕ) (before : ManagerState V) (waited : Result (List Event) Errno) (positions : List (Position V)) (jobs : List (JobRun V J R)) (after : ManagerState V) → after.taken ≡ before.taken → IsMine i mine before.registry.registrations.owners → IsClaimed (positions_exchanges i positions) → Apart (λ j. positions_exchanges j positions) → IsAfterWait begins serves may before waited positions jobs after → TurnAlone n before waited positions jobs after
     wait_projected n before (Err errno) positions jobs after same m claimed apart (no_positions, none, is) = record {
       shown = [];
       projected = subst (λ ps. AreProjected i ps []) (sym no_positions) (record { same = refl; only = tt });
       fits = (refl, none, ap (projected_state i n) is);
-      still = subst (λ (s : ManagerState V). IsMine i mine s.registry.registrations.owner) (sym is) m;
+      still = subst (λ (s : ManagerState V). IsMine i mine s.registry.registrations.owners) (sym is) m;
       next = ap (λ (s : ManagerState V). s.registry.next) is;
     }
     wait_projected n before (Ok report) positions jobs after same m claimed apart (mid, dispatch, none, job_run) =
@@ -92,7 +83,7 @@ module _ {V J R : Type 0} (begins : V → Exchanges → V → Type 0) (serves : 
             none,
             subst (λ js. AreRun begins serves may (record (projected_state i n before) { registry = projected_registry i n mid }) js (projected_state i n after)) (sym idle.0) (ap (projected_state i n) idle.1),
           );
-          still = subst (λ (s : ManagerState V). IsMine i mine s.registry.registrations.owner) (sym idle.1) d.still;
+          still = subst (λ (s : ManagerState V). IsMine i mine s.registry.registrations.owners) (sym idle.1) d.still;
           next = ap (λ (s : ManagerState V). s.registry.next) idle.1 ∙ d.next;
         }
 
@@ -102,15 +93,15 @@ module _ {V J R : Type 0} (begins : V → Exchanges → V → Type 0) (serves : 
       shown : Effect V J R
       projected : IsProjectedEffect i effect shown
       has_effect : HasEffect begins serves may (projected_state i n before) shown (projected_state i next after)
-      still : IsMine i mine after.registry.registrations.owner
+      still : IsMine i mine after.registry.registrations.owners
       joins : after.registry.next ≤ i → next ≡ i
 
     record Dropped (n : ℕ) (before after : ManagerState V) : Type 0 where
       same : projected_state i n after ≡ projected_state i n before
-      still : IsMine i mine after.registry.registrations.owner
+      still : IsMine i mine after.registry.registrations.owners
       joins : after.registry.next ≤ i → n ≡ i
 
-    effect_projected : (n : ℕ) (before : ManagerState V) (effect : Effect V J R) (after : ManagerState V) → after.taken ≡ before.taken → IsMine i mine before.registry.registrations.owner → IsClaimed (effect_exchanges i effect) → Apart (λ j. effect_exchanges j effect) → (before.registry.next ≤ i → n ≡ i) → HasEffect begins serves may before effect after → ((stays i effect ≡ true) × Kept n before effect after) ⊎ ((stays i effect ≡ false) × Dropped n before after)
+    effect_projected : (n : ℕ) (before : ManagerState V) (effect : Effect V J R) (after : ManagerState V) → after.taken ≡ before.taken → IsMine i mine before.registry.registrations.owners → IsClaimed (effect_exchanges i effect) → Apart (λ j. effect_exchanges j effect) → (before.registry.next ≤ i → n ≡ i) → HasEffect begins serves may before effect after → ((stays i effect ≡ true) × Kept n before effect after) ⊎ ((stays i effect ≡ false) × Dropped n before after)
     effect_projected n before (Iterated iteration) after same m claimed apart joins h =
         let t = wait_projected n before iteration.waited iteration.positions iteration.jobs after same m claimed apart h in
         inl (refl, record { next = n; shown = Iterated (record iteration { positions = t.shown }); projected = (t.shown, t.projected, refl); has_effect = t.fits; still = t.still; joins = λ le. joins (subst (λ k. k ≤ i) t.next le) })
@@ -125,7 +116,7 @@ module _ {V J R : Type 0} (begins : V → Exchanges → V → Type 0) (serves : 
     matches_projected (Stepped step) shown c r is h = subst (λ s. Matches s c r) (sym is) h
     matches_projected (Iterated iteration) shown c r (positions, are, is) h = subst (λ s. Matches s c r) (sym is) h
 
-    pub trace_projected : (n : ℕ) (before : ManagerState V) (trace : List (Entry V J R)) (after : ManagerState V) → after.taken ≡ before.taken → IsMine i mine before.registry.registrations.owner → IsClaimed (exchanges_in i trace) → Apart (λ j. exchanges_in j trace) → (before.registry.next ≤ i → n ≡ i) → IsTrace begins serves may before trace after → (next : ℕ) × (projected : List (Entry V J R)) × IsProjection i trace projected × IsTrace begins serves may (projected_state i n before) projected (projected_state i next after)
+    pub trace_projected : (n : ℕ) (before : ManagerState V) (trace : List (Entry V J R)) (after : ManagerState V) → after.taken ≡ before.taken → IsMine i mine before.registry.registrations.owners → IsClaimed (exchanges_in i trace) → Apart (λ j. exchanges_in j trace) → (before.registry.next ≤ i → n ≡ i) → IsTrace begins serves may before trace after → (next : ℕ) × (projected : List (Entry V J R)) × IsProjection i trace projected × IsTrace begins serves may (projected_state i n before) projected (projected_state i next after)
     trace_projected n before [] after same m claimed apart joins is = (n, [], refl, ap (projected_state i n) is)
     trace_projected n before (entry ∷ trace) after same m claimed apart joins (mid, made, has_effect, more) =
         let a = does_grow before entry.effect mid has_effect in
@@ -171,8 +162,8 @@ module _ {V J R : Type 0} (begins : V → Exchanges → V → Type 0) (serves : 
 
   pub non_interference : (before : ManagerState V) (trace : List (Entry V J R)) (after : ManagerState V) → IsTrace begins serves may before trace after → NonInterference begins serves may before trace after
   non_interference before trace after h i same apart =
-      let mine : ℕ → Bool = λ fd. is_id i (get before.registry.registrations.owner fd) || asks_to_add fd (exchanges_in i trace) in
-      let claims : (fd : ℕ) → mine fd ≡ true → Owns i before.registry.registrations fd ⊎ (asks_to_add fd (exchanges_in i trace) ≡ true) = λ fd e. elim (or_split (is_id i (get before.registry.registrations.owner fd)) (asks_to_add fd (exchanges_in i trace)) e) [ inl p ↦ inl (is_id_Some i _ p) | inr p ↦ inr p ] in
+      let mine : ℕ → Bool = λ fd. is_id i (owner_of before.registry.registrations.owners fd) || asks_to_add fd (exchanges_in i trace) in
+      let claims : (fd : ℕ) → mine fd ≡ true → Owns i before.registry.registrations fd ⊎ (asks_to_add fd (exchanges_in i trace) ≡ true) = λ fd e. elim (or_split (is_id i (owner_of before.registry.registrations.owners fd)) (asks_to_add fd (exchanges_in i trace)) e) [ inl p ↦ inl (is_id_Some i _ p) | inr p ↦ inr p ] in
       trace_projected i mine (projected_next i before) before trace after same
       (record {
         own = λ fd e. or_left _ _ (ap (is_id i) e ∙ eq-eqb i i refl);

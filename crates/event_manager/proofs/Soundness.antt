@@ -1,5 +1,5 @@
 -- What holds of every state that a trace reaches, and of the ids that it gives.
-use Rattle.std.proofs.Common.{IfSome, ◌≡◌, ◌≢◌, ℕ, ◌+◌, ◌<◌, ◌≤◌, ◌==◌, cond, Bool, true, false, not, refl, sym, ◌∙◌, ap, subst, Some, None, Option, ◌⊎◌, inl, inr, nat_cmp, List, [], ◌∷◌, ◌++◌, true≢false, eq-eqb, arith, Ok, Err, Result, append_assoc, lt_irrefl, is_eq, Equal}
+use Rattle.std.proofs.Common.{IfSome, ◌≡◌, ◌≢◌, ℕ, ◌+◌, ◌<◌, ◌==◌, cond, Bool, true, false, not, refl, sym, ◌∙◌, ap, subst, Some, None, Option, ◌⊎◌, inl, inr, nat_cmp, List, [], ◌∷◌, ◌++◌, true≢false, eq-eqb, arith, Ok, Err, Result, append_assoc, lt_irrefl, is_eq, Equal}
 use Rattle.std.specs.FinMap.{FinMap, get, insert, remove, get-insert, get-remove, get-empty, empty}
 use Rattle.std.specs.Cmp.{nat_cmp_total, nat_cmp_is}
 use Rattle.std.specs.Ordering.{eq_by_cmp}
@@ -8,80 +8,59 @@ use Rattle.dispatch_tables.specs.Event.{Event}
 use Rattle.event_loop.specs.Registrations.{Registrations, Owns, IsFree}
 use Rattle.event_loop.specs.PollerCall.{PollerCall}
 use Rattle.event_loop.specs.Exchange.{Answer, Exchanges, Fits, by_manager, by_poller, by_agreement, ExchangesFit, ReachesPoller, entered, registrations_after}
-use Rattle.event_loop.specs.Registry.{acts_on, removed_by, Registry, Step, Joined, NotJoined, Left, NotLeft, Replaced, NotReplaced, Requested, NotRequested, Steps, is_id, without_owner, left_by, HasId, LacksId, AreBelow}
+use Rattle.event_loop.specs.Registry.{acts_on, removed_by, Registry, Step, Joined, NotJoined, Left, NotLeft, Replaced, NotReplaced, Requested, NotRequested, Steps, is_id, without_owner, HasId, LacksId, AreBelow}
 use Rattle.event_loop.specs.Dispatch.{Outcome, Nobody, To, Position, IsOutcome, AreDispatched, still_pending, events_of}
 use Rattle.event_loop.specs.Iteration.{ManagerState, JobRun, IsAfterWait, AreRun, AllSteps}
 use Rattle.event_manager.specs.Trace.{Effect, Stepped, Iterated, Entry, HasEffect, IsTrace, new_state}
-use Rattle.event_manager.specs.Guarantees.{IsSound, HasPriority, HavePriorities, steps_of_jobs, steps_of_effect, steps_of, AreGiven, AreRefusedTo, RemovedStayGone}
+use Rattle.event_manager.specs.Guarantees.{IsSound, steps_of_jobs, steps_of_effect, steps_of, AreGiven, AreRefusedTo, RemovedStayGone}
 use Rattle.vmm_sys.specs.declared.errno.Errno.{Errno}
 use Rattle.event_loop.specs.declared.events.Request.{Request}
 use Rattle.event_loop.specs.declared.events.Request.TheVariants.{Add, AddWithPriority, Modify, Remove}
-use Rattle.dispatch_tables.specs.Priority.{number_of}
+use Rattle.dispatch_tables.specs.Ownership.{Ownership, OwnerMap, owner_id, owner_of}
+use Rattle.dispatch_tables.specs.declared.priority.Priority.{Priority}
+use Rattle.dispatch_tables.specs.declared.priority.Priority.TheVariants.{Lowest}
 use Rattle.dispatch_tables.proofs.NumberTests.{fd_tells}
-use Rattle.event_loop.proofs.WithoutOwner.{get-without_owner}
+use Rattle.event_loop.proofs.WithoutOwner.{get-without_owner, owner_of-without_owner}
 use Rattle.event_manager.proofs.ProjectedSteps.{from_disowned}
-use Rattle.dispatch_tables.proofs.ClassEntries.{at_most_3}
+use Rattle.dispatch_tables.proofs.Owning.{from_insert, from_remove}
 use Rattle.event_manager.proofs.HeldIds.{removed_value, below_insert, below_joined, below_removed}
 use Rattle.event_manager.proofs.Isolation.{insert_other_value, remove_other_value}
-
--- a priority stays with its owner
-HasPriority-at : (o p : Option ℕ) (a b : Option ℕ) → a ≡ o → b ≡ p → HasPriority o p → HasPriority a b
-HasPriority-at o p a b same alike h = subst (λ x. HasPriority x b) (sym same) (subst (λ x. HasPriority o x) (sym alike) h)
-
-given_priority : (i n : ℕ) (o p : Option ℕ) (b : Bool) → n ≤ 3 → HasPriority o p → HasPriority (cond b (Some i) o) (cond b (Some n) p)
-given_priority i n o p true le h = (n, refl, le)
-given_priority i n o p false le h = h
-
-taken_priority : (o p : Option ℕ) (b : Bool) → HasPriority o p → HasPriority (cond b None o) (cond b None p)
-taken_priority o p true h = refl
-taken_priority o p false h = h
-
-left_priority : (o p : Option ℕ) (b : Bool) → HasPriority o p → HasPriority (cond b o None) (cond b p None)
-left_priority o p true h = h
-left_priority o p false h = refl
 
 -- what the exchanges of id i do to the owners
 record OwnersAfter (i : ℕ) (before after : Registrations) : Type 0 where
   from : (fd : ℕ) (j : ℕ) → Owns j after fd → Owns j before fd ⊎ (j ≡ i)
   endpoint_free : IsFree before before.endpoint → IsFree after after.endpoint
-  priorities : HavePriorities before → HavePriorities after
 
 owners_same : (i : ℕ) (registrations : Registrations) → OwnersAfter i registrations registrations
-owners_same i registrations = record { from = λ fd j h. inl h; endpoint_free = λ h. h; priorities = λ h. h }
+owners_same i registrations = record { from = λ fd j h. inl h; endpoint_free = λ h. h }
 
 owners_then : (i : ℕ) (a b c : Registrations) → OwnersAfter i a b → OwnersAfter i b c → OwnersAfter i a c
-owners_then i a b c h k = record { from = λ fd j o. elim (k.from fd j o) [ inl p ↦ h.from fd j p | inr p ↦ inr p ]; endpoint_free = λ f. k.endpoint_free (h.endpoint_free f); priorities = λ p. k.priorities (h.priorities p) }
+owners_then i a b c h k = record { from = λ fd j o. elim (k.from fd j o) [ inl p ↦ h.from fd j p | inr p ↦ inr p ]; endpoint_free = λ f. k.endpoint_free (h.endpoint_free f) }
 
-some_same : (i j : ℕ) → ◌≡◌ {A = Option ℕ} (Some i) (Some j) → j ≡ i
-some_same i j e = cc
+owners_entered : (i : ℕ) (priority : Priority) (registrations : Registrations) (e : Event) → ¬ (e.fd ≡ registrations.endpoint) → OwnersAfter i registrations (entered i e priority registrations)
+owners_entered i priority registrations e apart =
+    let one : Ownership = record { id = i; priority = priority } in
+    record {
+      from = λ fd j o. elim (from_insert registrations.owners e.fd one fd j o) [ inl t ↦ inr (sym t.1) | inr t ↦ inl t ];
+      endpoint_free = λ f. elim (fd_tells registrations.endpoint e.fd) [
+        | inl t ↦ absurd (apart (sym t.1))
+        | inr t ↦ get-insert nat_cmp_total registrations.owners e.fd one registrations.endpoint ∙ ap (λ b. cond b (Some one) (get registrations.owners registrations.endpoint)) t.0 ∙ f
+      ];
+    }
 
-owners_entered : (i number : ℕ) (registrations : Registrations) (e : Event) → number ≤ 3 → ¬ (e.fd ≡ registrations.endpoint) → OwnersAfter i registrations (entered i e number registrations)
-owners_entered i number registrations e le apart = record {
-  from = λ fd j o. elim (fd_tells fd e.fd) [
-    | inl t ↦ inr (some_same i j (sym (get-insert nat_cmp_total registrations.owner e.fd i fd ∙ ap (λ b. cond b (Some i) (get registrations.owner fd)) t.0) ∙ o))
-    | inr t ↦ inl (sym (get-insert nat_cmp_total registrations.owner e.fd i fd ∙ ap (λ b. cond b (Some i) (get registrations.owner fd)) t.0) ∙ o)
-  ];
-  endpoint_free = λ f. elim (fd_tells registrations.endpoint e.fd) [
-    | inl t ↦ absurd (apart (sym t.1))
-    | inr t ↦ get-insert nat_cmp_total registrations.owner e.fd i registrations.endpoint ∙ ap (λ b. cond b (Some i) (get registrations.owner registrations.endpoint)) t.0 ∙ f
-  ];
-  priorities = λ h fd. HasPriority-at _ _ _ _ (get-insert nat_cmp_total registrations.owner e.fd i fd) (get-insert nat_cmp_total registrations.priority e.fd number fd) (given_priority i number (get registrations.owner fd) (get registrations.priority fd) (eq_by_cmp nat_cmp fd e.fd) le (h fd));
-}
+both_none : {A : Type 0} (b : Bool) → cond {A = Option A} b None None ≡ None
+both_none true = refl
+both_none false = refl
 
 owners_after : (i : ℕ) (registrations : Registrations) (request : Request) → ReachesPoller i registrations request → OwnersAfter i registrations (registrations_after i request registrations)
-owners_after i registrations (Add e) h = owners_entered i 0 registrations e (omega arith) h.1
-owners_after i registrations (AddWithPriority e priority) h = owners_entered i (number_of priority) registrations e (at_most_3 priority) h.1
+owners_after i registrations (Add e) h = owners_entered i Lowest registrations e h.1
+owners_after i registrations (AddWithPriority e priority) h = owners_entered i priority registrations e h.1
 owners_after i registrations (Modify e) h = owners_same i registrations
 owners_after i registrations (Remove e) h = record {
-  from = λ fd j o. elim (fd_tells fd e.fd) [
-    | inl t ↦ let s : None ≡ Some j = sym (get-remove nat_cmp_total registrations.owner e.fd fd ∙ ap (λ b. cond b None (get registrations.owner fd)) t.0) ∙ o in cc
-    | inr t ↦ inl (sym (get-remove nat_cmp_total registrations.owner e.fd fd ∙ ap (λ b. cond b None (get registrations.owner fd)) t.0) ∙ o)
-  ];
-  endpoint_free = λ f. elim (fd_tells registrations.endpoint e.fd) [
-    | inl t ↦ get-remove nat_cmp_total registrations.owner e.fd registrations.endpoint ∙ ap (λ b. cond b None (get registrations.owner registrations.endpoint)) t.0
-    | inr t ↦ get-remove nat_cmp_total registrations.owner e.fd registrations.endpoint ∙ ap (λ b. cond b None (get registrations.owner registrations.endpoint)) t.0 ∙ f
-  ];
-  priorities = λ h fd. HasPriority-at _ _ _ _ (get-remove nat_cmp_total registrations.owner e.fd fd) (get-remove nat_cmp_total registrations.priority e.fd fd) (taken_priority (get registrations.owner fd) (get registrations.priority fd) (eq_by_cmp nat_cmp fd e.fd) (h fd));
+  from = λ fd j o. inl (from_remove registrations.owners e.fd fd j o);
+  endpoint_free = λ f.
+      get-remove nat_cmp_total registrations.owners e.fd registrations.endpoint ∙ ap (λ o. cond (eq_by_cmp nat_cmp registrations.endpoint e.fd) None o) f
+      ∙ both_none (eq_by_cmp nat_cmp registrations.endpoint e.fd);
 }
 
 owners_fit : (i : ℕ) (registrations : Registrations) (request : Request) (answer : Answer) (calls : List PollerCall) (after : Registrations) → Fits i registrations request answer calls after → OwnersAfter i registrations after
@@ -102,16 +81,11 @@ gone_answer i (Some j) = elim (j == i) as (λ b. is_id i (cond (not b) (Some j) 
     ends true = refl
     ends false = refl
 
-gone : (i : ℕ) (owner : FinMap nat_cmp ℕ) (fd : ℕ) → is_id i (get (without_owner i owner owner) fd) ≡ false
-gone i owner fd = ap (is_id i) (get-without_owner i owner owner fd) ∙ gone_answer i (get owner fd)
+gone : (i : ℕ) (owners : OwnerMap) (fd : ℕ) → is_id i (owner_of (without_owner i owners) fd) ≡ false
+gone i owners fd = ap (is_id i) (owner_of-without_owner i owners fd) ∙ gone_answer i (owner_of owners fd)
 
-still_free : (i : ℕ) (o : Option ℕ) → o ≡ None → cond (not (is_id i o)) o None ≡ None
+still_free : (i : ℕ) (o : Option Ownership) → o ≡ None → cond (not (is_id i (owner_id o))) o None ≡ None
 still_free i o e = rw e refl
-
-left_priorities : (id : ℕ) (registrations : Registrations) → HavePriorities registrations → HavePriorities (left_by id registrations)
-left_priorities id registrations h fd =
-    HasPriority-at _ _ _ _ (get-without_owner id registrations.owner registrations.owner fd) (get-without_owner id registrations.owner registrations.priority fd)
-    (left_priority (get registrations.owner fd) (get registrations.priority fd) (not (is_id id (get registrations.owner fd))) (h fd))
 
 module _ {V : Type 0} where
   -- values
@@ -138,12 +112,12 @@ module _ {V : Type 0} where
   sound_at before made e s = subst (λ (r : Registry V). IsSound r) (sym e) s
 
   -- an id in the map has exchanges, and holds a value after them
-  sound_exchanges : (before : Registry V) (i next : ℕ) (held : V) (exchanges : Exchanges) (calls : List PollerCall) (from registrations : Registrations) → IsSound before → from.owner ≡ before.registrations.owner → from.endpoint ≡ before.registrations.endpoint → ExchangesFit i from exchanges calls registrations → IsSound (record { values = insert before.values i held; next = next; registrations = registrations })
+  sound_exchanges : (before : Registry V) (i next : ℕ) (held : V) (exchanges : Exchanges) (calls : List PollerCall) (from registrations : Registrations) → IsSound before → from.owners ≡ before.registrations.owners → from.endpoint ≡ before.registrations.endpoint → ExchangesFit i from exchanges calls registrations → IsSound (record { values = insert before.values i held; next = next; registrations = registrations })
   sound_exchanges before i next held exchanges calls from registrations s same same_end fits =
       let o = owners_exchanges i from exchanges calls registrations fits in
       record {
         owners = λ fd j h. elim (o.from fd j h) [
-          | inl p ↦ let v = s.owners fd j (ap (λ (w : FinMap nat_cmp ℕ). get w fd) (sym same) ∙ p) in has_insert j i before.values v.0 held v.1
+          | inl p ↦ let v = s.owners fd j (ap (λ w. owner_of w fd) (sym same) ∙ p) in has_insert j i before.values v.0 held v.1
           | inr p ↦ (held, ap (get (insert before.values i held)) p ∙ inserted_value i before.values held)
         ];
         endpoint_free = o.endpoint_free ((λ k. get (same k) (same_end k)) ∙ s.endpoint_free);
@@ -155,10 +129,10 @@ module _ {V : Type 0} where
   sound_step begins before (NotJoined value error) after s h = sound_at after before h.1 s
   sound_step begins before (Left id value calls) after s (fds, has, is_owner, deletes, e) = sound_at after _ e (record {
     owners = λ fd j h.
-        let o = from_disowned id before.registrations.owner fd j h in
-        let differ : j ≢ id = λ t. true≢false (sym (ap (is_id id) h ∙ ap (λ k. k == id) t ∙ eq-eqb id id refl) ∙ gone id before.registrations.owner fd) in
+        let o = from_disowned id before.registrations.owners fd j h in
+        let differ : j ≢ id = λ t. true≢false (sym (ap (is_id id) h ∙ ap (λ k. k == id) t ∙ eq-eqb id id refl) ∙ gone id before.registrations.owners fd) in
         let v = s.owners fd j o in (v.0, remove_other_value id j before.values differ ∙ v.1);
-    endpoint_free = get-without_owner id before.registrations.owner before.registrations.owner before.registrations.endpoint ∙ still_free id (get before.registrations.owner before.registrations.endpoint) s.endpoint_free;
+    endpoint_free = get-without_owner id before.registrations.owners before.registrations.endpoint ∙ still_free id (get before.registrations.owners before.registrations.endpoint) s.endpoint_free;
   })
   sound_step begins before (NotLeft id) after s h = sound_at after before h.1 s
   sound_step begins before (Replaced id old new) after s (has, e) = sound_at after _ e (record {
@@ -205,30 +179,6 @@ module _ {V : Type 0} where
   below_positions : (serves : V → Event → Exchanges → V → Type 0) (before : Registry V) (earlier positions : List (Position V)) (after : Registry V) → AreBelow before.next before.values → AreDispatched serves before earlier positions after → AreBelow after.next after.values
   below_positions serves before earlier [] after h is = below_at after _ is h
   below_positions serves before earlier (d ∷ positions) after h (mid, out, more) = below_positions serves mid (earlier ++ d ∷ []) positions after (below_outcome serves before earlier d.event (events_of positions) d.outcome mid h out) more
-
-  -- priorities stay
-  priorities_at : (after made : Registry V) → after ≡ made → HavePriorities made.registrations → HavePriorities after.registrations
-  priorities_at after made e h = subst (λ (r : Registry V). HavePriorities r.registrations) (sym e) h
-
-  priorities_step : (begins : V → Exchanges → V → Type 0) (before : Registry V) (step : Step V) (after : Registry V) → HavePriorities before.registrations → Steps begins before step after → HavePriorities after.registrations
-  priorities_step begins before (Joined value id exchanges calls held) after h (registrations, capacity, is, fits, beg, e) = priorities_at after _ e ((owners_exchanges id before.registrations exchanges calls registrations fits).priorities h)
-  priorities_step begins before (NotJoined value error) after h s = priorities_at after before s.1 h
-  priorities_step begins before (Left id value calls) after h (fds, has, is_owner, deletes, e) = priorities_at after _ e (left_priorities id before.registrations h)
-  priorities_step begins before (NotLeft id) after h s = priorities_at after before s.1 h
-  priorities_step begins before (Replaced id old new) after h (has, e) = priorities_at after _ e h
-  priorities_step begins before (NotReplaced id) after h s = priorities_at after before s.1 h
-  priorities_step begins before (Requested id exchanges calls) after h (value, registrations, has, fits, e) = priorities_at after _ e ((owners_exchanges id before.registrations exchanges calls registrations fits).priorities h)
-  priorities_step begins before (NotRequested id) after h s = priorities_at after before s.1 h
-
-  priorities_outcome : (serves : V → Event → Exchanges → V → Type 0) (before : Registry V) (earlier : List (Position V)) (e : Event) (later : List Event) (outcome : Outcome V) (after : Registry V) → HavePriorities before.registrations → IsOutcome serves before earlier e later outcome after → HavePriorities after.registrations
-  priorities_outcome serves before earlier e later Nobody after h (nobody, is) = priorities_at after _ is h
-  priorities_outcome serves before earlier e later (To i exchanges calls held) after h (value, registrations, for, serving, fits, is) =
-      priorities_at after _ is ((owners_exchanges i (record before.registrations { pending = still_pending earlier later }) exchanges calls registrations fits).priorities h)
-
-  priorities_positions : (serves : V → Event → Exchanges → V → Type 0) (before : Registry V) (earlier positions : List (Position V)) (after : Registry V) → HavePriorities before.registrations → AreDispatched serves before earlier positions after → HavePriorities after.registrations
-  priorities_positions serves before earlier [] after h is = priorities_at after _ is h
-  priorities_positions serves before earlier (d ∷ positions) after h (mid, out, more) =
-      priorities_positions serves mid (earlier ++ d ∷ []) positions after (priorities_outcome serves before earlier d.event (events_of positions) d.outcome mid h out) more
 
   -- the next id
   next_outcome : (serves : V → Event → Exchanges → V → Type 0) (before : Registry V) (earlier : List (Position V)) (e : Event) (later : List Event) (outcome : Outcome V) (after : Registry V) → IsOutcome serves before earlier e later outcome after → after.next ≡ before.next
@@ -320,7 +270,6 @@ module _ {V J R : Type 0} (begins : V → Exchanges → V → Type 0) (serves : 
     pub gone : (i : ℕ) → IsGone i before → AreRefusedTo i steps × IsGone i after
     pub below : AreBelow before.next before.values → AreBelow after.next after.values
     pub removed : AreBelow before.next before.values → RemovedStayGone steps
-    pub prioritised : HavePriorities before.registrations → HavePriorities after.registrations
 
   follows_none : (before after : Registry V) → after ≡ before → Follows before [] after
   follows_none before after e = record {
@@ -329,7 +278,6 @@ module _ {V J R : Type 0} (begins : V → Exchanges → V → Type 0) (serves : 
     gone = λ i g. (tt, gone_at i after before e g);
     below = below_at after before e;
     removed = λ h. tt;
-    prioritised = priorities_at after before e;
   }
 
   -- one step first
@@ -340,7 +288,6 @@ module _ {V J R : Type 0} (begins : V → Exchanges → V → Type 0) (serves : 
     gone = λ i g. let a = gone_step begins i before step mid g h in let b = k.gone i a.1 in ((a.0, b.0), b.1);
     below = λ b. k.below (below_step begins before step mid b h);
     removed = λ b. (stays_gone begins before step mid steps b h (λ i g. (k.gone i g).0), k.removed (below_step begins before step mid b h));
-    prioritised = λ p. k.prioritised (priorities_step begins before step mid p h);
   }
 
   -- what leads to any continuation
@@ -351,7 +298,6 @@ module _ {V J R : Type 0} (begins : V → Exchanges → V → Type 0) (serves : 
     gone = λ i g. k.gone i (gone_positions serves i before [] positions mid g h);
     below = λ b. k.below (below_positions serves before [] positions mid b h);
     removed = λ b. k.removed (below_positions serves before [] positions mid b h);
-    prioritised = λ p. k.prioritised (priorities_positions serves before [] positions mid p h);
   }
 
   follows_steps : (before : Registry V) (steps : List (Step V)) (mid : Registry V) (more : List (Step V)) (after : Registry V) → AllSteps begins before steps mid → Follows mid more after → Follows before (steps ++ more) after
@@ -381,12 +327,9 @@ module _ {V J R : Type 0} (begins : V → Exchanges → V → Type 0) (serves : 
 -- a new manager
 pub new_is_sound : {V : Type 0} (endpoint : ℕ) → IsSound {V = V} (new_state endpoint).registry
 new_is_sound {V} endpoint = record {
-  owners = λ fd i h. let s : None ≡ Some i = sym (get-empty nat_cmp fd) ∙ h in cc;
+  owners = λ fd i h. let s : None ≡ Some i = sym (ap owner_id (get-empty nat_cmp fd)) ∙ h in cc;
   endpoint_free = get-empty nat_cmp endpoint;
 }
 
 pub none_below : {V : Type 0} (next : ℕ) → AreBelow {V = V} next empty
 none_below {V} next i v h = let s : None ≡ Some v = sym (get-empty nat_cmp i) ∙ h in cc
-
-pub new_has_priorities : (endpoint : ℕ) → HavePriorities (record { owner = empty; priority = empty; endpoint = endpoint; pending = [] })
-new_has_priorities endpoint fd = HasPriority-at None None _ _ (get-empty nat_cmp fd) (get-empty nat_cmp fd) refl

@@ -1,6 +1,7 @@
 -- A list of calls, made one after another.
 use Rattle.std.proofs.Common.{◌≡◌, ℕ, ℤ, List, [], ◌∷◌, ◌++◌, refl, sym, ap, subst, ◌∙◌, map, append_assoc, Vec, Result, Ok, Err}
 use Rattle.std.proofs.lemmas.List.{append-nil, map-append}
+use Rattle.std.proofs.lemmas.List.Concat.{flat_map-append}
 use Rattle.std.specs.declared.alloc.Global.{Global}
 use Rattle.dispatch_tables.specs.Event.{Event}
 use Rattle.event_loop.specs.PollerCall.{Controls, Waits, Leads}
@@ -9,7 +10,8 @@ use Rattle.event_loop.specs.Registry.{Step}
 use Rattle.event_loop.specs.Iteration.{ManagerState}
 use Rattle.event_loop.specs.LoopState.{LoopState, HasStepped, IsJoin, IsLeave, IsLoopIteration, manager_state}
 use Rattle.event_manager.specs.Trace.{Effect, Stepped, Iterated, Entry, Matches, HasEffect, IsTrace, calls_of_effect, calls_of_trace}
-use Rattle.event_manager.specs.Driven.{IsAsk, IsReplacement, HasCalled, IsGuaranteed, IsTraceOf, IsDriven}
+use Rattle.event_manager.specs.SingleCall.{IsAsk, IsReplacement, HasCalled}
+use Rattle.event_manager.specs.Driven.{IsGuaranteed, IsTraceOf, IsDriven}
 use Rattle.event_loop.specs.declared.error.Error.{Error}
 use Rattle.event_loop.specs.declared.events.Request.{Request}
 use Rattle.event_manager.specs.declared.calls.Call.{Call}
@@ -56,8 +58,8 @@ module _ {S J R P : Type 0} (begins : S → Exchanges → S → Type 0) (serves 
   trace_more before mid after (first ∷ trace) entry (next, says, did, rest) matches had = (next, says, did, trace_more next mid after trace entry rest matches had)
 
   calls_more : (capacity : ℕ) (trace : List (Entry S J R)) (entry : Entry S J R) → calls_of_trace capacity (trace ++ entry ∷ []) ≡ calls_of_trace capacity trace ++ calls_of_effect capacity entry.effect
-  calls_more capacity [] entry = append-nil (calls_of_effect capacity entry.effect)
-  calls_more capacity (first ∷ trace) entry = ap (λ xs. calls_of_effect capacity first.effect ++ xs) (calls_more capacity trace entry) ∙ sym (append_assoc (calls_of_effect capacity first.effect) (calls_of_trace capacity trace) (calls_of_effect capacity entry.effect))
+  calls_more capacity trace entry =
+      flat_map-append (λ (e : Entry S J R). calls_of_effect capacity e.effect) trace (entry ∷ []) ∙ ap (λ xs. calls_of_trace capacity trace ++ xs) (append-nil (calls_of_effect capacity entry.effect))
 
   -- the calls, as far as they were made; `left` are those that are left
   pub record IsTracedSoFar (before now : LoopState S P) (calls left : List (Call S)) (old replies : List (Reply S)) : Type 0 where
@@ -94,7 +96,6 @@ module _ {S J R P : Type 0} (begins : S → Exchanges → S → Type 0) (serves 
         removed = follows.removed;
         unknown = λ below. removed_unknown begins serves may before trace after is (follows.removed below);
         sound = follows.sound;
-        priorities = follows.prioritised;
         non_interference = non_interference begins serves may before trace after is;
         projection_keeps = projection_keeps trace;
         isolated_step = λ from step onto h. isolated_step begins from step onto h;

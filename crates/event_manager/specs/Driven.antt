@@ -1,50 +1,20 @@
 -- What `drive` promises: the calls with their replies are a trace, and the guarantees hold of that trace.
-use Rattle.std.specs.Prelude.{◌≡◌, ◌≢◌, ℕ, false, List, map, vec_len, Vec, Result, Ok, Err}
-use Rattle.std.specs.declared.alloc.Global.{Global}
+use Rattle.std.specs.Prelude.{◌≡◌, ◌≢◌, ℕ, false, List, map}
 use Rattle.dispatch_tables.specs.Event.{Event}
 use Rattle.event_loop.specs.PollerCall.{PollerCall, Controls, Waits, Leads}
-use Rattle.event_loop.specs.Exchange.{Exchanges, Answer, requests_of, answers_of}
-use Rattle.event_loop.specs.Registry.{Registry, Step, Steps, AreBelow, Left, Requested, NotRequested, Replaced, NotReplaced}
+use Rattle.event_loop.specs.Exchange.{Exchanges}
+use Rattle.event_loop.specs.Registry.{Registry, Step, Steps, AreBelow, Left}
 use Rattle.event_loop.specs.Dispatch.{Position, To, IsOutcome, still_pending}
 use Rattle.event_loop.specs.Iteration.{ManagerState}
 use Rattle.event_loop.specs.LoopState.{LoopState, manager_state}
-use Rattle.event_manager.specs.Trace.{Effect, Entry, HasEffect, IsTrace, calls_of_effect, calls_of_trace}
+use Rattle.event_manager.specs.Trace.{Entry, IsTrace, calls_of_trace}
 use Rattle.event_manager.specs.Projection.{NonInterference, ProjectionKeeps, names}
-use Rattle.event_manager.specs.Guarantees.{IsSound, HavePriorities, AreGiven, RemovedStayGone, RemovedStayUnknown, IsUntouched, FreesExactly, steps_of}
-use Rattle.event_loop.specs.declared.error.Error.{Error}
-use Rattle.event_loop.specs.declared.error.Error.TheVariants.{InvalidId}
-use Rattle.event_loop.specs.declared.events.Request.{Request}
+use Rattle.event_manager.specs.Guarantees.{IsSound, AreGiven, RemovedStayGone, RemovedStayUnknown, IsUntouched, FreesExactly, steps_of}
 use Rattle.event_manager.specs.declared.calls.Call.{Call}
-use Rattle.event_manager.specs.declared.calls.Call.TheVariants.{Add, Remove, Set, Ask, Run}
 use Rattle.event_manager.specs.declared.calls.Reply.{Reply}
-
--- how many answers the reply to a call has in it
-abbrev pub answers_to : {V : Type 0} → Call V → ℕ
-answers_to (Add value) = 0
-answers_to (Remove id) = 0
-answers_to (Set id value) = 0
-answers_to (Ask id requests) = vec_len requests
-answers_to (Run ms) = 0
-
--- the step of requests in order, by what was answered
-abbrev pub IsAsk : {V : Type 0} → ℕ → List Request → Result (Vec Answer Global) Error → Step V → Type 0
-IsAsk id requests (Ok answers) step =
-    (exchanges : Exchanges) × (calls : List PollerCall) × (step ≡ Requested id exchanges calls) × (requests_of exchanges ≡ requests) × (answers_of exchanges ≡ answers.items)
-IsAsk id requests (Err error) step = (error ≡ InvalidId) × (step ≡ NotRequested id)
-
--- the step of another value, by what was answered
-abbrev pub IsReplacement : {V : Type 0} → ℕ → V → Result V Error → Step V → Type 0
-IsReplacement id value (Ok old) step = step ≡ Replaced id old value
-IsReplacement id value (Err error) step = (error ≡ InvalidId) × (step ≡ NotReplaced id)
 
 module _ {S J R : Type 0} (begins : S → Exchanges → S → Type 0) (serves : S → Event → Exchanges → S → Type 0) (may : J → List (Step S) → R → Type 0) where
   module _ {P : Type 0} (controls : Controls P) (waits : Waits P) where
-    -- a call had this effect
-    pub record HasCalled (before : LoopState S P) (effect : Effect S J R) (after : LoopState S P) : Type 0 where
-      pub had : HasEffect begins serves may (manager_state before) effect (manager_state after)
-      pub led : Leads controls waits before.poller (calls_of_effect before.capacity effect) after.poller
-      pub same_capacity : after.capacity ≡ before.capacity
-
     -- the calls with their replies are this trace, and its poller calls lead the poller from the value before to the value after
     pub record IsTraceOf (before : LoopState S P) (calls : List (Call S)) (replies : List (Reply S)) (after : LoopState S P) (trace : List (Entry S J R)) : Type 0 where
       pub calls_are : map (λ entry. entry.call) trace ≡ calls
@@ -54,7 +24,7 @@ module _ {S J R : Type 0} (begins : S → Exchanges → S → Type 0) (serves : 
       pub same_capacity : after.capacity ≡ before.capacity
 
   -- Of a trace: ids are given in order, each once; where each held id is below the next, that stays, and what was removed is refused from then on, as the replies alone say
-  -- too; each owner is held, and the endpoint is never owned; each owned descriptor has a priority; a projection to an id that is apart is itself a trace, with the same
+  -- too; each owner is held, and the endpoint is never owned; a projection to an id that is apart is itself a trace, with the same
   -- replies, deliveries and values. Of each step and delivery in it: the other ids keep their value, descriptors and pending events; a leave frees exactly its descriptors.
   pub record IsGuaranteed (before : ManagerState S) (trace : List (Entry S J R)) (after : ManagerState S) : Type 0 where
     pub given : AreGiven before.registry.next (steps_of trace) after.registry.next
@@ -62,7 +32,6 @@ module _ {S J R : Type 0} (begins : S → Exchanges → S → Type 0) (serves : 
     pub removed : AreBelow before.registry.next before.registry.values → RemovedStayGone (steps_of trace)
     pub unknown : AreBelow before.registry.next before.registry.values → RemovedStayUnknown (map (λ entry. entry.call) trace) (map (λ entry. entry.reply) trace)
     pub sound : IsSound before.registry → IsSound after.registry
-    pub priorities : HavePriorities before.registry.registrations → HavePriorities after.registry.registrations
     pub non_interference : NonInterference begins serves may before trace after
     pub projection_keeps : ProjectionKeeps trace
     pub isolated_step : (from : Registry S) (step : Step S) (onto : Registry S) → Steps begins from step onto → (j : ℕ) → names j step ≡ false → IsUntouched j from onto

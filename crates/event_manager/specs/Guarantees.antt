@@ -1,13 +1,15 @@
 -- What users rely on, of every trace.
-use Rattle.std.specs.Prelude.{◌≡◌, ◌≢◌, ℕ, ◌+◌, ◌≤◌, List, [], ◌∷◌, ◌++◌, filter, ◌↔◌, Option, Some, None, IfSome, MatchOption, if◌then◌else◌, Ok, Err}
-use Rattle.std.specs.List.{AllZip}
+use Rattle.std.specs.Prelude.{◌≡◌, ◌≢◌, ℕ, ◌+◌, List, [], ◌∷◌, filter, None, IfSome, MatchOption, if◌then◌else◌, Ok, Err}
+use Rattle.std.specs.List.{AllZip, flat_map}
 use Rattle.std.specs.FinMap as map
 use Rattle.dispatch_tables.specs.Event.{Event}
+use Rattle.dispatch_tables.specs.Ownership.{owner_of}
 use Rattle.event_loop.specs.Registrations.{Registrations, Owns, IsFree}
 use Rattle.event_loop.specs.Registry.{Registry, Step, HasId, is_id, acts_on, given_by, removed_by}
 use Rattle.event_loop.specs.Iteration.{JobRun}
 use Rattle.event_loop.specs.declared.error.Error.TheVariants.{InvalidId}
 use Rattle.event_manager.specs.Trace.{Effect, Stepped, Iterated, Entry}
+use Rattle.event_manager.specs.Projection.{owned_by}
 use Rattle.event_manager.specs.declared.calls.Call.{Call}
 use Rattle.event_manager.specs.declared.calls.Call.TheVariants as call
 use Rattle.event_manager.specs.declared.calls.Reply.{Reply}
@@ -15,39 +17,28 @@ use Rattle.event_manager.specs.declared.calls.Reply.TheVariants as reply
 
 -- the pending events of id j: those on its descriptors
 abbrev pub pending_of : ℕ → Registrations → List Event
-pending_of j registrations = filter (λ e. is_id j (map.get registrations.owner e.fd)) registrations.pending
+pending_of j registrations = filter (λ e. is_id j (owner_of registrations.owners e.fd)) registrations.pending
 
--- id j has the value, the descriptors and the pending events that it had
+-- id j has the value, the descriptors at their priorities, and the pending events that it had
 abbrev pub IsUntouched : {V : Type 0} → ℕ → Registry V → Registry V → Type 0
 IsUntouched j before after =
-    (map.get after.values j ≡ map.get before.values j) × ((fd : ℕ) → Owns j after.registrations fd ↔ Owns j before.registrations fd) × (pending_of j after.registrations ≡ pending_of j before.registrations)
+    (map.get after.values j ≡ map.get before.values j) × (owned_by j after.registrations.owners ≡ owned_by j before.registrations.owners) × (pending_of j after.registrations ≡ pending_of j before.registrations)
 
 -- Each owner is in the map, and the endpoint's descriptor is never owned.
 pub record IsSound {V : Type 0} (registry : Registry V) : Type 0 where
   pub owners : (fd : ℕ) (i : ℕ) → Owns i registry.registrations fd → (value : V) × HasId registry i value
   pub endpoint_free : IsFree registry.registrations registry.registrations.endpoint
 
--- what a descriptor has as the number of its priority, by its owner: one up to 3; none where nobody owns it
-abbrev pub HasPriority : Option ℕ → Option ℕ → Type 0
-HasPriority None priority = priority ≡ None
-HasPriority (Some id) priority = (number : ℕ) × (priority ≡ Some number) × (number ≤ 3)
-
--- each owned descriptor has a priority, and no other one
-abbrev pub HavePriorities : Registrations → Type 0
-HavePriorities registrations = (fd : ℕ) → HasPriority (map.get registrations.owner fd) (map.get registrations.priority fd)
-
 -- all steps of a trace, those of its jobs too
 abbrev pub steps_of_jobs : {V J R : Type 0} → List (JobRun V J R) → List (Step V)
-steps_of_jobs [] = []
-steps_of_jobs (job_run ∷ jobs) = job_run.steps ++ steps_of_jobs jobs
+steps_of_jobs jobs = flat_map (λ job_run. job_run.steps) jobs
 
 abbrev pub steps_of_effect : {V J R : Type 0} → Effect V J R → List (Step V)
 steps_of_effect (Stepped step) = step ∷ []
 steps_of_effect (Iterated iteration) = steps_of_jobs iteration.jobs
 
 abbrev pub steps_of : {V J R : Type 0} → List (Entry V J R) → List (Step V)
-steps_of [] = []
-steps_of (entry ∷ trace) = steps_of_effect entry.effect ++ steps_of trace
+steps_of trace = flat_map (λ entry. steps_of_effect entry.effect) trace
 
 -- the ids that joins gave are the numbers from the first up to the last, in order, each once
 abbrev pub AreGiven : {V : Type 0} → ℕ → List (Step V) → ℕ → Type 0
@@ -79,6 +70,6 @@ RemovedStayUnknown (c ∷ calls) [] = ⊥
 RemovedStayUnknown {V} (c ∷ calls) (r ∷ replies) =
     ((id : ℕ) (value : V) → c ≡ call.Remove id → r ≡ reply.Removed (Ok value) → AllZip (IsUnknown id) calls replies) × RemovedStayUnknown calls replies
 
--- exactly the descriptors of id i became free
+-- exactly the descriptors of id i became free: the others have the owner and the priority that they had
 abbrev pub FreesExactly : ℕ → Registrations → Registrations → Type 0
-FreesExactly i before after = (fd : ℕ) → map.get after.owner fd ≡ (if is_id i (map.get before.owner fd) then None else map.get before.owner fd)
+FreesExactly i before after = (fd : ℕ) → map.get after.owners fd ≡ (if is_id i (owner_of before.owners fd) then None else map.get before.owners fd)

@@ -1,5 +1,6 @@
 pub use Rattle.dispatch_tables.specs.Event
 pub use Rattle.dispatch_tables.specs.Priority
+pub use Rattle.dispatch_tables.specs.Ownership
 pub use Rattle.dispatch_tables.specs.ClassOrder
 pub use Rattle.dispatch_tables.specs.Owners
 pub use Rattle.dispatch_tables.specs.Places
@@ -36,6 +37,7 @@ pub mod Account
 pub mod JobQueue
 pub mod Endpoint
 pub mod JobRuns
+pub mod SingleCall
 pub mod Driven
 pub use Rattle.event_loop.specs.declared.boxed_subscriber.StepInput
 pub use Rattle.event_loop.specs.declared.error.Error

@@ -1,9 +1,11 @@
 -- The projection of a trace to one id: all that belongs to other ids is taken out.
-use Rattle.std.specs.Prelude.{◌≡◌, ◌≢◌, ℕ, nat_lt, ◌==◌, Bool, true, false, ◌||◌, List, [], ◌∷◌, ◌++◌, filter, Ok, Err, IsTrue, ◌⊎◌, if◌then◌else◌}
+use Rattle.std.specs.Prelude.{◌≡◌, ◌≢◌, ℕ, nat_lt, ◌==◌, Bool, true, false, List, [], ◌∷◌, filter, Ok, Err, IsTrue, ◌⊎◌, if◌then◌else◌}
+use Rattle.std.specs.List.{list_any, flat_map}
 use Rattle.std.specs.FinMap as finite
 use Rattle.std.specs.Bool.{MatchBool}
 use Rattle.std.specs.Ordering.{nat_cmp}
 use Rattle.dispatch_tables.specs.Event.{Event}
+use Rattle.dispatch_tables.specs.Ownership.{OwnerMap, owner_of}
 use Rattle.event_loop.specs.Registrations.{Registrations, Owns}
 use Rattle.event_loop.specs.Exchange.{Exchanges, Answer}
 use Rattle.event_loop.specs.Registry.{Registry, Step, Joined, Requested, is_id, id_of}
@@ -14,21 +16,16 @@ use Rattle.event_manager.specs.declared.calls.Reply.{Reply}
 use Rattle.event_loop.specs.declared.events.Request.{Request}
 use Rattle.event_loop.specs.declared.events.Request.TheVariants.{Add, AddWithPriority, Modify, Remove}
 
--- only the entries at descriptors of id i
-abbrev pub owned_by : ℕ → finite.FinMap nat_cmp ℕ → finite.FinMap nat_cmp ℕ → finite.FinMap nat_cmp ℕ
-owned_by i owner entries = finite.retain_keys entries (λ fd. is_id i (finite.get owner fd))
+-- only the descriptors of id i
+abbrev pub owned_by : ℕ → OwnerMap → OwnerMap
+owned_by i owners = finite.retain_keys owners (λ fd. is_id i (owner_of owners fd))
 
 -- only the value of id i
 abbrev pub only_values : {V : Type 0} → ℕ → finite.FinMap nat_cmp V → finite.FinMap nat_cmp V
 only_values i values = finite.retain_keys values (λ j. j == i)
 
 abbrev pub projected_registrations : ℕ → List Event → Registrations → Registrations
-projected_registrations i pending registrations = record {
-  owner = owned_by i registrations.owner registrations.owner;
-  priority = owned_by i registrations.owner registrations.priority;
-  endpoint = registrations.endpoint;
-  pending = pending;
-}
+projected_registrations i pending registrations = record registrations { owners = owned_by i registrations.owners; pending = pending }
 
 -- the registry without the values and descriptors of other ids; nothing is pending
 abbrev pub projected_registry : {V : Type 0} → ℕ → ℕ → Registry V → Registry V
@@ -92,16 +89,14 @@ outcome_exchanges i Nobody = []
 outcome_exchanges i (To id exchanges calls after) = if id == i then exchanges else []
 
 abbrev pub positions_exchanges : {V : Type 0} → ℕ → List (Position V) → Exchanges
-positions_exchanges i [] = []
-positions_exchanges i (position ∷ positions) = outcome_exchanges i position.outcome ++ positions_exchanges i positions
+positions_exchanges i positions = flat_map (λ position. outcome_exchanges i position.outcome) positions
 
 abbrev pub effect_exchanges : {V J R : Type 0} → ℕ → Effect V J R → Exchanges
 effect_exchanges i (Stepped step) = step_exchanges i step
 effect_exchanges i (Iterated iteration) = positions_exchanges i iteration.positions
 
 abbrev pub exchanges_in : {V J R : Type 0} → ℕ → List (Entry V J R) → Exchanges
-exchanges_in i [] = []
-exchanges_in i (entry ∷ trace) = effect_exchanges i entry.effect ++ exchanges_in i trace
+exchanges_in i trace = flat_map (λ entry. effect_exchanges i entry.effect) trace
 
 -- whether an Add of the descriptor is asked; whether one is agreed
 abbrev pub is_add : ℕ → Request → Bool
@@ -115,12 +110,10 @@ is_agreed (Ok entry) = true
 is_agreed (Err error) = false
 
 abbrev pub asks_to_add : ℕ → Exchanges → Bool
-asks_to_add fd [] = false
-asks_to_add fd (exchange ∷ exchanges) = is_add fd exchange.0 || asks_to_add fd exchanges
+asks_to_add fd exchanges = list_any (λ exchange. is_add fd exchange.0) exchanges
 
 abbrev pub adds : ℕ → Exchanges → Bool
-adds fd [] = false
-adds fd (exchange ∷ exchanges) = (if is_agreed exchange.1 then is_add fd exchange.0 else false) || adds fd exchanges
+adds fd exchanges = list_any (λ exchange. if is_agreed exchange.1 then is_add fd exchange.0 else false) exchanges
 
 -- No other id owns at the start, or has in the trace an agreed Add of, a descriptor
 -- that i asks to add in the trace or owns at the start.
@@ -138,16 +131,14 @@ abbrev pub delivered : {V : Type 0} → ℕ → Position V → List (Event × Ex
 delivered i position = delivered_as i position.event position.outcome
 
 abbrev pub deliveries_of : {V : Type 0} → ℕ → List (Position V) → List (Event × Exchanges × V)
-deliveries_of i [] = []
-deliveries_of i (position ∷ positions) = delivered i position ++ deliveries_of i positions
+deliveries_of i positions = flat_map (delivered i) positions
 
 abbrev pub effect_deliveries : {V J R : Type 0} → ℕ → Effect V J R → List (Event × Exchanges × V)
 effect_deliveries i (Stepped step) = []
 effect_deliveries i (Iterated iteration) = deliveries_of i iteration.positions
 
 abbrev pub deliveries : {V J R : Type 0} → ℕ → List (Entry V J R) → List (Event × Exchanges × V)
-deliveries i [] = []
-deliveries i (entry ∷ trace) = effect_deliveries i entry.effect ++ deliveries i trace
+deliveries i trace = flat_map (λ entry. effect_deliveries i entry.effect) trace
 
 abbrev pub is_for : {V J R : Type 0} → ℕ → Effect V J R → Bool
 is_for i (Stepped step) = names i step

@@ -1,11 +1,11 @@
 -- A list of calls with their replies, from a manager's state to a manager's state.
-use Rattle.std.specs.Prelude.{◌≡◌, ℕ, List, [], ◌∷◌, ◌++◌, Ok, Err, Vec}
-use Rattle.std.specs.FinMap as finite
+use Rattle.std.specs.Prelude.{◌≡◌, ℕ, List, [], ◌∷◌, Ok, Err, Vec}
+use Rattle.std.specs.List.{flat_map}
 use Rattle.std.specs.declared.alloc.Global.{Global}
 use Rattle.dispatch_tables.specs.Event.{Event}
 use Rattle.event_loop.specs.PollerCall.{PollerCall}
 use Rattle.event_loop.specs.Exchange.{Exchanges, Answer, requests_of, answers_of}
-use Rattle.event_loop.specs.Registry.{Step, Steps, Joined, NotJoined, Left, NotLeft, Replaced, NotReplaced, Requested, NotRequested, calls_of}
+use Rattle.event_loop.specs.Registry.{Step, Steps, Joined, NotJoined, Left, NotLeft, Replaced, NotReplaced, Requested, NotRequested, calls_of, new_registry}
 use Rattle.event_loop.specs.Iteration.{ManagerState, Iteration, IsIteration, answer_of, calls_of_iteration}
 use Rattle.event_loop.specs.declared.error.Error.TheVariants.{InvalidId}
 use Rattle.event_loop.specs.declared.events.Request.{Request}
@@ -55,12 +55,8 @@ calls_of_effect capacity (Stepped step) = calls_of step
 calls_of_effect capacity (Iterated iteration) = calls_of_iteration capacity iteration
 
 abbrev pub calls_of_trace : {V J R : Type 0} → ℕ → List (Entry V J R) → List PollerCall
-calls_of_trace capacity [] = []
-calls_of_trace capacity (entry ∷ trace) = calls_of_effect capacity entry.effect ++ calls_of_trace capacity trace
+calls_of_trace capacity trace = flat_map (λ entry. calls_of_effect capacity entry.effect) trace
 
 -- a new manager, by its endpoint's descriptor
 abbrev pub new_state : {V : Type 0} → ℕ → ManagerState V
-new_state endpoint = record {
-  registry = record { values = finite.empty; next = 1; registrations = record { owner = finite.empty; priority = finite.empty; endpoint = endpoint; pending = [] } };
-  taken = 0;
-}
+new_state endpoint = record { registry = new_registry endpoint; taken = 0 }

@@ -1,7 +1,8 @@
 //! Calls of a manager and their replies, as values; and lists of them, which [`drive`] makes.
 
 ghost use Rattle.std.specs.Prelude.{◌≡◌, List, ◌++◌, OnOk, OnErr, IfErr};
-ghost use Rattle.event_manager.specs.Driven.{HasCalled, IsDriven};
+ghost use Rattle.event_manager.specs.SingleCall.{HasCalled};
+ghost use Rattle.event_manager.specs.Driven.{IsDriven};
 ghost use Rattle.event_manager.specs.Manager.{state_of};
 ghost use Rattle.event_manager.specs.Trace.{Effect, Matches};
 

@@ -16,7 +16,7 @@ ghost use Rattle.event_loop.specs.Dispatch.{Position, Outcome, To, IsOutcome, st
 ghost use Rattle.event_loop.specs.Iteration.{ManagerState};
 ghost use Rattle.event_manager.specs.Trace.{Entry, HasEffect, IsTrace, new_state};
 ghost use Rattle.event_manager.specs.Projection.{NonInterference, ProjectionKeeps, names};
-ghost use Rattle.event_manager.specs.Guarantees.{AreGiven, steps_of, RemovedStayGone, RemovedStayUnknown, IsSound, HavePriorities, IsUntouched, FreesExactly};
+ghost use Rattle.event_manager.specs.Guarantees.{AreGiven, steps_of, RemovedStayGone, RemovedStayUnknown, IsSound, IsUntouched, FreesExactly};
 ghost use Rattle.event_manager.specs.Example.{any_begins, any_serves, any_may, joins, iterates};
 
 use crate::jobs::Job;
@@ -58,15 +58,8 @@ pub fn owners_are_subscribers<S: MutEventSubscriber, J: Job<S>>()
         IsTrace S.begins S.serves J.may before trace after → IsSound before.registry → IsSound after.registry }
 {}
 
-/// In every trace of a new manager each owned descriptor has a priority from 0 to 3, and no other one has any.
-pub fn owned_descriptors_have_priorities<S: MutEventSubscriber, J: Job<S>>()
-    ensures new { (endpoint : ℕ) → HavePriorities (new_state {V = S} endpoint).registry.registrations }
-    ensures kept { (before : ManagerState S) (trace : List (Entry S J J.Reply)) (after : ManagerState S) →
-        IsTrace S.begins S.serves J.may before trace after → HavePriorities before.registry.registrations → HavePriorities after.registry.registrations }
-{}
-
-/// Isolation: a step for one id, or a delivery to it, leaves the values, descriptors and pending events of all others;
-/// a leave frees exactly the descriptors of its id, whatever the poller answers.
+/// Isolation: a step for one id, or a delivery to it, leaves the values, the descriptors with their priorities, and the
+/// pending events of all others; a leave frees exactly the descriptors of its id, whatever the poller answers.
 pub fn others_are_untouched<S: MutEventSubscriber>()
     ensures steps { (before : Registry S) (step : Step S) (after : Registry S) → Steps S.begins before step after →
         (j : ℕ) → names j step ≡ false → IsUntouched j before after }

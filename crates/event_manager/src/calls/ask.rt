@@ -6,7 +6,7 @@ ghost use Rattle.event_loop.specs.PollerCall.{PollerCall};
 ghost use Rattle.event_loop.specs.Registry.{Step};
 ghost use Rattle.event_loop.specs.Requests.{AreMadeThrough};
 ghost use Rattle.event_loop.specs.LoopState.{HasStepped};
-ghost use Rattle.event_manager.specs.Driven.{IsAsk, IsReplacement};
+ghost use Rattle.event_manager.specs.SingleCall.{IsAsk, IsReplacement};
 
 use event_loop::{EventOps, EventPoller, Request, Result, SubscriberId, SubscriberOps};
 use std::mem;

@@ -1,7 +1,7 @@
 //! Calls with the room that their answers need.
 
 ghost use Rattle.std.specs.Prelude.{◌≡◌, ◌≤◌, [], IfOk, map, reverse, vec_capacity, vec_len};
-ghost use Rattle.event_manager.specs.Driven.{answers_to};
+ghost use Rattle.event_manager.specs.SingleCall.{answers_to};
 
 use crate::calls::Call;
 use event_loop::Result;

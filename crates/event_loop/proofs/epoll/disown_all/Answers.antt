@@ -1,5 +1,4 @@
-use Rattle.std.proofs.Common.{subst, arith, take, ◌+◌, sym, get_or}
-use Rattle.dispatch_tables.specs.Owners.{with_none_at}
+use Rattle.std.proofs.Common.{subst, arith, take, ◌+◌, sym}
 use Rattle.event_loop.specs.Releasing.{AreWithout}
 use Rattle.event_loop.proofs.Watching.{without_more}
 use Rattle.event_loop.proofs.epoll.disown_all.Goals as goal
@@ -8,10 +7,7 @@ pub loop-fd-preserved : goal.loop-fd-preserved
 loop-fd-preserved c =
     let inv = c.loop-fd.invariant in
     let fds = c.args.fds.now in
-    let more : AreWithout (take (c.loop-fd.fd-index + 1) fds) c.args.owners.now (with_none_at (get_or fds c.loop-fd.fd-index 0) c.loop-fd.owners) = (
-      without_more c.args.owners.now.owner c.loop-fd.owners.owner fds c.loop-fd.fd-index c.loop-fd-test.true inv.disowned.0,
-      without_more c.args.owners.now.priority c.loop-fd.owners.priority fds c.loop-fd.fd-index c.loop-fd-test.true inv.disowned.1,
-    ) in
+    let more = without_more c.args.owners.now c.loop-fd.owners fds c.loop-fd.fd-index c.loop-fd-test.true inv.disowned in
     record {
       disowned = subst (λ m. AreWithout (take (c.loop-fd.fd-index + 1) fds) c.args.owners.now m) (sym c.disown.ensures.disowned) more;
       counted = c.disown.ensures.counted;

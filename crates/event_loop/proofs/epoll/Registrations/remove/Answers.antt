@@ -2,7 +2,7 @@ use Rattle.std.proofs.Common.{arith, ap, ◌∙◌, vec_len, SFits, w32, rules}
 use Rattle.std.proofs.lemmas.Int.{to_z-of_z}
 use Rattle.event_loop.proofs.Consistent.{consistent_removed, room_for_it, same_state}
 use Rattle.event_loop.proofs.Watching.{listed_once}
-use Rattle.dispatch_tables.specs.Owners.{with_none_at}
+use Rattle.std.specs.FinMap.{remove}
 use Rattle.event_loop.proofs.Buffer.{ready_cancelled}
 use Rattle.event_loop.proofs.epoll.Registrations.remove.Goals as goal
 
@@ -10,7 +10,7 @@ pub remove-requires-clause-listed : goal.remove-requires-clause-listed
 remove-requires-clause-listed c =
     let b = c.self.inside in
     let owns = rw (← c.self.view_is, ← c.number-fd.ensures.value) at c.requires in
-    listed_once b.owners.owner b.watched b.watched c.number-fd.result c.args.id c.self.invariant.3.are_watched owns
+    listed_once b.owners b.watched b.watched c.number-fd.result c.self.invariant.3.are_watched c.args.id owns
 
 pub enter-requires-clause-room : goal.enter-requires-clause-room
 enter-requires-clause-room c =
@@ -39,7 +39,7 @@ returns-then-self c =
     let b = c.self.inside in
     let fd = c.args.events.fd in
     let small = rw c.number-fd.ensures.value at c.number-fd.ensures.is_descriptor in
-    let owners = c.disown.ensures.disowned ∙ ap (λ q. with_none_at q b.owners) c.number-fd.ensures.value in
+    let owners = c.disown.ensures.disowned ∙ ap (remove b.owners) c.number-fd.ensures.value in
     let fits : SFits w32 c.fd.result = search rules in
     let entered = rw (to_z-of_z w32 c.fd.result fits, c.fd.ensures) at c.enter.ensures.entered in
     rw (← c.self.view_is) (same_state _ _ _ _ b.endpoint (vec_len b.buffer) owners (ready_cancelled b.buffer.items b.cancelled.items c.enter.new.list.items fd b.at b.count small entered))

@@ -1,9 +1,8 @@
-use Rattle.event_loop.specs.Registry.{without_owner}
-use Rattle.std.proofs.Common.{◌≡◌, refl, sym, ap, ◌∙◌, vec_len}
+use Rattle.std.proofs.Common.{refl, sym, ap, ◌∙◌, vec_len}
 use Rattle.event_loop.specs.RegistrationState.{RegistrationState, registrations_of}
 use Rattle.dispatch_tables.specs.WatchLists.{times_in}
 use Rattle.event_loop.proofs.Consistent.{consistent_taken, same_state}
-use Rattle.event_loop.proofs.Watching.{entries_taken, owned_once, listed_are_descriptors}
+use Rattle.event_loop.proofs.Watching.{owners_taken, owned_once, listed_are_descriptors}
 use Rattle.event_loop.proofs.epoll.Registrations.take_watched.Goals as goal
 
 pub invariant_of-self : goal.invariant_of-self
@@ -17,19 +16,16 @@ invariant_of-self c =
 pub returns-clause-owned : goal.returns-clause-owned
 returns-clause-owned c =
     let list = c.take-fds.ensures.value in
-    owned_once c.self.inside.owners.owner c.take-fds.result.items c.args.id (λ fd. ap (λ l. times_in l fd) list ∙ c.self.invariant.3.are_watched c.args.id fd) (registrations_of c.args.self.now) (ap (λ (b : RegistrationState). b.owner) (sym c.self.view_is))
+    owned_once c.self.inside.owners c.take-fds.result.items c.args.id (λ fd. ap (λ l. times_in l fd) list ∙ c.self.invariant.3.are_watched c.args.id fd) (registrations_of c.args.self.now) (ap (λ (b : RegistrationState). b.owners) (sym c.self.view_is))
 
 pub returns-clause-are_descriptors : goal.returns-clause-are_descriptors
 returns-clause-are_descriptors c =
     let list = c.take-fds.ensures.value in
-    listed_are_descriptors c.self.inside.owners.owner c.take-fds.result.items c.args.id (λ fd. ap (λ l. times_in l fd) list ∙ c.self.invariant.3.are_watched c.args.id fd) c.self.invariant.3.are_descriptors
+    listed_are_descriptors c.self.inside.owners c.take-fds.result.items c.args.id (λ fd. ap (λ l. times_in l fd) list ∙ c.self.invariant.3.are_watched c.args.id fd) c.self.invariant.3.are_descriptors
 
 pub returns-clause-freed : goal.returns-clause-freed
 returns-clause-freed c =
     let b = c.self.inside in
     let gone = rw c.deref.ensures.value at c.disown_all.ensures.disowned in
-    let taken = entries_taken b.owners.owner c.disown_all.new.owners.owner b.watched c.args.id c.self.invariant.3.are_watched c.take-fds.result.items c.take-fds.ensures.value gone.0 in
-    let freed : c.disown_all.new.owners ≡ record { owner = without_owner c.args.id b.owners.owner b.owners.owner; priority = without_owner c.args.id b.owners.owner b.owners.priority } =
-    λ k. record { owner = taken b.owners.owner c.disown_all.new.owners.owner gone.0 k; priority = taken b.owners.priority c.disown_all.new.owners.priority gone.1 k }
-    in
+    let freed = owners_taken b.owners c.disown_all.new.owners b.watched c.args.id c.self.invariant.3.are_watched c.take-fds.result.items c.take-fds.ensures.value gone in
     rw (← c.self.view_is) (same_state _ _ _ _ b.endpoint (vec_len b.buffer) freed refl)

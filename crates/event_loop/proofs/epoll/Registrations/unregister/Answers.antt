@@ -7,7 +7,7 @@ pub remove-requires-clause-listed : goal.remove-requires-clause-listed
 remove-requires-clause-listed c =
     let b = c.self.inside in
     let owns = rw (← c.self.view_is, ← c.number-fd.ensures.value) at c.requires in
-    listed_once b.owners.owner b.watched b.watched c.number-fd.result c.args.id c.self.invariant.3.are_watched owns
+    listed_once b.owners b.watched b.watched c.number-fd.result c.self.invariant.3.are_watched c.args.id owns
 
 pub invariant_of-self : goal.invariant_of-self
 invariant_of-self c =

@@ -2,7 +2,7 @@ use Rattle.std.proofs.Common.{◌≡◌, refl, arith, sym, ap, subst, ◌∙◌,
 use Rattle.std.proofs.lemmas.List.{with_items_is}
 use Rattle.std.specs.Vec.{with_items}
 use Rattle.std.proofs.lemmas.Int.{to_z-of_z}
-use Rattle.dispatch_tables.specs.Owners.{class_in}
+use Rattle.dispatch_tables.specs.Ownership.{class_in}
 use Rattle.dispatch_tables.specs.ClassOrder.{IsOrdered}
 use Rattle.dispatch_tables.specs.Event.{event_of_entry}
 use Rattle.event_loop.specs.ReadyList.{ready_of}

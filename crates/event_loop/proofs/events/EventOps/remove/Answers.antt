@@ -18,8 +18,8 @@ returns-in-Ok g c =
     let led = rw c.in-Ok.is at c.ctl.ensures.led in
     let s = c.args.self.now.epoll.registrations in
     let fd = c.args.events.fd in
-    let same = c.remove.ensures ∙ ap (λ (b : RegistrationState). record b { owner = remove b.owner fd; priority = remove b.priority fd; ready = cancel_on fd b.ready }) c.ctl.ensures.registrations in
-    let left = ap registrations_of same ∙ ap (λ (l : List Event). record (registrations_of s) { owner = remove s.owner fd; priority = remove s.priority fd; pending = l }) (not_cancelled_cancel_on fd s.ready) in (
+    let same = c.remove.ensures ∙ ap (λ (b : RegistrationState). record b { owners = remove b.owners fd; ready = cancel_on fd b.ready }) c.ctl.ensures.registrations in
+    let left = ap registrations_of same ∙ ap (λ (l : List Event). record (registrations_of s) { owners = remove s.owners fd; pending = l }) (not_cancelled_cancel_on fd s.ready) in (
       Control operation.Delete fd c.args.events (Ok tt) ∷ [],
       one_made_through refl (by_agreement (c.is_owner.ensures.0 c.if-not-is_owner.false) refl refl left)
           (ap (λ (x : RegistrationState). x.ready) same ∙ cancel_removed_one c.args.events s.ready) led (ap (λ (x : RegistrationState). x.capacity) same),

@@ -1,0 +1,39 @@
+-- What one call of a list did.
+use Rattle.std.specs.Prelude.{◌≡◌, ℕ, List, vec_len, Vec, Result, Ok, Err}
+use Rattle.std.specs.declared.alloc.Global.{Global}
+use Rattle.dispatch_tables.specs.Event.{Event}
+use Rattle.event_loop.specs.PollerCall.{PollerCall, Controls, Waits, Leads}
+use Rattle.event_loop.specs.Exchange.{Exchanges, Answer, requests_of, answers_of}
+use Rattle.event_loop.specs.Registry.{Step, Requested, NotRequested, Replaced, NotReplaced}
+use Rattle.event_loop.specs.LoopState.{LoopState, manager_state}
+use Rattle.event_manager.specs.Trace.{Effect, HasEffect, calls_of_effect}
+use Rattle.event_loop.specs.declared.error.Error.{Error}
+use Rattle.event_loop.specs.declared.error.Error.TheVariants.{InvalidId}
+use Rattle.event_loop.specs.declared.events.Request.{Request}
+use Rattle.event_manager.specs.declared.calls.Call.{Call}
+use Rattle.event_manager.specs.declared.calls.Call.TheVariants.{Add, Remove, Set, Ask, Run}
+
+-- how many answers the reply to a call has in it
+abbrev pub answers_to : {V : Type 0} → Call V → ℕ
+answers_to (Add value) = 0
+answers_to (Remove id) = 0
+answers_to (Set id value) = 0
+answers_to (Ask id requests) = vec_len requests
+answers_to (Run ms) = 0
+
+-- the step of requests in order, by what was answered
+abbrev pub IsAsk : {V : Type 0} → ℕ → List Request → Result (Vec Answer Global) Error → Step V → Type 0
+IsAsk id requests (Ok answers) step =
+    (exchanges : Exchanges) × (calls : List PollerCall) × (step ≡ Requested id exchanges calls) × (requests_of exchanges ≡ requests) × (answers_of exchanges ≡ answers.items)
+IsAsk id requests (Err error) step = (error ≡ InvalidId) × (step ≡ NotRequested id)
+
+-- the step of another value, by what was answered
+abbrev pub IsReplacement : {V : Type 0} → ℕ → V → Result V Error → Step V → Type 0
+IsReplacement id value (Ok old) step = step ≡ Replaced id old value
+IsReplacement id value (Err error) step = (error ≡ InvalidId) × (step ≡ NotReplaced id)
+
+-- a call had this effect
+pub record HasCalled {S J R P : Type 0} (begins : S → Exchanges → S → Type 0) (serves : S → Event → Exchanges → S → Type 0) (may : J → List (Step S) → R → Type 0) (controls : Controls P) (waits : Waits P) (before : LoopState S P) (effect : Effect S J R) (after : LoopState S P) : Type 0 where
+  pub had : HasEffect begins serves may (manager_state before) effect (manager_state after)
+  pub led : Leads controls waits before.poller (calls_of_effect before.capacity effect) after.poller
+  pub same_capacity : after.capacity ≡ before.capacity
