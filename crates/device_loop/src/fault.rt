@@ -5,7 +5,7 @@ use thiserror::Error;
 use vmm_sys::errno::Errno;
 
 /// Its text is what the program prints on standard error after `device_loop: `.
-#[derive(Debug, Drop, Error)]
+#[derive(Clone, Copy, Debug, Error)]
 pub enum Fault {
     /// The loop, or what was asked of it, was refused.
     #[error(transparent)]
@@ -17,5 +17,11 @@ pub enum Fault {
 
     /// What the guest observed could not be written.
     #[error("cannot write: {0}")]
-    Output(#[from] io::Error),
+    Output(io::ErrorKind),
+}
+
+impl From<io::Error> for Fault {
+    fn from(error: io::Error) -> Fault {
+        Fault::Output(error.kind())
+    }
 }

@@ -89,7 +89,7 @@ impl<'a, R: Looping> LoopWithSenders<Idle, Work, Caller<'a>, R> for Lined<'a> {
         manager: &mut EventManager<Idle, Work, N, P>,
         _senders: &Senders,
     ) -> Result<()> {
-        let endpoint = manager.remote_endpoint()?;
+        let endpoint = expect_ok(rt, manager.remote_endpoint());
         let all = self.line.jobs.len();
         expect_same(rt, &wait_until_pending(rt, &endpoint, all), &true);
         thread::sleep(rt, Duration::from_millis(TO_SLEEP));

@@ -26,14 +26,17 @@ pub fn new_notes<R: Abort>(rt: &R, alloc: Global) -> Notes {
 }
 
 /// Sends a job that notes this: the number of its ticket.
-pub fn fire_note<S: MutEventSubscriber, N: Naming, R: Wait + Clock>(
+pub fn fire_note<S: MutEventSubscriber, N: Naming, R: Wait + Clock + Abort>(
     rt: &R,
     endpoint: &RemoteEndpoint<S, Work, N>,
     notes: &Notes,
     number: u64,
 ) -> Result<u64> {
-    let ticket = endpoint.fire(Work::Note(notes.clone()?, number), rt)?;
-    Ok(ticket.number())
+    let notes = expect_ok(rt, notes.clone());
+    match endpoint.fire(Work::Note(notes, number), rt) {
+        Ok(ticket) => Ok(ticket.number()),
+        Err(error) => Err(error),
+    }
 }
 
 /// Expects this answer of a run without a limit.

@@ -134,7 +134,7 @@ impl<'a> Meet<'a> {
 impl<'a, R: Looping> LoopWithSenders<Idle, NoJob, Meeting<'a>, R> for Meet<'a> {
     fn begin<N: Naming, P: EventPoller>(
         &mut self,
-        _rt: &R,
+        rt: &R,
         alloc: Global,
         _manager: &mut EventManager<Idle, NoJob, N, P>,
     ) -> Result<Vec<Meeting<'a>>> {
@@ -144,7 +144,7 @@ impl<'a, R: Looping> LoopWithSenders<Idle, NoJob, Meeting<'a>, R> for Meet<'a> {
         }
         let course = self.course;
         let senders = [1, 2, 3].map(|number| Meeting { course, number });
-        Ok(Vec::from_array(alloc, senders)?)
+        Ok(expect_ok(rt, Vec::from_array(alloc, senders)))
     }
 }
 
@@ -222,7 +222,7 @@ impl<'a, R: Looping> LoopWithSenders<Noting<R>, NoJob, Causing<'a>, R> for Joini
             counter: self.counter,
             notes: self.notes,
         };
-        Ok(Vec::from_array(alloc, [sender])?)
+        Ok(expect_ok(rt, Vec::from_array(alloc, [sender])))
     }
 }
 
@@ -273,12 +273,12 @@ struct Leaving<'a> {
 impl<'a, R: Looping> LoopWithSenders<Idle, Work, Staying<'a>, R> for Leaving<'a> {
     fn begin<N: Naming, P: EventPoller>(
         &mut self,
-        _rt: &R,
+        rt: &R,
         alloc: Global,
         _manager: &mut EventManager<Idle, Work, N, P>,
     ) -> Result<Vec<Staying<'a>>> {
         let sender = Staying { notes: self.notes };
-        Ok(Vec::from_array(alloc, [sender])?)
+        Ok(expect_ok(rt, Vec::from_array(alloc, [sender])))
     }
 
     fn run<N: Naming, P: EventPoller>(
@@ -287,7 +287,7 @@ impl<'a, R: Looping> LoopWithSenders<Idle, Work, Staying<'a>, R> for Leaving<'a>
         manager: &mut EventManager<Idle, Work, N, P>,
         senders: &Senders,
     ) -> Result<()> {
-        let endpoint = manager.remote_endpoint()?;
+        let endpoint = expect_ok(rt, manager.remote_endpoint());
         expect_same(rt, &wait_until_pending(rt, &endpoint, 2), &true);
         expect_run(rt, manager, Ok(1));
         expect_same(rt, &wait_until_pending(rt, &endpoint, 1), &true);
@@ -353,12 +353,12 @@ struct Late<'a> {
 impl<'a, R: Looping> LoopWithSenders<Idle, Work, Firing<'a>, R> for Late<'a> {
     fn begin<N: Naming, P: EventPoller>(
         &mut self,
-        _rt: &R,
+        rt: &R,
         alloc: Global,
         _manager: &mut EventManager<Idle, Work, N, P>,
     ) -> Result<Vec<Firing<'a>>> {
         let sender = Firing { notes: self.notes };
-        Ok(Vec::from_array(alloc, [sender])?)
+        Ok(expect_ok(rt, Vec::from_array(alloc, [sender])))
     }
 
     fn run<N: Naming, P: EventPoller>(

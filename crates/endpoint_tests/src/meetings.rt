@@ -72,13 +72,13 @@ impl<'a, R: Looping> LoopWithSenders<Idle, Work, Meeting<'a>, R> for Meeting<'a>
         alloc: Global,
         manager: &mut Loop<N, P>,
     ) -> Result<Vec<Meeting<'a>>> {
-        let endpoint = manager.remote_endpoint()?;
+        let endpoint = expect_ok(rt, manager.remote_endpoint());
         match self.kind {
             Kind::AtGate => gated::fire_at_gate(rt, &endpoint, self.shared),
             Kind::LooksBesideSends => looks::fill(rt, &endpoint),
             Kind::CloseBesideSends => {}
         }
-        Ok(Vec::from_array(alloc, [*self])?)
+        Ok(expect_ok(rt, Vec::from_array(alloc, [*self])))
     }
 
     fn run<N: Naming, P: EventPoller>(
@@ -87,7 +87,7 @@ impl<'a, R: Looping> LoopWithSenders<Idle, Work, Meeting<'a>, R> for Meeting<'a>
         manager: &mut Loop<N, P>,
         senders: &Senders,
     ) -> Result<()> {
-        let endpoint = manager.remote_endpoint()?;
+        let endpoint = expect_ok(rt, manager.remote_endpoint());
         match self.kind {
             Kind::AtGate => {
                 gated::run_twice(rt, manager, self.shared);

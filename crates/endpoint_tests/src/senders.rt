@@ -50,7 +50,7 @@ fn send_after<N: Naming, R: Host>(
     notes: &Notes,
     number: u64,
 ) -> Result<Ticket<N>> {
-    let job = Work::Note(notes.clone()?, number);
+    let job = Work::Note(expect_ok(rt, notes.clone()), number);
     match shown {
         Some(shown) => endpoint.fire_after(shown, job, rt),
         None => endpoint.fire(job, rt),

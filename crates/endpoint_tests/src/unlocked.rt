@@ -159,16 +159,16 @@ struct Acting<'a, R: Clock + Drop> {
 impl<'a, R: Looping> LoopWithSenders<Guest<R>, Task<R>, Beside<'a, R>, R> for Acting<'a, R> {
     fn begin<N: Naming, P: EventPoller>(
         &mut self,
-        _rt: &R,
+        rt: &R,
         alloc: Global,
         manager: &mut EventManager<Guest<R>, Task<R>, N, P>,
     ) -> Result<Vec<Beside<'a, R>>> {
         if let Some(guest) = self.guest.take() {
-            manager.add_subscriber(guest)?;
+            expect_ok(rt, manager.add_subscriber(guest));
         }
         let looks = Beside::Looks(self.act, self.drops);
         let sends = Beside::Sends(self.act, self.second);
-        Ok(Vec::from_array(alloc, [looks, sends])?)
+        Ok(expect_ok(rt, Vec::from_array(alloc, [looks, sends])))
     }
 
     /// Runs for the first job but where the second is sent beside it, and for the second where that is to be run.
@@ -187,13 +187,13 @@ impl<'a, R: Looping> LoopWithSenders<Guest<R>, Task<R>, Beside<'a, R>, R> for Ac
             Act::CloseOnJob | Act::CloseOnGuest | Act::CloseOnPoller => 1,
             Act::RunReply => 2,
         };
-        let endpoint = manager.remote_endpoint()?;
+        let endpoint = expect_ok(rt, manager.remote_endpoint());
         for turn in 0..2 {
             expect_same(rt, &wait_until_pending(rt, &endpoint, 1), &true);
             if turn == runs {
                 break;
             }
-            manager.run(rt)?;
+            expect_ok(rt, manager.run(rt));
         }
         Ok(())
     }

@@ -114,22 +114,26 @@ fn is_stopped<N: Naming, P: EventPoller>(
     manager: &EventManager<Stoppable, Order, N, P>,
     id: SubscriberId,
 ) -> Result<bool> {
-    Ok(manager.subscriber(id)?.is_stopped)
+    match manager.subscriber(id) {
+        Ok(subscriber) => Ok(subscriber.is_stopped),
+        Err(error) => Err(error),
+    }
 }
 
 impl<R: Looping> LoopWithSenders<Stoppable, Order, Caller, R> for Called {
     fn begin<N: Naming, P: EventPoller>(
         &mut self,
-        _rt: &R,
+        rt: &R,
         alloc: Global,
         manager: &mut EventManager<Stoppable, Order, N, P>,
     ) -> Result<Vec<Caller>> {
-        let id = manager.add_subscriber(Stoppable {
+        let joined = manager.add_subscriber(Stoppable {
             value: 0,
             is_stopped: false,
-        })?;
+        });
+        let id = expect_ok(rt, joined);
         self.id = Some(id);
-        Ok(vec![in alloc; Caller(id)]?)
+        Ok(expect_ok(rt, Vec::from_array(alloc, [Caller(id)])))
     }
 
     fn run<N: Naming, P: EventPoller>(
@@ -139,7 +143,7 @@ impl<R: Looping> LoopWithSenders<Stoppable, Order, Caller, R> for Called {
         _senders: &Senders,
     ) -> Result<()> {
         let id = self.id.ok_or(Error::InvalidId)?;
-        let endpoint = manager.remote_endpoint()?;
+        let endpoint = expect_ok(rt, manager.remote_endpoint());
         for _change in CHANGES {
             expect_same(rt, &is_stopped(manager, id), &Ok(false));
             expect_same(rt, &wait_until_pending(rt, &endpoint, 1), &true);

@@ -142,10 +142,10 @@ impl<O: Out> Printer<O> {
     where
         O: Drop,
     {
-        let Some(out) = self.out.try_clone() else {
-            return Err(Fault::OutOfMemory);
-        };
-        Ok(Printer::new(alloc, out)?)
+        match self.out.try_clone() {
+            Some(out) => Printer::new(alloc, out).map_err(|_| Fault::OutOfMemory),
+            None => Err(Fault::OutOfMemory),
+        }
     }
 
     /// Writes the line: all of it, however little the output takes at a time. A write that is interrupted

@@ -9,7 +9,7 @@ use thiserror::Error;
 
 /// Why a script was not run to its end. Its text is what the program prints on standard error after
 /// `evloop: `.
-#[derive(Debug, Drop, PartialEq, Error)]
+#[derive(Clone, Copy, Debug, PartialEq, Error)]
 pub enum Fault {
     /// The first bad line of the script, counted from 1. Nothing was run.
     #[error("line {0}: bad script")]

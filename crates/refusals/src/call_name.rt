@@ -23,7 +23,6 @@ pub enum CallName {
     EventOpsAddWithPriority,
     Fire,
     FireAfter,
-    Flag,
     Gather,
     GetAllCounterValues,
     JobQueueSend,
@@ -53,7 +52,6 @@ pub enum CallName {
     SubscriberMut,
     TableCtl,
     TableWait,
-    ThreadSpawn,
     WithSenders,
 }
 
@@ -78,7 +76,6 @@ impl CallName {
             CallName::EventOpsAddWithPriority => "EventOps::add_with_priority",
             CallName::Fire => "fire",
             CallName::FireAfter => "fire_after",
-            CallName::Flag => "a flag",
             CallName::Gather => "gather",
             CallName::GetAllCounterValues => "get_all_counter_values",
             CallName::JobQueueSend => "JobQueue::send",
@@ -108,7 +105,6 @@ impl CallName {
             CallName::SubscriberMut => "subscriber_mut",
             CallName::TableCtl => "Table::ctl",
             CallName::TableWait => "Table::wait",
-            CallName::ThreadSpawn => "thread::spawn",
             CallName::WithSenders => "with_senders",
         }
     }

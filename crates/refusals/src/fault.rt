@@ -7,7 +7,7 @@ use thiserror::Error;
 use vmm_sys::errno::Errno;
 
 /// Its text is what the program prints on standard error after `refusals: `. Each names the call.
-#[derive(Debug, Drop, Error)]
+#[derive(Clone, Copy, Debug, Error)]
 pub enum Fault {
     /// Memory was refused to the call, and, where it is the one answer of a call that was made again, to both.
     #[error("out of memory in {0}")]
@@ -31,7 +31,13 @@ pub enum Fault {
 
     /// The clock could not be read, or a line could not be written.
     #[error("clock or output: {0}")]
-    System(#[from] io::Error),
+    System(io::ErrorKind),
+}
+
+impl From<io::Error> for Fault {
+    fn from(error: io::Error) -> Fault {
+        Fault::System(error.kind())
+    }
 }
 
 /// What a refused call answers.

@@ -6,7 +6,6 @@
 #![tactic(auto)]
 
 mod again;
-pub mod blocking;
 pub mod brackets;
 pub mod call_name;
 pub mod counters;
@@ -23,7 +22,6 @@ pub mod senders;
 pub mod tables;
 pub mod watcher;
 
-use blocking::call_over_a_table;
 use brackets::call_between_marks;
 use counters::count_nothing;
 use descriptors::open_descriptors;
@@ -39,7 +37,7 @@ use std::process::ExitCode;
 use std::thread::Threads;
 use tables::{push_a_script, wait_on_a_table};
 
-fn make_all_calls<R: Host + Threads + Sync + 'static>(rt: &R, alloc: Global) -> Result<(), Fault> {
+fn make_all_calls<R: Host + Threads + Sync>(rt: &R, alloc: Global) -> Result<(), Fault> {
     open_descriptors(rt, alloc)?;
     wait_on_a_table(rt, alloc)?;
     push_a_script(rt, alloc)?;
@@ -48,7 +46,6 @@ fn make_all_calls<R: Host + Threads + Sync + 'static>(rt: &R, alloc: Global) -> 
     remove_in_a_batch(rt, alloc)?;
     send_over_a_table(rt, alloc)?;
     take_from_a_queue(rt, alloc)?;
-    call_over_a_table(rt, alloc)?;
     run_beside_callers(rt, alloc)?;
     drive_over_a_script(rt, alloc)?;
     replay_steps(rt, alloc)?;

@@ -16,24 +16,34 @@ use std::thread::Threads;
 /// How many jobs each thread calls.
 const CALLS: u64 = 3;
 
-/// The loop's side, which has no subscriber, and two callers.
+/// The loop's side, which has no subscriber, and so many callers.
 #[derive(Drop)]
-struct TwoCallers;
+struct Callers(u64);
 
 /// Calls jobs, whose numbers are those from the first up.
 #[derive(Clone, Copy)]
 struct Caller {
     first: u64,
+    /// Whether nobody else calls, so that a refused call leaves no job behind.
+    is_alone: bool,
 }
 
-impl<R: Host> LoopWithSenders<Watcher, Echo, Caller, R> for TwoCallers {
+impl<R: Host> LoopWithSenders<Watcher, Echo, Caller, R> for Callers {
     fn begin<N: Naming, P: EventPoller>(
         &mut self,
         _rt: &R,
         alloc: Global,
         _manager: &mut Manager<N, P>,
     ) -> event_manager::Result<Vec<Caller>> {
-        Ok(vec![in alloc; Caller { first: 0 }, Caller { first: CALLS }]?)
+        let Callers(count) = *self;
+        let mut callers = Vec::new(alloc);
+        for k in 0..count {
+            callers.push(Caller {
+                first: k.saturating_mul(CALLS),
+                is_alone: count == 1,
+            })?;
+        }
+        Ok(callers)
     }
 }
 
@@ -43,7 +53,11 @@ impl<R: Host> Sender<Watcher, Echo, Result<u64, Fault>, R> for Caller {
         let name = CallName::CallBlocking;
         for k in 0..CALLS {
             let number = self.first.saturating_add(k);
-            let reply = again!(name, endpoint.call_blocking(Echo(number), rt))?;
+            let reply = again!(
+                name,
+                endpoint.call_blocking(Echo(number), rt),
+                !self.is_alone || endpoint.pending() == Some(0)
+            )?;
             expect(name, reply == number)?;
         }
         Ok(CALLS)
@@ -55,20 +69,27 @@ fn run_once<R: Host + Threads + Sync>(
     rt: &R,
     alloc: Global,
     on_table: &OnTable<R>,
+    callers: u64,
 ) -> Result<event_manager::Result<Ended<Result<u64, Fault>>>, Fault> {
     let poller = copy_epoll(&on_table.epoll)?;
     let endpoint = copy_counter(&on_table.endpoint)?;
-    Ok(with_senders(rt, alloc, poller, endpoint, &mut TwoCallers))
+    let mut callers = Callers(callers);
+    Ok(with_senders(rt, alloc, poller, endpoint, &mut callers))
 }
 
-/// Runs a loop over a table beside two threads, which call jobs of it. Where that is refused, at most the endpoint is left
-/// in the table, which the manager registers when it is made.
-pub fn run_beside_callers<R: Host + Threads + Sync>(rt: &R, alloc: Global) -> Result<(), Fault> {
+/// Runs a loop over a table beside so many threads, which call jobs of it, and prints under the name what came of them.
+/// Where the loop is refused, at most the endpoint is left in the table, which the manager registers when it is made.
+fn run_beside<R: Host + Threads + Sync>(
+    rt: &R,
+    alloc: Global,
+    callers: u64,
+    shown: CallName,
+) -> Result<(), Fault> {
     let mut on_table = open_table(rt, alloc)?;
     let name = CallName::WithSenders;
     let ended = again!(
         name,
-        run_once(rt, alloc, &on_table)?,
+        run_once(rt, alloc, &on_table, callers)?,
         is_taken_out(&mut on_table.epoll, 0)
     )?;
     named(name, ended.ran)?;
@@ -77,6 +98,12 @@ pub fn run_beside_callers<R: Host + Threads + Sync>(rt: &R, alloc: Global) -> Re
         replies = replies.saturating_add(called?);
     }
     let (issued, taken) = (ended.issued, ended.taken);
-    println!(rt; "with_senders: {replies} replies, {issued} issued and {taken} taken")?;
+    println!(rt; "{shown}: {replies} replies, {issued} issued and {taken} taken")?;
     Ok(())
+}
+
+/// Runs loops over a table, beside one caller and beside two.
+pub fn run_beside_callers<R: Host + Threads + Sync>(rt: &R, alloc: Global) -> Result<(), Fault> {
+    run_beside(rt, alloc, 1, CallName::CallBlocking)?;
+    run_beside(rt, alloc, 2, CallName::WithSenders)
 }

@@ -47,7 +47,7 @@ pub(super) enum Line<'a> {
 }
 
 /// Why a line can't be taken.
-#[derive(Drop)]
+#[derive(Clone, Copy)]
 pub(super) enum LineError {
     /// The grammar does not have it.
     Bad,
