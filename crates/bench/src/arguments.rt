@@ -6,7 +6,7 @@ use std::env;
 use std::rt::Env;
 
 /// A family of measures.
-#[derive(Clone, Copy, PartialEq, Eq)]
+#[derive(Clone, Copy)]
 pub enum Family {
     /// One delivered event.
     Deliver,
@@ -26,6 +26,42 @@ pub enum Family {
     Call,
 }
 
+impl Family {
+    /// The word that picks it.
+    fn word(&self) -> &'static str {
+        match self {
+            Family::Deliver => "deliver",
+            Family::One => "one",
+            Family::Batch => "batch",
+            Family::Leave => "leave",
+            Family::Table => "table",
+            Family::Counters => "counters",
+            Family::Fire => "fire",
+            Family::Call => "call",
+        }
+    }
+
+    /// The family that the word picks.
+    fn of_word(word: &str) -> Option<Family> {
+        FAMILIES
+            .iter()
+            .find(|family| family.word() == word)
+            .copied()
+    }
+}
+
+/// The families, in the order in which they are measured.
+const FAMILIES: [Family; 8] = [
+    Family::Deliver,
+    Family::One,
+    Family::Batch,
+    Family::Leave,
+    Family::Table,
+    Family::Counters,
+    Family::Fire,
+    Family::Call,
+];
+
 /// How large what stands beside the work is: the first, second or third size of a family.
 #[derive(Clone, Copy, PartialEq, Eq)]
 pub enum Size {
@@ -33,8 +69,10 @@ pub enum Size {
     Small,
     /// The second last.
     Middle,
-    /// The last.
+    /// The last but those that are huge.
     Large,
+    /// A million, of the table and the counters; measured only where it is picked.
+    Huge,
 }
 
 /// How many descriptors a subscriber has that joins and leaves.
@@ -63,20 +101,13 @@ impl Word {
             "boxed" => Word::Boxed,
             "plain" => Word::Plain,
             "checked" => Word::Checked,
-            "deliver" => Word::Family(Family::Deliver),
-            "one" => Word::Family(Family::One),
-            "batch" => Word::Family(Family::Batch),
-            "leave" => Word::Family(Family::Leave),
-            "table" => Word::Family(Family::Table),
-            "counters" => Word::Family(Family::Counters),
-            "fire" => Word::Family(Family::Fire),
-            "call" => Word::Family(Family::Call),
             "small" => Word::Size(Size::Small),
             "middle" => Word::Size(Size::Middle),
             "large" => Word::Size(Size::Large),
+            "huge" => Word::Size(Size::Huge),
             "single" => Word::Share(Share::Single),
             "several" => Word::Share(Share::Several),
-            _ => return None,
+            _ => Word::Family(Family::of_word(text)?),
         };
         Some(word)
     }
@@ -119,15 +150,17 @@ impl Wanted {
     }
 
     /// What the program's arguments pick: `boxed` or `plain`, `checked`, and any number of families, sizes and shares; of
-    /// a kind of which none is picked, all are wanted.
+    /// a kind of which none is picked, all are wanted but what is huge.
     ///
-    /// `UnknownWord` with the first argument that is none of these; `System` where the arguments can't be read; `Memory`.
+    /// `UnknownWord` with the number of the first argument that is none of these; `System` where the arguments can't be read; `Memory`.
     pub fn from_arguments<R: Env + AllocGlobal>(rt: &R) -> Result<Wanted, Fault> {
         let mut wanted = Wanted::all(rt.alloc());
+        let mut number = 0u64;
         for argument in env::args(rt)?.skip(1) {
+            number = number.saturating_add(1);
             match Word::parse(argument.as_str()) {
                 Some(word) => wanted.pick(word)?,
-                None => return Err(Fault::UnknownWord(argument)),
+                None => return Err(Fault::UnknownWord(number)),
             }
         }
         Ok(wanted)
@@ -135,12 +168,16 @@ impl Wanted {
 
     /// Whether the family is wanted.
     pub fn has_family(&self, family: Family) -> bool {
-        self.families.is_empty() || self.families.contains(&family)
+        let word = family.word();
+        self.families.is_empty() || self.families.iter().any(|it| it.word() == word)
     }
 
     /// Whether the size is wanted.
     pub fn has_size(&self, size: Size) -> bool {
-        self.sizes.is_empty() || self.sizes.contains(&size)
+        match size {
+            Size::Huge => self.sizes.contains(&size),
+            _ => self.sizes.is_empty() || self.sizes.contains(&size),
+        }
     }
 
     /// Whether the share is wanted.

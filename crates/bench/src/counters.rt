@@ -84,7 +84,7 @@ fn write_and_run<N: Naming, P: EventPoller, R: Wait + Clock>(
     Ok(())
 }
 
-fn measure<R: Host>(bench: &Bench<R>, count: u16) -> Result<(), Fault> {
+fn measure<R: Host>(bench: &Bench<R>, count: u32) -> Result<(), Fault> {
     let (alloc, rt) = (bench.alloc, &bench.rt);
     let epoll = Epoll::new(*rt, alloc)?;
     let endpoint = EventFd::new(&epoll, 0, rt)?;
@@ -114,6 +114,7 @@ pub fn measure_counters<R: Host>(bench: &Bench<R>) -> Result<(), Fault> {
         (Size::Small, 16),
         (Size::Middle, 256),
         (Size::Large, 4096),
+        (Size::Huge, 1_000_000),
     ] {
         if bench.wanted.has_size(size) {
             measure(bench, count)?;

@@ -6,11 +6,11 @@ use thiserror::Error;
 use vmm_sys::errno::Errno;
 
 /// Its text is what the program prints on standard error after `bench: `.
-#[derive(Debug, Drop, Error)]
+#[derive(Clone, Copy, Debug, Error)]
 pub enum Fault {
-    /// An argument is none of the words.
-    #[error("unknown word: {0}")]
-    UnknownWord(String),
+    /// The argument of this number, counted from 1, is none of the words.
+    #[error("argument {0} is none of the words")]
+    UnknownWord(u64),
 
     /// The manager refused a call.
     #[error(transparent)]
@@ -37,7 +37,7 @@ pub enum Fault {
 
     /// The arguments or the clock could not be read, or a line could not be written.
     #[error("arguments, clock or output: {0}")]
-    System(#[from] io::Error),
+    System(io::ErrorKind),
 
     /// A call answered another number than the work has.
     #[error("answered {answered}, and not {expected}")]
@@ -47,6 +47,12 @@ pub enum Fault {
         /// What the work has.
         expected: u64,
     },
+}
+
+impl From<io::Error> for Fault {
+    fn from(error: io::Error) -> Fault {
+        Fault::System(error.kind())
+    }
 }
 
 impl From<AllocError> for Fault {

@@ -6,7 +6,7 @@ use crate::fault::{Fault, expect};
 use crate::fixed::BATCH;
 use crate::timing::{REPEATS, Times};
 use std::alloc::Global;
-use vmm_sys::epoll::{ControlOperation, EpollEvent, EventSet, RawFd};
+use vmm_sys::epoll::{ControlOperation, EpollEvent, EventSet};
 use vmm_sys::table::Table;
 
 /// How often a call of `ctl` is made in a repeat.
@@ -16,7 +16,7 @@ const CONTROLS: u32 = 10000;
 const WAITS_FOR_ONE: u32 = 2000;
 
 /// A table with so many counters of this value, and no interest. `Descriptor`.
-fn open_counters(count: u16, value: u64, alloc: Global) -> Result<Table, Fault> {
+fn open_counters(count: u32, value: u64, alloc: Global) -> Result<Table, Fault> {
     let mut table = Table::new(alloc);
     for _ in 0..count {
         let _ = table.add_counter(value)?;
@@ -25,16 +25,16 @@ fn open_counters(count: u16, value: u64, alloc: Global) -> Result<Table, Fault> 
 }
 
 /// Asks for `IN` of the descriptors from 0 up, so many, with the descriptor as word. `Descriptor`.
-fn add_interests(table: &mut Table, count: u16) -> Result<(), Fault> {
+fn add_interests(table: &mut Table, count: u32) -> Result<(), Fault> {
     for fd in 0..count {
         let event = EpollEvent::new(EventSet::IN, fd as u64);
-        table.ctl(ControlOperation::Add, fd as RawFd, event)?;
+        table.ctl(ControlOperation::Add, fd.cast_signed(), event)?;
     }
     Ok(())
 }
 
 /// A table with so many counters of this value, and an interest in each. `Descriptor`.
-fn filled(count: u16, value: u64, alloc: Global) -> Result<Table, Fault> {
+fn filled(count: u32, value: u64, alloc: Global) -> Result<Table, Fault> {
     let mut table = open_counters(count, value, alloc)?;
     add_interests(&mut table, count)?;
     Ok(table)
@@ -59,11 +59,27 @@ fn wait(
     Ok(reported)
 }
 
+/// Writes 1 to each of so many counters, from the highest descriptor down. `Descriptor`.
+fn write_in_reverse(table: &mut Table, count: u32) -> Result<(), Fault> {
+    for fd in (0..count).rev() {
+        table.write(fd.cast_signed(), 1)?;
+    }
+    Ok(())
+}
+
+/// Reads each of so many counters. `Descriptor`.
+fn read_all(table: &mut Table, count: u32) -> Result<(), Fault> {
+    for fd in 0..count {
+        let _read = table.read(fd.cast_signed())?;
+    }
+    Ok(())
+}
+
 /// The measures of a table of one size.
 #[derive(Drop)]
 struct TableCalls<'a, R> {
     bench: &'a Bench<R>,
-    interests: u16,
+    interests: u32,
     /// How often a repeat waits where all are ready.
     waits: u32,
 }
@@ -74,7 +90,10 @@ impl<R: Host> TableCalls<'_, R> {
         self.measure_modify()?;
         self.measure_add_and_delete()?;
         self.measure_report()?;
-        self.measure_one_ready()
+        self.measure_one_ready()?;
+        self.measure_stays_ready()?;
+        self.measure_turning()?;
+        self.measure_reverse()
     }
 
     /// Counts the interests that are then reported.
@@ -107,14 +126,14 @@ impl<R: Host> TableCalls<'_, R> {
         let (alloc, interests) = (self.bench.alloc, self.interests);
         let mut table = filled(interests, 1, alloc)?;
         let (rounds, highest) = (self.bench.rounds(CONTROLS), interests.saturating_sub(1));
-        let (mut count, mut last, mut next) = (0u64, 0u16, 0u16);
+        let (mut count, mut last, mut next) = (0u64, 0u32, 0u32);
         let times = Times::of(
             || {
                 for _ in 0..rounds {
                     count = count.saturating_add(1);
                     last = next;
                     let event = EpollEvent::new(EventSet::IN, count);
-                    table.ctl(ControlOperation::Modify, last as RawFd, event)?;
+                    table.ctl(ControlOperation::Modify, last.cast_signed(), event)?;
                     next = if last == highest {
                         0
                     } else {
@@ -183,7 +202,7 @@ impl<R: Host> TableCalls<'_, R> {
     fn measure_one_ready(&self) -> Result<(), Fault> {
         let (alloc, interests) = (self.bench.alloc, self.interests);
         let mut table = filled(interests, 0, alloc)?;
-        table.write(interests.saturating_sub(1) as RawFd, 1)?;
+        table.write(interests.saturating_sub(1).cast_signed(), 1)?;
         let mut buffer = buffer(BATCH as usize, alloc)?;
         let rounds = self.bench.rounds(WAITS_FOR_ONE);
         let mut count = 0u64;
@@ -197,6 +216,67 @@ impl<R: Host> TableCalls<'_, R> {
         )?;
         let name = format!(in alloc; "a wait, 1 of {interests} ready")?;
         self.print(name, times, rounds as u64, count)
+    }
+
+    /// Counts the writes to a counter that is ready all along.
+    fn measure_stays_ready(&self) -> Result<(), Fault> {
+        let (alloc, interests) = (self.bench.alloc, self.interests);
+        let mut table = filled(interests, 1, alloc)?;
+        let (rounds, fd) = (self.bench.rounds(CONTROLS), (interests / 2).cast_signed());
+        let times = Times::of(
+            || {
+                for _ in 0..rounds {
+                    table.write(fd, 1)?;
+                }
+                Ok(())
+            },
+            &self.bench.rt,
+        )?;
+        let count = table.read(fd)?.saturating_sub(1);
+        let name = format!(in alloc; "a write to one of {interests} that stay ready")?;
+        self.print(name, times, rounds as u64, count)
+    }
+
+    /// Counts what is read of a counter that is idle and ready in turn, while all others are ready.
+    fn measure_turning(&self) -> Result<(), Fault> {
+        let (alloc, interests) = (self.bench.alloc, self.interests);
+        let mut table = filled(interests, 1, alloc)?;
+        let (rounds, fd) = (self.bench.rounds(CONTROLS), (interests / 2).cast_signed());
+        let mut count = 0u64;
+        let times = Times::of(
+            || {
+                for _ in 0..rounds {
+                    count = count.saturating_add(table.read(fd)?);
+                    table.write(fd, 1)?;
+                }
+                Ok(())
+            },
+            &self.bench.rt,
+        )?;
+        let name = format!(in alloc; "a read and a write of one, all of {interests} ready")?;
+        self.print(name, times, rounds as u64, count)
+    }
+
+    /// Counts the entries of waits between which all counters turn ready, the last in the queue first.
+    fn measure_reverse(&self) -> Result<(), Fault> {
+        let (alloc, interests) = (self.bench.alloc, self.interests);
+        let mut table = filled(interests, 0, alloc)?;
+        let mut buffer = buffer(interests as usize + 1, alloc)?;
+        let rounds = self.bench.rounds(self.waits);
+        let mut count = 0u64;
+        let times = Times::of(
+            || {
+                for _ in 0..rounds {
+                    write_in_reverse(&mut table, interests)?;
+                    count = count.saturating_add(table.wait(buffer.as_mut_slice())? as u64);
+                    read_all(&mut table, interests)?;
+                }
+                Ok(())
+            },
+            &self.bench.rt,
+        )?;
+        let name = format!(in alloc; "a write, an entry and a read, {interests} in reverse")?;
+        self.print(name, times, rounds as u64 * interests as u64, count)
     }
 
     /// Prints a line, where the repeats counted 5 times their operations; else `Answer`.
@@ -222,6 +302,7 @@ pub fn measure_tables<R: Host>(bench: &Bench<R>) -> Result<(), Fault> {
         (Size::Small, 16, 20000),
         (Size::Middle, 256, 1000),
         (Size::Large, 4096, 20),
+        (Size::Huge, 1_000_000, 5),
     ] {
         if bench.wanted.has_size(size) {
             let calls = TableCalls {
