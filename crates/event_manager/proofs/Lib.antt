@@ -14,6 +14,8 @@ pub mod Accounts
 pub mod QueueLemmas
 pub mod JobLemmas
 pub mod UnknownIds
+pub mod SameExchanges
+pub mod SameSteps
 pub mod TraceSoFar
 pub mod CallsApart
 pub mod OneStep

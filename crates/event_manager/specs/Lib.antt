@@ -32,6 +32,7 @@ pub mod Example
 pub mod Guarantees
 pub mod Projection
 pub mod Trace
+pub mod Determinism
 pub mod Manager
 pub mod Account
 pub mod JobQueue

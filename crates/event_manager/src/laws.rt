@@ -17,6 +17,7 @@ ghost use Rattle.event_loop.specs.Iteration.{ManagerState};
 ghost use Rattle.event_manager.specs.Trace.{Entry, HasEffect, IsTrace, new_state};
 ghost use Rattle.event_manager.specs.Projection.{NonInterference, ProjectionKeeps, names};
 ghost use Rattle.event_manager.specs.Guarantees.{AreGiven, steps_of, RemovedStayGone, RemovedStayUnknown, IsSound, IsUntouched, FreesExactly};
+ghost use Rattle.event_manager.specs.Determinism.{IsFunction, AreFunctions, IsReplay, IsTheRun};
 ghost use Rattle.event_manager.specs.Example.{any_begins, any_serves, any_may, joins, iterates};
 
 use crate::jobs::Job;
@@ -96,6 +97,17 @@ pub fn exchanges_join()
     ensures empty { (i : ℕ) (registrations : Registrations) → ExchangesFit i registrations [] [] registrations }
     ensures joined { (i : ℕ) (before mid after : Registrations) (exchanges more : Exchanges) (calls rest : List PollerCall) →
         ExchangesFit i before exchanges calls mid → ExchangesFit i mid more rest after → ExchangesFit i before (exchanges ++ more) (calls ++ rest) after }
+{}
+
+/// A replay is the run: of subscribers and jobs that are functions (the answers decide what is asked next, and what comes
+/// of it), two traces from one state, with the same calls, poller calls and jobs, and in which nothing is refused for want
+/// of memory, are the same: each call has the same effect and, up to where its vector lies, the same reply, and the states
+/// at the end are the same.
+pub fn a_replay_is_the_run<S: MutEventSubscriber, J: Job<S>>()
+    ensures { (capacity : ℕ) (before : ManagerState S) (trace : List (Entry S J J.Reply)) (after : ManagerState S)
+        (replay : List (Entry S J J.Reply)) (replayed : ManagerState S) →
+        AreFunctions S.begins S.serves J.may → IsTrace S.begins S.serves J.may before trace after →
+        IsTrace S.begins S.serves J.may before replay replayed → IsReplay capacity trace replay → IsTheRun trace after replay replayed }
 {}
 
 /// The definitions have a trace in which a descriptor is reported twice, and its owner removes and adds it at the first
