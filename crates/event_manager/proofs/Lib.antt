@@ -16,6 +16,7 @@ pub mod JobLemmas
 pub mod UnknownIds
 pub mod SameExchanges
 pub mod SameSteps
+pub mod SameTrace
 pub mod TraceSoFar
 pub mod CallsApart
 pub mod OneStep
