@@ -90,7 +90,7 @@ exchanges_alike i before (x ∷ xs) [] calls others rest more after onto alike m
 exchanges_alike i before (x ∷ xs) (y ∷ ys) calls others rest more after onto alike m n (first, tail, mid, joined, fits, then_fits) (front, end, between, made, fit, then_fit) same =
     let parts = in_parts first tail front end calls others rest more joined made same in
     let h = request_alike i before x.0 x.1 y.1 first front (tail ++ rest) (end ++ more) mid between (memory_at x.1 (answers_of xs) m) (memory_at y.1 (answers_of ys) n) fits
-        (subst (λ r. Fits i before r y.1 front between) (sym alike.0) fit) parts in
+    (subst (λ r. Fits i before r y.1 front between) (sym alike.0) fit) parts in
     let k = exchanges_alike i mid xs ys tail end rest more after onto (alike.1 h.0) (memory_then (x.1 ∷ []) (answers_of xs) m) (memory_then (y.1 ∷ []) (answers_of ys) n) then_fits
-        (subst (λ r. ExchangesFit i r ys end onto) (sym h.2) then_fit) (behind_same first front (tail ++ rest) (end ++ more) h.1 parts) in
+    (subst (λ r. ExchangesFit i r ys end onto) (sym h.2) then_fit) (behind_same first front (tail ++ rest) (end ++ more) h.1 parts) in
     ((λ j. (alike.0 j, h.0 j) ∷ k.0 j), joined ∙ (λ j. h.1 j ++ k.1 j) ∙ sym made, k.2)

@@ -134,8 +134,7 @@ module _ {V : Type 0} where
     joined_alike before value id exchanges others calls made rest more held kept after onto m n (registrations, room, given, fits, begun, e) (entries, place, gave, fit, began, f) same =
         let alike = function value exchanges others held kept begun began in
         let all = exchanges_alike id before.registrations exchanges others calls made rest more registrations entries alike.0 m n fits fit same in
-        let one = alike.1 all.0 in
-        (
+        let one = alike.1 all.0 in (
           (λ j. Joined value id (all.0 j) (all.1 j) (one j)),
           e ∙ (λ j. record { values = insert before.values id (one j); next = before.next + 1; registrations = all.2 j }) ∙ sym f,
         )
@@ -198,7 +197,7 @@ module _ {V : Type 0} where
     steps_alike before (step ∷ steps) (other ∷ others) rest more after onto a m n (mid, h, then_steps) (between, k, then_others) same =
         let parts = in_parts (calls_of step) (calls_of_steps steps) (calls_of other) (calls_of_steps others) _ _ rest more refl refl same in
         let one = step_alike before step other (calls_of_steps steps ++ rest) (calls_of_steps others ++ more) mid between (answers_alike step other a.0)
-            (memory_first (answers_of_step step) _ m) (memory_first (answers_of_step other) _ n) h k parts in
+        (memory_first (answers_of_step step) _ m) (memory_first (answers_of_step other) _ n) h k parts in
         let all = steps_alike mid steps others rest more after onto (a.1 one.0) (memory_then (answers_of_step step) _ m) (memory_then (answers_of_step other) _ n) then_steps
-            (subst (λ r. AllSteps begins r others onto) (sym one.1) then_others) (behind_same (calls_of step) (calls_of other) _ _ (ap calls_of one.0) parts) in
+        (subst (λ r. AllSteps begins r others onto) (sym one.1) then_others) (behind_same (calls_of step) (calls_of other) _ _ (ap calls_of one.0) parts) in
         ((λ j. one.0 j ∷ all.0 j), all.1)

@@ -30,8 +30,7 @@ module _ {V : Type 0} (serves : V → Event → Exchanges → V → Type 0) (fun
       let one : older ≡ value = let v = is_for.2 in let w = was_for.2 in cc in
       let alike = function event value exchanges others held kept served (subst (λ v. serves v event others kept) one serving) in
       let all = exchanges_alike id (record before.registrations { pending = still_pending earlier later }) exchanges others calls made rest more registrations entries alike.0 m n fits fit same in
-      let holds = alike.1 all.0 in
-      (
+      let holds = alike.1 all.0 in (
         (λ j. To id (all.0 j) (all.1 j) (holds j)),
         e ∙ (λ j. record before { values = insert before.values id (holds j); registrations = all.2 j }) ∙ sym f,
       )
@@ -61,11 +60,11 @@ module _ {V : Type 0} (serves : V → Event → Exchanges → V → Type 0) (fun
       let parts = in_parts (calls_of_outcome p.outcome) (calls_of_positions positions) (calls_of_outcome q.outcome) (calls_of_positions others) _ _ rest more refl refl same in
       let here = subst (λ (r : Event × List Event). IsOutcome serves before earlier r.0 r.1 q.outcome between) (sym (λ j. (event j, later j))) k in
       let one = outcome_alike before earlier p.event (events_of positions) p.outcome q.outcome (calls_of_positions positions ++ rest) (calls_of_positions others ++ more) mid between
-          (memory_first (answers_of (exchanges_of p.outcome)) _ m) (memory_first (answers_of (exchanges_of q.outcome)) _ n) h here parts in
+      (memory_first (answers_of (exchanges_of p.outcome)) _ m) (memory_first (answers_of (exchanges_of q.outcome)) _ n) h here parts in
       let position : p ≡ q = λ j. record { event = event j; outcome = one.0 j } in
       let then_here = subst (λ (r : Registry V × Position V). AreDispatched serves r.0 (earlier ++ r.1 ∷ []) others onto) (sym (λ j. (one.1 j, position j))) then_others in
       let all = positions_alike mid (earlier ++ p ∷ []) positions others rest more after onto later (memory_then (answers_of (exchanges_of p.outcome)) _ m) (memory_then (answers_of (exchanges_of q.outcome)) _ n)
-          then_positions then_here (behind_same (calls_of_outcome p.outcome) (calls_of_outcome q.outcome) _ _ (ap calls_of_outcome one.0) parts) in
+      then_positions then_here (behind_same (calls_of_outcome p.outcome) (calls_of_outcome q.outcome) _ _ (ap calls_of_outcome one.0) parts) in
       ((λ j. position j ∷ all.0 j), all.1)
 
 module _ {V J R : Type 0} (begins : V → Exchanges → V → Type 0) (serves : V → Event → Exchanges → V → Type 0) (may : J → List (Step V) → R → Type 0) (functions : AreFunctions begins serves may) where
@@ -81,11 +80,11 @@ module _ {V J R : Type 0} (begins : V → Exchanges → V → Type 0) (serves : 
       let parts = in_parts (calls_of_steps p.steps) (calls_of_jobs jobs) (calls_of_steps q.steps) (calls_of_jobs others) _ _ rest more refl refl same in
       let alike = functions.jobs p.job p.steps q.steps p.reply q.reply might (subst (λ x. may x q.steps q.reply) (sym job) may_be) in
       let one = steps_alike begins functions.init before.registry p.steps q.steps (calls_of_jobs jobs ++ rest) (calls_of_jobs others ++ more) mid between alike.0
-          (memory_first (flat_map answers_of_step p.steps) _ m) (memory_first (flat_map answers_of_step q.steps) _ n) steps stepped parts in
+      (memory_first (flat_map answers_of_step p.steps) _ m) (memory_first (flat_map answers_of_step q.steps) _ n) steps stepped parts in
       let all = jobs_alike (record { registry = mid; taken = before.taken + 1 }) jobs others rest more after onto (tail_is p.job q.job _ _ taken)
-          (memory_then (flat_map answers_of_step p.steps) _ m) (memory_then (flat_map answers_of_step q.steps) _ n) then_jobs
-          (subst (λ r. AreRun begins serves may (record { registry = r; taken = before.taken + 1 }) others onto) (sym one.1) then_others)
-          (behind_same (calls_of_steps p.steps) (calls_of_steps q.steps) _ _ (ap calls_of_steps one.0) parts) in
+      (memory_then (flat_map answers_of_step p.steps) _ m) (memory_then (flat_map answers_of_step q.steps) _ n) then_jobs
+      (subst (λ r. AreRun begins serves may (record { registry = r; taken = before.taken + 1 }) others onto) (sym one.1) then_others)
+      (behind_same (calls_of_steps p.steps) (calls_of_steps q.steps) _ _ (ap calls_of_steps one.0) parts) in
       let tickets = ticket ∙ sym number in
       let replies = alike.1 one.0 in
       ((λ j. record { ticket = tickets j; job = job j; steps = one.0 j; reply = replies j } ∷ all.0 j), all.1)
@@ -101,10 +100,10 @@ module _ {V J R : Type 0} (begins : V → Exchanges → V → Type 0) (serves : 
       let parts = in_parts (calls_of_positions positions) (calls_of_jobs jobs) (calls_of_positions others) (calls_of_jobs runs) _ _ rest more refl refl same in
       let events = one_order (λ fd. class_of before.registry.registrations fd) report (events_of positions) (events_of others) dispatch.0 dispatched.0 in
       let one = positions_alike serves functions.process before.registry [] positions others (calls_of_jobs jobs ++ rest) (calls_of_jobs runs ++ more) mid between events
-          (memory_first (answers_of_positions positions) _ m) (memory_first (answers_of_positions others) _ n) dispatch.1 dispatched.1 parts in
+      (memory_first (answers_of_positions positions) _ m) (memory_first (answers_of_positions others) _ n) dispatch.1 dispatched.1 parts in
       let all = jobs_alike (record before { registry = mid }) jobs runs rest more after onto taken (memory_then (answers_of_positions positions) _ m) (memory_then (answers_of_positions others) _ n) ran
-          (subst (λ r. AreRun begins serves may (record before { registry = r }) runs onto) (sym one.1) run)
-          (behind_same (calls_of_positions positions) (calls_of_positions others) _ _ (ap calls_of_positions one.0) parts) in
+      (subst (λ r. AreRun begins serves may (record before { registry = r }) runs onto) (sym one.1) run)
+      (behind_same (calls_of_positions positions) (calls_of_positions others) _ _ (ap calls_of_positions one.0) parts) in
       (one.0, all.0, all.1)
 
   same_wait : (ms time : ℤ) (capacity : ℕ) (waited answered : Result (List Event) Errno) (calls others : List PollerCall) → Wait ms capacity waited ∷ calls ≡ Wait time capacity answered ∷ others
@@ -127,7 +126,7 @@ module _ {V J R : Type 0} (begins : V → Exchanges → V → Type 0) (serves : 
   effect_alike capacity before (Iterated iteration) (Iterated other) c d r q rest more after onto asked matches matched jobs m n h k same =
       let w = same_wait iteration.ms other.ms capacity iteration.waited other.waited _ _ same in
       let all = wait_alike before iteration.waited iteration.positions other.positions iteration.jobs other.jobs rest more after onto jobs m n h
-          (subst (λ x. IsAfterWait begins serves may before x other.positions other.jobs onto) (sym w.1) k) w.2 in
+      (subst (λ x. IsAfterWait begins serves may before x other.positions other.jobs onto) (sym w.1) k) w.2 in
       ((λ j. Iterated (record { ms = w.0 j; waited = w.1 j; positions = all.0 j; jobs = all.1 j })), all.2)
 
   -- an effect decides its reply
@@ -152,10 +151,10 @@ module _ {V J R : Type 0} (begins : V → Exchanges → V → Type 0) (serves : 
   trace_alike capacity before (entry ∷ trace) [] after replayed asked jobs m n h k same = absurd asked
   trace_alike capacity before (entry ∷ trace) (other ∷ replay) after replayed asked jobs m n (mid, matches, had, then_trace) (between, matched, has, then_replay) same =
       let one = effect_alike capacity before entry.effect other.effect entry.call other.call entry.reply other.reply (calls_of_trace capacity trace) (calls_of_trace capacity replay) mid between
-          asked.0 matches matched (head_is _ _ _ _ jobs) (memory_first (answers_of_effect entry.effect) _ m) (memory_first (answers_of_effect other.effect) _ n) had has same in
+      asked.0 matches matched (head_is _ _ _ _ jobs) (memory_first (answers_of_effect entry.effect) _ m) (memory_first (answers_of_effect other.effect) _ n) had has same in
       let all = trace_alike capacity mid trace replay after replayed asked.1 (tail_is _ _ _ _ jobs) (memory_then (answers_of_effect entry.effect) _ m) (memory_then (answers_of_effect other.effect) _ n) then_trace
-          (subst (λ s. IsTrace begins serves may s replay replayed) (sym one.1) then_replay)
-          (behind_same (calls_of_effect capacity entry.effect) (calls_of_effect capacity other.effect) _ _ (ap (calls_of_effect capacity) one.0) same) in
+      (subst (λ s. IsTrace begins serves may s replay replayed) (sym one.1) then_replay)
+      (behind_same (calls_of_effect capacity entry.effect) (calls_of_effect capacity other.effect) _ _ (ap (calls_of_effect capacity) one.0) same) in
       record {
         same_effects = (λ j. one.0 j ∷ all.same_effects j);
         same_replies = (

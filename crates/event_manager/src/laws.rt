@@ -17,11 +17,12 @@ ghost use Rattle.event_loop.specs.Iteration.{ManagerState};
 ghost use Rattle.event_manager.specs.Trace.{Entry, HasEffect, IsTrace, new_state};
 ghost use Rattle.event_manager.specs.Projection.{NonInterference, ProjectionKeeps, names};
 ghost use Rattle.event_manager.specs.Guarantees.{AreGiven, steps_of, RemovedStayGone, RemovedStayUnknown, IsSound, IsUntouched, FreesExactly};
-ghost use Rattle.event_manager.specs.Determinism.{IsFunction, AreFunctions, IsReplay, IsTheRun};
+ghost use Rattle.event_manager.specs.Determinism.{AreFunctions, IsReplay, IsTheRun};
 ghost use Rattle.event_manager.specs.Example.{any_begins, any_serves, any_may, joins, iterates};
 
-use crate::jobs::Job;
+use crate::jobs::{Job, NoJob};
 pub use event_loop::events_are_equal;
+use event_loop::utilities::subscribers::CounterSubscriber;
 use event_loop::{MutEventSubscriber, Priority, SubscriberId};
 use std::cmp::Ordering;
 use std::hash::{Hash, Hasher};
@@ -108,6 +109,11 @@ pub fn a_replay_is_the_run<S: MutEventSubscriber, J: Job<S>>()
         (replay : List (Entry S J J.Reply)) (replayed : ManagerState S) →
         AreFunctions S.begins S.serves J.may → IsTrace S.begins S.serves J.may before trace after →
         IsTrace S.begins S.serves J.may before replay replayed → IsReplay capacity trace replay → IsTheRun trace after replay replayed }
+{}
+
+/// Counting subscribers are functions, and so is the job that does nothing: a replay of their manager is its run.
+pub fn counters_are_functions()
+    ensures { AreFunctions ⟦<CounterSubscriber as MutEventSubscriber>⟧.begins ⟦<CounterSubscriber as MutEventSubscriber>⟧.serves ⟦<NoJob as Job<CounterSubscriber>>⟧.may }
 {}
 
 /// The definitions have a trace in which a descriptor is reported twice, and its owner removes and adds it at the first
