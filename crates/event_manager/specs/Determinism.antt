@@ -3,11 +3,11 @@ use Rattle.std.specs.Prelude.{◌≡◌, ℕ, List, [], ◌∷◌, ◌++◌, map
 use Rattle.std.specs.List.{AllZip, flat_map}
 use Rattle.dispatch_tables.specs.Event.{Event}
 use Rattle.event_loop.specs.Exchange.{Exchanges, Answer, answers_of}
-use Rattle.event_loop.specs.Registry.{Step, Joined, NotJoined, Requested}
+use Rattle.event_loop.specs.Registry.{Step, Joined, NotJoined, Left, NotLeft, Replaced, NotReplaced, Requested, NotRequested}
 use Rattle.event_loop.specs.Dispatch.{Position, exchanges_of}
 use Rattle.event_loop.specs.Iteration.{ManagerState, JobRun}
 use Rattle.event_loop.specs.declared.error.Error.TheVariants.{OutOfMemory}
-use Rattle.event_manager.specs.Trace.{Effect, Stepped, Iterated, Entry, Matches, calls_of_trace}
+use Rattle.event_manager.specs.Trace.{Effect, Stepped, Iterated, Entry, calls_of_trace}
 use Rattle.event_manager.specs.declared.calls.Call.{Call}
 use Rattle.event_manager.specs.declared.calls.Call.TheVariants as call
 use Rattle.event_manager.specs.declared.calls.Reply.{Reply}
@@ -26,31 +26,54 @@ IsFunction {V} relates =
     (before : V) (exchanges others : Exchanges) (after onto : V) → relates before exchanges after → relates before others onto
     → AskAlike exchanges others × (exchanges ≡ others → after ≡ onto)
 
+-- what a step is asked for, whatever is answered: a value joins; an id leaves, holds another value, makes requests
+pub data Asked (V : Type 0) : Type 0 where
+  ToJoin : V → Asked V
+  ToLeave : ℕ → Asked V
+  ToHold : ℕ → Asked V
+  ToRequest : ℕ → Asked V
+
 module _ {V : Type 0} where
-  -- two steps by which one call may be answered; two lists of requests of one id that ask alike
-  abbrev pub AnswerOneCall : Step V → Step V → Type 0
-  AnswerOneCall (Requested id exchanges calls) (Requested other others more) = (id ≡ other) × AskAlike exchanges others
-  AnswerOneCall step other = (c : Call V) × (r : Reply V) × (q : Reply V) × Matches {J = ⊥} {R = ⊥} (Stepped step) c r × Matches {J = ⊥} {R = ⊥} (Stepped other) c q
+  abbrev pub asked_of : Step V → Asked V
+  asked_of (Joined value id exchanges calls held) = ToJoin value
+  asked_of (NotJoined value error) = ToJoin value
+  asked_of (Left id value calls) = ToLeave id
+  asked_of (NotLeft id) = ToLeave id
+  asked_of (Replaced id old new) = ToHold id
+  asked_of (NotReplaced id) = ToHold id
+  asked_of (Requested id exchanges calls) = ToRequest id
+  asked_of (NotRequested id) = ToRequest id
+
+  -- the old value decides the new one; the requests ask alike
+  abbrev pub GoAlike : Step V → Step V → Type 0
+  GoAlike (Replaced id old new) (Replaced other older newer) = old ≡ older → new ≡ newer
+  GoAlike (Requested id exchanges calls) (Requested other others more) = AskAlike exchanges others
+  GoAlike step other = Unit {0}
+
+  -- two steps that differ by their answers alone
+  abbrev pub AreAlike : Step V → Step V → Type 0
+  AreAlike step other = (asked_of step ≡ asked_of other) × GoAlike step other
 
   -- both take the same steps for as long as they are answered the same
   abbrev pub StepsAlike : List (Step V) → List (Step V) → Type 0
   StepsAlike [] [] = Unit {0}
-  StepsAlike (step ∷ steps) (other ∷ others) = AnswerOneCall step other × (step ≡ other → StepsAlike steps others)
+  StepsAlike (step ∷ steps) (other ∷ others) = AreAlike step other × (step ≡ other → StepsAlike steps others)
   StepsAlike [] (other ∷ others) = ⊥
   StepsAlike (step ∷ steps) [] = ⊥
 
--- of each job the steps so far decide which call is its next, and all of them its reply
+-- of each job the steps so far decide what it asks for next, and all of them its reply
 abbrev pub IsJobFunction : {V J R : Type 0} → (J → List (Step V) → R → Type 0) → Type 0
 IsJobFunction {V} {J} {R} may =
     (job : J) (steps others : List (Step V)) (r q : R) → may job steps r → may job others q → StepsAlike steps others × (steps ≡ others → r ≡ q)
 
--- a subscriber's `init`, its `process` on each event, and the jobs
-pub record AreFunctions {V J R : Type 0} (begins : V → Exchanges → V → Type 0) (serves : V → Event → Exchanges → V → Type 0) (may : J → List (Step V) → R → Type 0) : Type 0 where
-  pub init : IsFunction begins
-  pub process : (event : Event) → IsFunction (λ before exchanges after. serves before event exchanges after)
-  pub jobs : IsJobFunction may
+module _ {V J R : Type 0} (begins : V → Exchanges → V → Type 0) (serves : V → Event → Exchanges → V → Type 0) (may : J → List (Step V) → R → Type 0) where
+  -- a subscriber's `init`, its `process` of each event, and its jobs
+  pub record AreFunctions : Type 0 where
+    pub init : IsFunction begins
+    pub process : (event : Event) → IsFunction (λ before exchanges after. serves before event exchanges after)
+    pub jobs : IsJobFunction may
 
--- the same call, and the same reply, wherever their vectors lie in memory
+-- the same call; the same reply; wherever the vectors in them lie
 abbrev pub IsSameCall : {V : Type 0} → Call V → Call V → Type 0
 IsSameCall (call.Ask id requests) (call.Ask other others) = (id ≡ other) × (requests.items ≡ others.items)
 IsSameCall c other = c ≡ other
@@ -91,7 +114,7 @@ jobs_of_effect (Iterated iteration) = map (λ job_run. job_run.job) iteration.jo
 abbrev pub jobs_in : {V J R : Type 0} → List (Entry V J R) → List (List J)
 jobs_in trace = map (λ entry. jobs_of_effect entry.effect) trace
 
--- A replay of a trace: the same calls, with the same poller calls, and the same jobs in each; neither is refused for want of memory.
+-- A replay of a trace: the same calls, with the same poller calls, and the same jobs in each call; neither lacks memory.
 pub record IsReplay {V J R : Type 0} (capacity : ℕ) (trace replay : List (Entry V J R)) : Type 0 where
   pub same_calls : AllZip IsSameCall (map (λ entry. entry.call) trace) (map (λ entry. entry.call) replay)
   pub same_poller_calls : calls_of_trace capacity trace ≡ calls_of_trace capacity replay
@@ -99,8 +122,8 @@ pub record IsReplay {V J R : Type 0} (capacity : ℕ) (trace replay : List (Entr
   pub memory : HaveMemory (answers_in trace)
   pub memory_again : HaveMemory (answers_in replay)
 
--- each call does the same and is replied the same, and all ends in the same state
-pub record IsTheRun {V J R : Type 0} (trace : List (Entry V J R)) (after : ManagerState V) (replay : List (Entry V J R)) (replayed : ManagerState V) : Type 0 where
+-- Each call does the same and, wherever its vector lies, is replied the same; and all ends in the same state.
+pub record IsTheRun {V J R : Type 0} (trace replay : List (Entry V J R)) (after replayed : ManagerState V) : Type 0 where
   pub same_effects : map (λ entry. entry.effect) trace ≡ map (λ entry. entry.effect) replay
   pub same_replies : AllZip IsSameReply (map (λ entry. entry.reply) trace) (map (λ entry. entry.reply) replay)
   pub same_state : after ≡ replayed

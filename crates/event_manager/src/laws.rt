@@ -100,20 +100,20 @@ pub fn exchanges_join()
         ExchangesFit i before exchanges calls mid → ExchangesFit i mid more rest after → ExchangesFit i before (exchanges ++ more) (calls ++ rest) after }
 {}
 
-/// A replay is the run: of subscribers and jobs that are functions (the answers decide what is asked next, and what comes
-/// of it), two traces from one state, with the same calls, poller calls and jobs, and in which nothing is refused for want
-/// of memory, are the same: each call has the same effect and, up to where its vector lies, the same reply, and the states
-/// at the end are the same.
+/// A replay is the run: of subscribers and jobs that are functions (the answers so far decide what is asked next, and all
+/// of them the value or the reply), two traces from one state with the same calls, the same poller calls and the same jobs
+/// in each call are the same, where nothing is refused for want of memory. Each call does the same, and its reply says the
+/// same; a vector in it may lie elsewhere.
 pub fn a_replay_is_the_run<S: MutEventSubscriber, J: Job<S>>()
-    ensures { (capacity : ℕ) (before : ManagerState S) (trace : List (Entry S J J.Reply)) (after : ManagerState S)
-        (replay : List (Entry S J J.Reply)) (replayed : ManagerState S) →
+    ensures { (capacity : ℕ) (before : ManagerState S) (trace replay : List (Entry S J J.Reply)) (after replayed : ManagerState S) →
         AreFunctions S.begins S.serves J.may → IsTrace S.begins S.serves J.may before trace after →
-        IsTrace S.begins S.serves J.may before replay replayed → IsReplay capacity trace replay → IsTheRun trace after replay replayed }
+        IsTrace S.begins S.serves J.may before replay replayed → IsReplay capacity trace replay → IsTheRun trace replay after replayed }
 {}
 
-/// Counting subscribers are functions, and so is the job that does nothing: a replay of their manager is its run.
+/// The counting subscriber is a function, and so is the job that does nothing: a replay of a manager of these is its run.
 pub fn counters_are_functions()
-    ensures { AreFunctions ⟦<CounterSubscriber as MutEventSubscriber>⟧.begins ⟦<CounterSubscriber as MutEventSubscriber>⟧.serves ⟦<NoJob as Job<CounterSubscriber>>⟧.may }
+    ensures { AreFunctions ⟦<CounterSubscriber as MutEventSubscriber>⟧.begins ⟦<CounterSubscriber as MutEventSubscriber>⟧.serves
+        ⟦<NoJob as Job<CounterSubscriber>>⟧.may }
 {}
 
 /// The definitions have a trace in which a descriptor is reported twice, and its owner removes and adds it at the first

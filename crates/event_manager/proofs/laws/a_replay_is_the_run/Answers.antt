@@ -2,5 +2,5 @@ use Rattle.event_manager.proofs.SameTrace.{replay_is_the_run}
 use Rattle.event_manager.proofs.laws.a_replay_is_the_run.Goals as goal
 
 pub returns : goal.returns
-returns g c = λ capacity before trace after replay replayed functions.
-    replay_is_the_run g.S.MutEventSubscriber.begins g.S.MutEventSubscriber.serves g.J.Job.may functions capacity before trace after replay replayed
+returns g c = λ capacity before trace replay after replayed functions.
+    replay_is_the_run g.S.MutEventSubscriber.begins g.S.MutEventSubscriber.serves g.J.Job.may functions capacity before trace replay after replayed

@@ -16,7 +16,8 @@ asks_nothing : {V : Type 0} (exchanges others : Exchanges) (after onto made : V)
 asks_nothing exchanges others after onto made h k = (rw (h.0, k.0) tt, λ same. h.1 ∙ sym k.1)
 
 asks_once : {V : Type 0} (request : Request) (exchanges others : Exchanges) (after onto : V) (made : Answer → V)
-    → (answer : Answer) × (exchanges ≡ (request, answer) ∷ []) × (after ≡ made answer) → (answer : Answer) × (others ≡ (request, answer) ∷ []) × (onto ≡ made answer)
+    → (answer : Answer) × (exchanges ≡ (request, answer) ∷ []) × (after ≡ made answer)
+    → (answer : Answer) × (others ≡ (request, answer) ∷ []) × (onto ≡ made answer)
     → AskAlike exchanges others × (exchanges ≡ others → after ≡ onto)
 asks_once request exchanges others after onto made (a, e, h) (b, f, k) = (
   rw (e, f) (refl, λ same. tt),
@@ -24,18 +25,22 @@ asks_once request exchanges others after onto made (a, e, h) (b, f, k) = (
 )
 
 begins : IsFunction counter_begins
-begins v exchanges others after onto h k = asks_once (Add (event_on v.counter 0)) exchanges others after onto (λ a. record v { observations = with_fault a v.observations }) h k
+begins v exchanges others after onto h k =
+    asks_once (Add (event_on v.counter 0)) exchanges others after onto (λ a. record v { observations = with_fault a v.observations }) h k
 
 serves : (event : Event) → IsFunction (λ v exchanges w. counter_serves v event exchanges w)
 serves event v exchanges others after onto h k = elim (eqb_tells event.set 1) [
   | inl input ↦ asks_nothing exchanges others after onto (record v { counter = one_more v.counter }) (rw input.0 at h) (rw input.0 at k)
   | inr a ↦ elim (eqb_tells event.set 8) [
-    | inl error ↦ asks_nothing exchanges others after onto (record v { observations = with_error v.observations }) (rw (a.0, error.0) at h) (rw (a.0, error.0) at k)
+    | inl error ↦
+        asks_nothing exchanges others after onto (record v { observations = with_error v.observations }) (rw (a.0, error.0) at h) (rw (a.0, error.0) at k)
     | inr b ↦ elim (eqb_tells event.set 16) [
       | inl hang_up ↦
           asks_once (Remove event) exchanges others after onto (λ x. record v { observations = with_hang_up x v.observations })
           (rw (a.0, b.0, hang_up.0) at h) (rw (a.0, b.0, hang_up.0) at k)
-      | inr c ↦ asks_nothing exchanges others after onto (record v { observations = with_spurious v.observations }) (rw (a.0, b.0, c.0) at h) (rw (a.0, b.0, c.0) at k)
+      | inr c ↦
+          asks_nothing exchanges others after onto (record v { observations = with_spurious v.observations })
+          (rw (a.0, b.0, c.0) at h) (rw (a.0, b.0, c.0) at k)
     ]
   ]
 ]
