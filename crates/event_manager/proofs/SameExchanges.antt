@@ -75,7 +75,7 @@ module _ (i : ℕ) (registrations : Registrations) where
   unasked (Modify e) a h k = (h.1).0 k
   unasked (Remove e) a h k = (h.1).0 k
 
-  -- here `same` says how the two calls of the poller begin
+  -- one request, with any calls behind its own
   request_alike : (request : Request) (a b : Answer) (calls made rest more : List PollerCall) (after onto : Registrations)
       → a ≢ Err OutOfMemory → b ≢ Err OutOfMemory → calls ++ rest ≡ made ++ more
       → Fits i registrations request a calls after → Fits i registrations request b made onto → (a ≡ b) × (calls ≡ made) × (after ≡ onto)

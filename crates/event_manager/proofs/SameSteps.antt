@@ -59,10 +59,10 @@ module _ {V : Type 0} where
   same_asked c d h = ap asked_by h
 
   module _ (J R : Type 0) where
-    abbrev Answers : Step V → Call V → Reply V → Type 0
+    abbrev pub Answers : Step V → Call V → Reply V → Type 0
     Answers step = Matches {J = J} {R = R} (Stepped step)
 
-    pub asked_for : (step : Step V) (c : Call V) (r : Reply V) → Matches {J = J} {R = R} (Stepped step) c r → asked_by c ≡ Some (asked_of step)
+    pub asked_for : (step : Step V) (c : Call V) (r : Reply V) → Answers step c r → asked_by c ≡ Some (asked_of step)
     asked_for (Joined value id exchanges calls held) c r m = ap asked_by m.0
     asked_for (NotJoined value error) c r m = ap asked_by m.0
     asked_for (Left id value calls) c r m = ap asked_by m.0
@@ -80,8 +80,7 @@ module _ {V : Type 0} where
     with_same step other c d r q h m n = tt
 
     -- two steps that answer the same call
-    pub asked_alike : (step other : Step V) (c d : Call V) (r q : Reply V) → IsSameCall c d
-        → Matches {J = J} {R = R} (Stepped step) c r → Matches {J = J} {R = R} (Stepped other) d q → AreAlike step other
+    pub asked_alike : (step other : Step V) (c d : Call V) (r q : Reply V) → IsSameCall c d → Answers step c r → Answers other d q → AreAlike step other
     asked_alike step other c d r q h m n = (
       some_is (asked_of step) (asked_of other) (sym (asked_for step c r m) ∙ same_asked c d h ∙ asked_for other d q n),
       with_same step other c d r q h m n,
