@@ -1,5 +1,5 @@
 -- What a row of slots holds.
-use Rattle.std.proofs.Common.{◌≡◌, ℕ, zero, suc, ◌<◌, inl, inr, List, [], ◌∷◌, ◌++◌, length, get_or, set, map, replicate, refl, ap, ◌∙◌, sym, arith, Option, Some, None}
+use Rattle.std.proofs.Common.{◌≡◌, ℕ, zero, suc, ◌+◌, ◌<◌, inl, inr, List, [], ◌∷◌, ◌++◌, length, get_or, set, map, replicate, refl, ap, ◌∙◌, sym, arith, Option, Some, None}
 use Rattle.std.specs.Prelude.{IsSome, is_some}
 use Rattle.std.proofs.lemmas.Bool.{cases_lt, false≢true}
 use Rattle.std.proofs.lemmas.List.{get_or_past, set_at, set-append_left, length-set}
@@ -50,3 +50,12 @@ module _ {A : Type 0} where
   slot-moved slots s h =
       ap (λ l. set l (length slots) (get_or (slots ++ None ∷ []) s None)) (set-append_left slots (None ∷ []) s None (some-within slots s h))
       ∙ set_at (set slots s None) None [] (get_or (slots ++ None ∷ []) s None) (length slots) (length-set slots s None) ∙ ap (λ o. set slots s None ++ o ∷ []) (slot-grown slots s)
+
+  -- what the last slot holds is as well put behind it
+  pub held-last : (slots : List (Option A)) (s : ℕ) → s + 1 ≡ length slots → held (set slots s None ++ get_or slots s None ∷ []) ≡ held slots
+  held-last [] s e = absurd (omega (arith, e))
+  held-last (None ∷ []) zero e = refl
+  held-last (Some x ∷ []) zero e = refl
+  held-last (y ∷ z ∷ slots) zero e = absurd (omega (arith, e))
+  held-last (None ∷ slots) (suc s) e = held-last slots s (omega (arith, e))
+  held-last (Some x ∷ slots) (suc s) e = ap (λ l. x ∷ l) (held-last slots s (omega (arith, e)))

@@ -415,6 +415,10 @@ fn report(sources: &[Source], interests: &mut Interests, buffer: &mut [EpollEven
             return count;
         };
         buffer[count] = entry_of(sources, interest);
+        if slot + 1 == interests.end() {
+            // It is the last one as it is: one descriptor alone at work takes up no slots.
+            return count + 1;
+        }
         interests.move_to_back(slot);
         from = slot + 1;
     }

@@ -76,6 +76,9 @@ impl ReadySet {
         requires { number < length self.old }
         ensures { self.new ≡ slice_set self.old number false }
     {
+        if !self.numbers.contains(number) {
+            return;
+        }
         let word = number / WORD;
         let group = word / WORD;
         if self.numbers.clear(number) && self.words.clear(word) && self.groups.clear(group) {
