@@ -273,6 +273,7 @@ impl Table {
         self.sources.get(fd as usize).copied()
     }
 
+    #[inline(always)]
     fn replace(&mut self, fd: RawFd, source: Source)
         requires { IsSome (source_in self.old fd) }
         ensures { self.new ≡ with_source self.old fd source }
@@ -283,6 +284,7 @@ impl Table {
     }
 
     // Replaces the source of a descriptor; where its state changes, its interest is marked anew.
+    #[inline(always)]
     fn set_source(&mut self, number: usize, source: Source)
         requires { number < length self.old.sources }
         ensures { self.new ≡ record self.old { sources = slice_set self.old.sources number source } }
@@ -309,6 +311,7 @@ impl Table {
             (ControlOperation::Delete, Some(slot)) => {
                 self.interests.remove(slot, interest.descriptor);
                 self.interests.mark(slot, false);
+                self.interests.give_back();
             }
             (ControlOperation::Modify, None) => return Err(Errno::ENOENT),
             (ControlOperation::Delete, None) => return Err(Errno::ENOENT),
@@ -375,6 +378,7 @@ fn is_ready(sources: &[Source], interest: Interest) -> bool
 }
 
 // Marks the interest of a descriptor as it is now.
+#[inline(never)]
 fn renew(sources: &[Source], interests: &mut Interests, descriptor: usize)
     ensures slots { interests.new.slots ≡ interests.old.slots }
     ensures room { interests.new.room ≡ interests.old.room }
