@@ -159,6 +159,7 @@ impl Table {
     /// `EBADF`: `fd` was never opened. `EINVAL`: `Add` or `Modify` of an event with one of the four
     /// modes. `EEXIST`: `Add` where `fd` has an interest. `ENOENT`: `Modify` or `Delete` where it
     /// has none. No memory is requested.
+    #[inline(always)]
     pub fn ctl(&mut self, op: ControlOperation, fd: RawFd, event: EpollEvent) -> Result<(), Errno>
         ensures answer { Answers (ctl_of self.old op fd event) self.old result self.new }
         ensures forward { MovesForward self.old (Ctl op fd event) self.new }
@@ -296,6 +297,7 @@ impl Table {
         }
     }
 
+    #[inline(always)]
     fn change(&mut self, op: ControlOperation, interest: Interest) -> Result<(), Errno>
         requires { interest.descriptor < length self.old.sources }
         ensures { Answers (changed self.old op interest (place_in self.old interest.descriptor)) self.old result self.new }

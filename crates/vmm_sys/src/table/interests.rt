@@ -217,6 +217,7 @@ impl Interests {
     }
 
     // Moves what the slots hold to their front, in order.
+    #[cold]
     #[inline(never)]
     fn close_up(&mut self)
         ensures room { self.new.room ≡ self.old.room }
