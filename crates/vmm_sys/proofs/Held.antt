@@ -1,5 +1,5 @@
 -- What a row of slots holds.
-use Rattle.std.proofs.Common.{◌≡◌, ℕ, zero, suc, ◌<◌, inl, inr, List, [], ◌∷◌, ◌++◌, length, get_or, set, map, replicate, refl, ap, ◌∙◌, sym, arith, Option, Some, None}
+use Rattle.std.proofs.Common.{◌≡◌, ℕ, zero, suc, ◌+◌, ◌<◌, ◌≤◌, inl, inr, List, [], ◌∷◌, ◌++◌, length, get_or, set, take, map, replicate, refl, ap, ◌∙◌, sym, arith, Option, Some, None}
 use Rattle.std.specs.Prelude.{IsSome, is_some}
 use Rattle.std.proofs.lemmas.Bool.{cases_lt, false≢true}
 use Rattle.std.proofs.lemmas.List.{get_or_past, set_at, set-append_left, length-set}
@@ -50,3 +50,31 @@ module _ {A : Type 0} where
   slot-moved slots s h =
       ap (λ l. set l (length slots) (get_or (slots ++ None ∷ []) s None)) (set-append_left slots (None ∷ []) s None (some-within slots s h))
       ∙ set_at (set slots s None) None [] (get_or (slots ++ None ∷ []) s None) (length slots) (length-set slots s None) ∙ ap (λ o. set slots s None ++ o ∷ []) (slot-grown slots s)
+
+  -- what the last slot holds is as well put behind it
+  pub held-last : (slots : List (Option A)) (s : ℕ) → s + 1 ≡ length slots → held (set slots s None ++ get_or slots s None ∷ []) ≡ held slots
+  held-last [] s e = absurd (omega (arith, e))
+  held-last (None ∷ []) zero e = refl
+  held-last (Some x ∷ []) zero e = refl
+  held-last (y ∷ z ∷ slots) zero e = absurd (omega (arith, e))
+  held-last (None ∷ slots) (suc s) e = held-last slots s (omega (arith, e))
+  held-last (Some x ∷ slots) (suc s) e = ap (λ l. x ∷ l) (held-last slots s (omega (arith, e)))
+
+  -- an empty last slot may be cut off
+
+  pub slot-last : (slots : List (Option A)) (s t : ℕ) → length slots ≤ s + 1 → get_or slots s None ≡ None → get_or (take s slots) t None ≡ get_or slots t None
+  slot-last [] zero t le e = refl
+  slot-last [] (suc s) t le e = refl
+  slot-last (x ∷ []) zero zero le e = sym e
+  slot-last (x ∷ []) zero (suc t) le e = refl
+  slot-last (x ∷ y ∷ slots) zero t le e = absurd (omega (arith, le))
+  slot-last (x ∷ slots) (suc s) zero le e = refl
+  slot-last (x ∷ slots) (suc s) (suc t) le e = slot-last slots s t (omega (arith, le)) e
+
+  pub held-cut : (slots : List (Option A)) (s : ℕ) → length slots ≤ s + 1 → get_or slots s None ≡ None → held (take s slots) ≡ held slots
+  held-cut [] zero le e = refl
+  held-cut [] (suc s) le e = refl
+  held-cut (x ∷ []) zero le e = sym (ap (λ o. held (o ∷ [])) e)
+  held-cut (x ∷ y ∷ slots) zero le e = absurd (omega (arith, le))
+  held-cut (None ∷ slots) (suc s) le e = held-cut slots s (omega (arith, le)) e
+  held-cut (Some x ∷ slots) (suc s) le e = ap (λ l. x ∷ l) (held-cut slots s (omega (arith, le)) e)

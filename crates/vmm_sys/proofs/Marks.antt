@@ -6,6 +6,19 @@ use Rattle.std.proofs.lemmas.List.{get_or-set_same, length-append, length-replic
 use Rattle.std.proofs.lemmas.Option.{slice_get-get_or}
 use Rattle.vmm_sys.specs.ReadySet.{IsMarked, IsFirstFrom, NoneFrom, NoneInWordFrom, IsEmptyWord, MarksWords}
 
+-- a position that isn't marked stays so
+pub bare_set : (marks : List Bool) (n : ℕ) → ¬ IsMarked marks n → marks ≡ set marks n false
+bare_set [] n bare = refl
+bare_set (true ∷ marks) zero bare = absurd (bare refl)
+bare_set (false ∷ marks) zero bare = refl
+bare_set (mark ∷ marks) (suc n) bare = ap (λ l. mark ∷ l) (bare_set marks n bare)
+
+-- one that is marked stays so
+pub marked_set : (marks : List Bool) (n : ℕ) → IsMarked marks n → marks ≡ set marks n true
+marked_set [] n is = refl
+marked_set (mark ∷ marks) zero is = let u : mark ≡ true = cc in ap (λ b. b ∷ marks) u
+marked_set (mark ∷ marks) (suc n) is = ap (λ l. mark ∷ l) (marked_set marks n is)
+
 -- a position is marked or not
 cases_marked : (marks : List Bool) (n : ℕ) → IsMarked marks n ⊎ (¬ IsMarked marks n)
 cases_marked [] n = inr (λ marked. cc)

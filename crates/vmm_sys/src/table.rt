@@ -159,6 +159,7 @@ impl Table {
     /// `EBADF`: `fd` was never opened. `EINVAL`: `Add` or `Modify` of an event with one of the four
     /// modes. `EEXIST`: `Add` where `fd` has an interest. `ENOENT`: `Modify` or `Delete` where it
     /// has none. No memory is requested.
+    #[inline(always)]
     pub fn ctl(&mut self, op: ControlOperation, fd: RawFd, event: EpollEvent) -> Result<(), Errno>
         ensures answer { Answers (ctl_of self.old op fd event) self.old result self.new }
         ensures forward { MovesForward self.old (Ctl op fd event) self.new }
@@ -273,6 +274,7 @@ impl Table {
         self.sources.get(fd as usize).copied()
     }
 
+    #[inline(always)]
     fn replace(&mut self, fd: RawFd, source: Source)
         requires { IsSome (source_in self.old fd) }
         ensures { self.new ≡ with_source self.old fd source }
@@ -283,6 +285,7 @@ impl Table {
     }
 
     // Replaces the source of a descriptor; where its state changes, its interest is marked anew.
+    #[inline(always)]
     fn set_source(&mut self, number: usize, source: Source)
         requires { number < length self.old.sources }
         ensures { self.new ≡ record self.old { sources = slice_set self.old.sources number source } }
@@ -294,6 +297,7 @@ impl Table {
         }
     }
 
+    #[inline(always)]
     fn change(&mut self, op: ControlOperation, interest: Interest) -> Result<(), Errno>
         requires { interest.descriptor < length self.old.sources }
         ensures { Answers (changed self.old op interest (place_in self.old interest.descriptor)) self.old result self.new }
@@ -309,6 +313,7 @@ impl Table {
             (ControlOperation::Delete, Some(slot)) => {
                 self.interests.remove(slot, interest.descriptor);
                 self.interests.mark(slot, false);
+                self.interests.give_back();
             }
             (ControlOperation::Modify, None) => return Err(Errno::ENOENT),
             (ControlOperation::Delete, None) => return Err(Errno::ENOENT),
@@ -375,6 +380,7 @@ fn is_ready(sources: &[Source], interest: Interest) -> bool
 }
 
 // Marks the interest of a descriptor as it is now.
+#[inline(never)]
 fn renew(sources: &[Source], interests: &mut Interests, descriptor: usize)
     ensures slots { interests.new.slots ≡ interests.old.slots }
     ensures room { interests.new.room ≡ interests.old.room }
@@ -415,6 +421,10 @@ fn report(sources: &[Source], interests: &mut Interests, buffer: &mut [EpollEven
             return count;
         };
         buffer[count] = entry_of(sources, interest);
+        if slot + 1 == interests.end() {
+            // It is the last one as it is: one descriptor alone at work takes up no slots.
+            return count + 1;
+        }
         interests.move_to_back(slot);
         from = slot + 1;
     }

@@ -103,6 +103,7 @@ impl Interests {
     }
 
     /// Marks a slot in use as ready, or as not ready.
+    #[inline(always)]
     pub(super) fn mark(&mut self, slot: usize, ready: bool)
         requires { slot < length self.old.slots }
         ensures within { slot < length self.old.marks }
@@ -157,6 +158,18 @@ impl Interests {
         self.places[descriptor] = None;
     }
 
+    /// Gives the last slot in use back, where it holds nothing.
+    pub(super) fn give_back(&mut self)
+        ensures room { self.new.room ≡ self.old.room }
+        ensures list { held self.new.slots ≡ held self.old.slots }
+        ensures marks { (p : Interest → Bool) → AreMarked p self.old → AreMarked p self.new }
+    {
+        let last = self.slots.len().saturating_sub(1);
+        if self.interest_in(last).is_none() {
+            self.slots.truncate(last);
+        }
+    }
+
     /// Leaves so many slots unused: where there are fewer, those that hold an interest come to the
     /// front.
     pub(super) fn leave_unused(&mut self, count: usize)
@@ -185,6 +198,7 @@ impl Interests {
     }
 
     // Moves the interest of a slot to an empty one, and its mark with it.
+    #[inline(always)]
     fn shift(&mut self, from: usize, to: usize)
         requires some { IsSome (slot_at self.old.slots from) }
         requires none { slot_at self.old.slots to ≡ None }
@@ -203,6 +217,8 @@ impl Interests {
     }
 
     // Moves what the slots hold to their front, in order.
+    #[cold]
+    #[inline(never)]
     fn close_up(&mut self)
         ensures room { self.new.room ≡ self.old.room }
         ensures slots { self.new.slots ≡ map Some (held self.old.slots) }
@@ -249,6 +265,7 @@ fn place_of(places: &[Option<usize>], descriptor: usize) -> Option<usize>
 }
 
 // Takes the mark of one number for another, where it has one.
+#[inline(always)]
 fn move_mark(ready: &mut ReadySet, from: usize, to: usize)
     requires from { from < length ready.old }
     requires to { to < length ready.old }

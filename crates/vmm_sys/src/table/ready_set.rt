@@ -60,10 +60,14 @@ impl ReadySet {
     }
 
     /// Puts a number in, if it isn't in the set.
+    #[inline(always)]
     pub(super) fn insert(&mut self, number: usize)
         requires { number < length self.old }
         ensures { self.new ≡ slice_set self.old number true }
     {
+        if self.numbers.contains(number) {
+            return;
+        }
         let word = number / WORD;
         let group = word / WORD;
         if self.numbers.set(number) && self.words.set(word) && self.groups.set(group) {
@@ -72,10 +76,14 @@ impl ReadySet {
     }
 
     /// Takes a number out, if it is in the set.
+    #[inline(always)]
     pub(super) fn remove(&mut self, number: usize)
         requires { number < length self.old }
         ensures { self.new ≡ slice_set self.old number false }
     {
+        if !self.numbers.contains(number) {
+            return;
+        }
         let word = number / WORD;
         let group = word / WORD;
         if self.numbers.clear(number) && self.words.clear(word) && self.groups.clear(group) {
@@ -84,6 +92,7 @@ impl ReadySet {
     }
 
     /// The lowest number of the set from `number` on.
+    #[inline(always)]
     pub(super) fn first_from(&self, number: usize) -> Option<usize>
         ensures { MatchOption result (NoneFrom self.now number) (λ n. IsFirstFrom self.now number n) }
     {
@@ -112,6 +121,7 @@ impl ReadySet {
 }
 
 // The first mark of `words` from one on.
+#[inline(never)]
 fn first_word_from(words: &Row, groups: &Row, blocks: &Row, word: usize) -> Option<usize>
     requires groups { MarksWords groups.now words.now }
     requires blocks { MarksWords blocks.now groups.now }

@@ -1,11 +1,11 @@
-use Rattle.std.proofs.Common.{◌≡◌, ◌∙◌, ◌++◌, ap, sym, subst, arith, length, drop, map, set, inl, inr, true, false, Some}
+use Rattle.std.proofs.Common.{◌≡◌, ◌+◌, ◌∙◌, ◌++◌, ap, sym, subst, arith, length, drop, map, set, inl, inr, true, false, Some}
 use Rattle.std.proofs.lemmas.Bool.{cases_lt, false≢true}
 use Rattle.std.proofs.lemmas.Option.{get_or_from_slice_get}
 use Rattle.vmm_sys.specs.Table.{is_ready, entry_of, first_ready, first_ready_last}
 use Rattle.vmm_sys.specs.Lists.{held}
 use Rattle.vmm_sys.specs.Interests.{slot_at, passes}
 use Rattle.vmm_sys.proofs.Picks.{IsDone, done_by_room}
-use Rattle.vmm_sys.proofs.Walked.{Walked-start, Walked-more, picked, done_by_marks, done_by_all}
+use Rattle.vmm_sys.proofs.Walked.{Walked-start, Walked-more, picked, done_by_marks, done_by_all, done_by_last}
 use Rattle.vmm_sys.proofs.table.report.Goals as goal
 
 pub loop-count-init : goal.loop-count-init
@@ -78,6 +78,29 @@ returns-in_default-interest_in-clause-interests c = absurd (holds-one c)
 
 pub returns-in_default-interest_in-clause-buffer : goal.returns-in_default-interest_in-clause-buffer
 returns-in_default-interest_in-clause-buffer c = absurd (holds-one c)
+
+-- the first that is marked is the last of all
+
+already_last : (c : goal.Then-slot-end-2) → (c.loop-count.count + 1 ≡ length (first_ready c.args.sources.now (held c.leave_unused.new.self.slots) (length c.args.buffer.now)))
+    × (held c.loop-count.interests.slots ≡ first_ready_last c.args.sources.now (held c.leave_unused.new.self.slots) (length c.args.buffer.now))
+    × (set c.loop-count.buffer c.loop-count.count c.entry_of.result ≡ map (entry_of c.args.sources.now) (first_ready c.args.sources.now (held c.leave_unused.new.self.slots) (length c.args.buffer.now)) ++ drop (c.loop-count.count + 1) c.args.buffer.now)
+already_last c =
+    let end = c.end-end.ensures in
+    let below = c.if-slot-end.false in
+    let fits = c.min-room.ensures in
+    let more = c.loop-count-test.true in
+    let at : slot_at c.loop-count.interests.slots c.in-Some.slot ≡ Some c.in-Some-interest_in.interest = sym c.interest_in.ensures ∙ c.in-Some-interest_in.is in
+    done_by_last c.loop-count.invariant c.in-Some.slot c.in-Some-interest_in.interest c.in-Some.ensures (omega arith) at _ (omega arith) (ap (set c.loop-count.buffer c.loop-count.count) c.entry_of.ensures) (c.if-slot-end-2.true ∙ c.end.ensures)
+
+pub returns-then-slot-end-2-clause-count : goal.returns-then-slot-end-2-clause-count
+returns-then-slot-end-2-clause-count c = subst (λ l. c.loop-count.count + 1 ≡ length (first_ready c.args.sources.now l (length c.args.buffer.now))) c.leave_unused.ensures.list (already_last c).0
+
+pub returns-then-slot-end-2-clause-interests : goal.returns-then-slot-end-2-clause-interests
+returns-then-slot-end-2-clause-interests c = subst (λ l. held c.loop-count.interests.slots ≡ first_ready_last c.args.sources.now l (length c.args.buffer.now)) c.leave_unused.ensures.list (already_last c).1
+
+pub returns-then-slot-end-2-clause-buffer : goal.returns-then-slot-end-2-clause-buffer
+returns-then-slot-end-2-clause-buffer c =
+    subst (λ l. set c.loop-count.buffer c.loop-count.count c.entry_of.result ≡ map (entry_of c.args.sources.now) (first_ready c.args.sources.now l (length c.args.buffer.now)) ++ drop (c.loop-count.count + 1) c.args.buffer.now) c.leave_unused.ensures.list (already_last c).2
 
 -- the buffer is full, or all were moved
 

@@ -1,7 +1,7 @@
-use Rattle.std.proofs.Common.{ℕ, ◌<◌, ◌/◌, Bool, List, length, sym, subst, arith}
+use Rattle.std.proofs.Common.{◌≡◌, ℕ, ◌<◌, ◌/◌, Bool, true, List, length, set, sym, subst, arith}
 use Rattle.std.proofs.lemmas.Bool.{iff_false}
 use Rattle.vmm_sys.specs.ReadySet.{AreTiers}
-use Rattle.vmm_sys.proofs.Marks.{set_first, set_further}
+use Rattle.vmm_sys.proofs.Marks.{marked_set, set_first, set_further}
 use Rattle.vmm_sys.proofs.table.ready_set.ReadySet.insert.Goals as goal
 
 -- what is written above a number lies within its row
@@ -61,3 +61,8 @@ invariant_of-self-else-set c =
       of_words = tiers.of_words;
       of_groups = tiers.of_groups;
     })
+
+pub returns-then-contains : goal.returns-then-contains
+returns-then-contains c =
+    let n = c.args.number in
+    subst (λ l. l ≡ set l n true) c.self.view_is (marked_set c.self.inside.numbers n (c.contains.ensures.0 c.if-contains.true))

@@ -1,6 +1,6 @@
-use Rattle.std.proofs.Common.{◌/◌}
+use Rattle.std.proofs.Common.{◌≡◌, ◌/◌, false, set, subst}
 use Rattle.std.proofs.lemmas.Bool.{iff_false}
-use Rattle.vmm_sys.proofs.Marks.{clear_last, clear_further}
+use Rattle.vmm_sys.proofs.Marks.{bare_set, clear_last, clear_further}
 use Rattle.vmm_sys.proofs.table.ready_set.ReadySet.remove.Goals as goal
 
 pub invariant_of-self : goal.invariant_of-self
@@ -46,3 +46,8 @@ invariant_of-self-else-clear c =
       of_words = tiers.of_words;
       of_groups = tiers.of_groups;
     })
+
+pub returns-then-not-contains : goal.returns-then-not-contains
+returns-then-not-contains c =
+    let n = c.args.number in
+    subst (λ l. l ≡ set l n false) c.self.view_is (bare_set c.self.inside.numbers n (iff_false c.contains.ensures c.if-not-contains.true))
