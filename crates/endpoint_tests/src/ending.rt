@@ -20,7 +20,12 @@ const PATIENCE: u32 = 2;
 
 /// Waits until so many are counted, and says whether they are.
 pub fn wait_until_counted<R: Clock>(rt: &R, counted: &AtomicU64, count: u64) -> bool {
-    for _turn in 0..LOOKS {
+    is_counted_within(rt, LOOKS, counted, count)
+}
+
+/// Whether so many are counted within so many looks.
+pub fn is_counted_within<R: Clock>(rt: &R, looks: u32, counted: &AtomicU64, count: u64) -> bool {
+    for _turn in 0..looks {
         if counted.load(Ordering::SeqCst) >= count {
             return true;
         }

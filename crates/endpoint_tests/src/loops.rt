@@ -1,6 +1,8 @@
 //! Loops and their senders: who runs when, what ends a loop, and what its senders then get.
 
-use crate::ending::{beside_senders, wait_until_counted, wait_until_ended, wait_until_noted};
+use crate::ending::{
+    beside_senders, is_counted_within, wait_until_counted, wait_until_ended, wait_until_noted,
+};
 use crate::expecting::{expect_noted, expect_ok, expect_run, expect_same, fire_note, new_notes};
 use crate::noting::{Noting, add_noting};
 use crate::threads::{Host, Looping, wait_until_pending};
@@ -89,7 +91,7 @@ fn on_counted_table<'a, R: Looping + Send>(
     Parts::new(alloc, Counted { poller, course }, event_fd)
 }
 
-/// A sender that ends once all have begun, the loop waits, and those behind it are ending. It gives its number.
+/// A sender that ends once all have begun, the loop waits, and those behind it are ending and wake nobody. It gives its number.
 #[derive(Drop)]
 struct Meeting<'a> {
     course: &'a Course,
@@ -99,6 +101,9 @@ struct Meeting<'a> {
 /// How many meet.
 const MEETING: u64 = 3;
 
+/// How many looks of a millisecond show that nobody was woken.
+const QUIET: u32 = 100;
+
 impl<R: Looping> Sender<Idle, NoJob, u64, R> for Meeting<'_> {
     fn send<N: Naming>(self, _endpoint: &RemoteEndpoint<Idle, NoJob, N>, rt: &R) -> u64 {
         let Meeting { course, number } = self;
@@ -107,6 +112,8 @@ impl<R: Looping> Sender<Idle, NoJob, u64, R> for Meeting<'_> {
         let loop_waits = wait_until_counted(rt, &course.waits, 1);
         let is_next = wait_until_counted(rt, &course.ending, MEETING.saturating_sub(number));
         expect_same(rt, &(all_begun, loop_waits, is_next), &(true, true, true));
+        let is_woken = is_counted_within(rt, QUIET, &course.waits, 2);
+        expect_same(rt, &is_woken, &false);
         course.ending.fetch_add(1, Ordering::SeqCst);
         number
     }
