@@ -15,6 +15,7 @@ pub mod eventfd;
 pub mod fault_poller;
 pub mod line;
 pub mod poller;
+pub mod record;
 pub mod script_poller;
 mod shared_table;
 pub mod table;
