@@ -6,6 +6,7 @@ pub mod Numbers
 pub mod Picks
 pub mod Places
 pub mod Readiness
+pub mod RecordingLemmas
 pub mod Rows
 pub mod Service
 pub mod SlotMarks

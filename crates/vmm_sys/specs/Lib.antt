@@ -5,6 +5,8 @@ pub mod Lists
 pub mod Codes
 pub mod ScriptPoller
 pub mod FaultPoller
+pub mod Record
+pub mod Recording
 pub mod ReadySet
 pub mod Row
 pub mod Table

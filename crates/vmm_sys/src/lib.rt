@@ -16,6 +16,7 @@ pub mod fault_poller;
 pub mod line;
 pub mod poller;
 pub mod record;
+pub mod recording_poller;
 pub mod script_poller;
 mod shared_table;
 pub mod table;
