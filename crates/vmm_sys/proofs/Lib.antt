@@ -7,6 +7,7 @@ pub mod Picks
 pub mod Places
 pub mod Readiness
 pub mod RecordingLemmas
+pub mod ReplayLemmas
 pub mod Rows
 pub mod Service
 pub mod SlotMarks

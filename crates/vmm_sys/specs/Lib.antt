@@ -7,6 +7,7 @@ pub mod ScriptPoller
 pub mod FaultPoller
 pub mod Record
 pub mod Recording
+pub mod Replay
 pub mod ReadySet
 pub mod Row
 pub mod Table

@@ -1,5 +1,5 @@
 -- The entries by which a record says the calls of a poller.
-use Rattle.std.specs.Prelude.{ℕ, ℤ, ◌≡◌, ◌⊎◌, List, [], ◌∷◌, map, Result, refl}
+use Rattle.std.specs.Prelude.{ℕ, ℤ, ◌≡◌, ◌⊎◌, Bool, true, false, List, [], ◌∷◌, map, Result, refl}
 use Rattle.std.specs.Coded.{Coded, code_by, coded_ℕ, coded_ℤ, coded×, coded⊎, coded_result}
 use base.Stored.{coded_unit}
 use mathlib.Core.Logic.{inl, inr}
@@ -17,6 +17,11 @@ entries_of_ctl op fd event answer = Control op fd event answer ∷ []
 -- a call of `wait` with its answer: one entry, and behind it one for each reported event
 abbrev pub entries_of_wait : ℤ → ℕ → Result ℕ Errno → List EpollEvent → List RecordEntry
 entries_of_wait ms room answer events = Wait ms room answer ∷ map Reported events
+
+-- whether an entry is an event of a report
+abbrev pub is_reported : RecordEntry → Bool
+is_reported (Reported event) = true
+is_reported _ = false
 
 -- what an entry of each kind holds
 abbrev Parts : Type 0

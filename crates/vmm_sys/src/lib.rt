@@ -17,6 +17,7 @@ pub mod line;
 pub mod poller;
 pub mod record;
 pub mod recording_poller;
+pub mod replay_poller;
 pub mod script_poller;
 mod shared_table;
 pub mod table;

@@ -6,5 +6,5 @@ abbrev pub invariant-loop-event : goal.invariant-loop-event
 invariant-loop-event l = record {
   items : l.entries.items ≡ l.initial.entries.items ++ map Reported (take l.event-index l.report);
   len : vec_len l.entries ≡ vec_len l.initial.entries + l.event-index;
-  room : vec_capacity l.entries ≡ vec_capacity l.initial.entries
+  room : vec_capacity l.entries ≡ vec_capacity l.initial.entries;
 }
