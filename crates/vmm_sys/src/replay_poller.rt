@@ -1,6 +1,6 @@
 //! A poller that answers from a record.
 
-ghost use Rattle.std.specs.Prelude.{◌≡◌, ◌≢◌, ◌↔◌, ◌+◌, ◌≤◌, ℕ, true, false, List, [], ◌++◌, map, drop, length, Result, if◌then◌else◌, IsTrue, IfSome, IfNone, OnSome};
+ghost use Rattle.std.specs.Prelude.{◌≡◌, ◌≢◌, ◌↔◌, ◌+◌, ◌≤◌, ℕ, true, false, List, [], ◌++◌, map, drop, length, Result, if◌then◌else◌, IsTrue, IfSome, IfNone, IfOk, OnErr};
 ghost use Rattle.std.specs.List.{list_all};
 ghost use Rattle.vmm_sys.specs.declared.epoll.EpollEvent.{EpollEvent};
 ghost use Rattle.vmm_sys.specs.declared.errno.Errno.{Errno};
@@ -122,7 +122,11 @@ impl Poller for ReplayPoller {
 
     /// The recorded answer with its report. `EIO`: the call isn't the next one of the record, or one before wasn't; the
     /// buffer stays.
-    fn wait(&mut self, ms: i32, buffer: &mut [EpollEvent]) -> Result<usize, Errno> {
+    fn wait(&mut self, ms: i32, buffer: &mut [EpollEvent]) -> Result<usize, Errno>
+        ensures count_fits { IfOk result (λ n. n ≤ length buffer.old) }
+        ensures answer { MayWait (replay_code.code self.old) ms (length buffer.old) result (reported result buffer.new) (replay_code.code self.new) }
+        ensures unchanged { OnErr result (buffer.new ≡ buffer.old) }
+    {
         let Some(answer) = recorded_wait(self.ahead(), ms, buffer) else {
             return Err(self.diverge());
         };
@@ -170,6 +174,7 @@ fn recorded_wait(
     ensures missing { IfNone result ((answer : Result ℕ Errno) (events : List EpollEvent) (rest : List RecordEntry) →
         IsReport (length buffer.old) answer events → ahead.now ≢ entries_of_wait ms (length buffer.old) answer events ++ rest) }
     ensures unchanged { IfNone result (buffer.new ≡ buffer.old) }
+    ensures refused { IfSome result (λ answer. OnErr answer (buffer.new ≡ buffer.old)) }
 {
     let Some(
         (
