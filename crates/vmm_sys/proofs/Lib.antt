@@ -8,6 +8,7 @@ pub mod Places
 pub mod Readiness
 pub mod RecordingLemmas
 pub mod ReplayLemmas
+pub mod Reruns
 pub mod Rows
 pub mod Service
 pub mod SlotMarks

@@ -12,8 +12,7 @@ use Rattle.vmm_sys.specs.declared.errno.Errno.{Errno}
 use Rattle.vmm_sys.specs.declared.record.RecordEntry.{RecordEntry}
 use Rattle.vmm_sys.specs.declared.record.RecordEntry.TheVariants.{Wait, Reported}
 use Rattle.vmm_sys.specs.Poller.{reported}
-use Rattle.vmm_sys.specs.Record.{entries_of_wait, is_reported}
-use Rattle.vmm_sys.specs.Replay.{IsReport}
+use Rattle.vmm_sys.specs.Record.{entries_of_wait, IsReport, is_reported}
 
 pub first-entry : {A : Type 0} (l : List A) {x : A} → Some x ≡ slice_get l 0 → l ≡ x ∷ drop 1 l
 first-entry [] e = cc

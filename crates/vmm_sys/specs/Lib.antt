@@ -8,6 +8,7 @@ pub mod FaultPoller
 pub mod Record
 pub mod Recording
 pub mod Replay
+pub mod PollerRun
 pub mod ReadySet
 pub mod Row
 pub mod Table

@@ -1,5 +1,5 @@
 -- The entries by which a record says the calls of a poller.
-use Rattle.std.specs.Prelude.{ℕ, ℤ, ◌≡◌, ◌⊎◌, Bool, true, false, List, [], ◌∷◌, map, Result, refl}
+use Rattle.std.specs.Prelude.{ℕ, ℤ, ◌≡◌, ◌≤◌, ◌⊎◌, Bool, true, false, List, [], ◌∷◌, length, map, Result, Ok, Err, refl}
 use Rattle.std.specs.Coded.{Coded, code_by, coded_ℕ, coded_ℤ, coded×, coded⊎, coded_result}
 use base.Stored.{coded_unit}
 use mathlib.Core.Logic.{inl, inr}
@@ -17,6 +17,11 @@ entries_of_ctl op fd event answer = Control op fd event answer ∷ []
 -- a call of `wait` with its answer: one entry, and behind it one for each reported event
 abbrev pub entries_of_wait : ℤ → ℕ → Result ℕ Errno → List EpollEvent → List RecordEntry
 entries_of_wait ms room answer events = Wait ms room answer ∷ map Reported events
+
+-- what a wait answers and the events that it reports belong together, and find room
+abbrev pub IsReport : ℕ → Result ℕ Errno → List EpollEvent → Type 0
+IsReport room (Ok count) events = (length events ≡ count) × (count ≤ room)
+IsReport room (Err errno) events = events ≡ []
 
 -- whether an entry is an event of a report
 abbrev pub is_reported : RecordEntry → Bool

@@ -1,5 +1,5 @@
 -- A poller that answers as a record says, while the calls are those of the record.
-use Rattle.std.specs.Prelude.{ℕ, ℤ, Bool, true, false, ◌+◌, ◌≤◌, ◌≡◌, ◌⊎◌, if◌then◌else◌, List, [], ◌++◌, length, Option, Some, None, Result, Ok, Err, refl}
+use Rattle.std.specs.Prelude.{ℕ, ℤ, Bool, true, false, ◌+◌, ◌≡◌, ◌⊎◌, if◌then◌else◌, List, [], ◌++◌, length, Option, Some, None, Result, Err, refl}
 use Rattle.std.specs.Coded.{Coded, code_by, coded_ℕ, coded_bool, coded_list, coded×}
 use base.Stored.{Gv}
 use Rattle.vmm_sys.specs.declared.epoll.EpollEvent.{EpollEvent}
@@ -7,13 +7,17 @@ use Rattle.vmm_sys.specs.declared.epoll.ControlOperation.{ControlOperation}
 use Rattle.vmm_sys.specs.declared.errno.Errno.{Errno}
 use Rattle.vmm_sys.specs.declared.errno.TheConstants.Errno.{EIO}
 use Rattle.vmm_sys.specs.declared.record.RecordEntry.{RecordEntry}
-use Rattle.vmm_sys.specs.Record.{entries_of_ctl, entries_of_wait, entry_code}
+use Rattle.vmm_sys.specs.Record.{entries_of_ctl, entries_of_wait, IsReport, entry_code}
 
 -- how many entries were answered, those that are to come, and whether a call differed from the next one
 pub record Replay : Type 0 where
   pub passed : ℕ
   pub ahead : List RecordEntry
   pub diverged : Bool
+
+-- nothing of a record was answered
+abbrev pub start_of : List RecordEntry → Replay
+start_of entries = record { passed = 0; ahead = entries; diverged = false }
 
 -- no call differed, the entries of this call are the next ones, and the replay passes them
 pub record Passes (s : Replay) (call : List RecordEntry) (t : Replay) : Type 0 where
@@ -29,11 +33,6 @@ divergence s = record s { diverged = true }
 -- where the run and the record part: the index of an entry
 abbrev pub divergence_index : Replay → Option ℕ
 divergence_index s = if s.diverged then Some s.passed else None
-
--- what a wait answers and the events that it reports belong together, and find room
-abbrev pub IsReport : ℕ → Result ℕ Errno → List EpollEvent → Type 0
-IsReport room (Ok count) events = (length events ≡ count) × (count ≤ room)
-IsReport room (Err errno) events = events ≡ []
 
 -- the recorded answer of this `ctl`, if it is the next call; where no answer makes it the next, a refusal and a divergence
 abbrev pub AnswersCtl : Replay → ControlOperation → ℤ → EpollEvent → Result (Unit {0}) Errno → Replay → Type 0

@@ -2,13 +2,17 @@
 
 ghost use Rattle.std.specs.Prelude.{◌≡◌, ◌≢◌, ◌↔◌, ◌+◌, ◌≤◌, ℕ, true, false, List, [], ◌++◌, map, drop, length, Result, if◌then◌else◌, IsTrue, IfSome, IfNone, IfOk, OnErr};
 ghost use Rattle.std.specs.List.{list_all};
+ghost use base.Stored.{Gv};
 ghost use Rattle.vmm_sys.specs.declared.epoll.EpollEvent.{EpollEvent};
 ghost use Rattle.vmm_sys.specs.declared.errno.Errno.{Errno};
 ghost use Rattle.vmm_sys.specs.declared.record.RecordEntry.{RecordEntry};
 ghost use Rattle.vmm_sys.specs.declared.record.RecordEntry.TheVariants.{Reported};
 ghost use Rattle.vmm_sys.specs.Poller.{reported};
-ghost use Rattle.vmm_sys.specs.Record.{entries_of_ctl, entries_of_wait, is_reported};
-ghost use Rattle.vmm_sys.specs.Replay.{divergence, divergence_index, IsReport, replay_code, MayCtl, MayWait};
+ghost use Rattle.vmm_sys.specs.PollerRun.{Call, question, entries_of, Runs};
+ghost use Rattle.vmm_sys.specs.Record.{entries_of_ctl, entries_of_wait, IsReport, is_reported};
+ghost use Rattle.vmm_sys.specs.Recording as recording;
+ghost use Rattle.vmm_sys.specs.Recording.{Recording, recording_code};
+ghost use Rattle.vmm_sys.specs.Replay.{start_of, divergence, divergence_index, replay_code, MayCtl, MayWait};
 
 use crate::epoll::{ControlOperation, EpollEvent, RawFd};
 use crate::errno::Errno;
@@ -43,7 +47,7 @@ impl Model for ReplayPoller {
 impl ReplayPoller {
     /// At the front of the record, which may hold anything.
     pub fn new(entries: Vec<RecordEntry>) -> ReplayPoller
-        ensures { result ≡ record { passed = 0; ahead = entries.items; diverged = false } }
+        ensures { result ≡ start_of entries.items }
     {
         ReplayPoller {
             entries,
@@ -134,6 +138,19 @@ impl Poller for ReplayPoller {
         answer
     }
 }
+
+/// A record from which no call was left out says its calls, and they are a run of the recorded poller. A replay of a run's
+/// record that is asked what the run was asked answers what the run was answered, reports included; it then stands behind
+/// the run's entries, before what was recorded later.
+pub fn recorded_runs_replay<P: Poller>()
+    ensures recorded { (before after : Recording Gv) (calls : List Call) → after.complete ≡ true →
+        Runs (recording.MayCtl P.may_ctl) (recording.MayWait P.may_wait) (recording_code.code before) calls (recording_code.code after) →
+        (after.entries ≡ before.entries ++ entries_of calls) × Runs P.may_ctl P.may_wait before.poller calls after.poller }
+    ensures replayed { (before after : Gv) (calls others : List Call) (later : List RecordEntry) (left : Gv) →
+        Runs P.may_ctl P.may_wait before calls after → map question others ≡ map question calls →
+        Runs MayCtl MayWait (replay_code.code (start_of (entries_of calls ++ later))) others left →
+        (others ≡ calls) × (left ≡ replay_code.code (record { passed = length (entries_of calls); ahead = later; diverged = false })) }
+{}
 
 // What a `ctl` answered whose entry is the first.
 fn recorded_ctl(
