@@ -5,6 +5,7 @@ use base.Stored.{Gv}
 use Rattle.vmm_sys.specs.declared.epoll.EpollEvent.{EpollEvent}
 use Rattle.vmm_sys.specs.declared.epoll.ControlOperation.{ControlOperation}
 use Rattle.vmm_sys.specs.declared.errno.Errno.{Errno}
+use Rattle.vmm_sys.specs.Poller.{CtlRelation, WaitRelation}
 use Rattle.vmm_sys.specs.Record.{entries_of_ctl, entries_of_wait}
 use Rattle.vmm_sys.specs.Recording.{Recording, recorded, with_poller, recording_code, MayCtl, MayWait}
 
@@ -13,7 +14,7 @@ module _ {P : Type 0} (meaning : P → Gv) where
   seen s = recording_code.code (with_poller s (meaning s.poller))
 
   module _ (poller : P) {r before after : Recording P} (is : r ≡ before) where
-    pub ctl-recorded : (may_ctl : Gv → ControlOperation → ℤ → EpollEvent → Result (Unit {0}) Errno → Gv → Type 0) (op : ControlOperation) {fd z : ℤ} (event : EpollEvent) (answer : Result (Unit {0}) Errno) → z ≡ fd
+    pub ctl-recorded : (may_ctl : CtlRelation) (op : ControlOperation) {fd z : ℤ} (event : EpollEvent) (answer : Result (Unit {0}) Errno) → z ≡ fd
         → may_ctl (meaning r.poller) op z event answer (meaning poller)
         → after ≡ recorded (with_poller r poller) (entries_of_ctl op z event answer)
         → MayCtl may_ctl (seen before) op fd event answer (seen after)
@@ -22,7 +23,7 @@ module _ {P : Type 0} (meaning : P → Gv) where
         let at_fd : MayCtl may_ctl (seen r) op fd event answer (seen after) = subst (λ n. MayCtl may_ctl (seen r) op n event answer (seen after)) same call in
         subst (λ s. MayCtl may_ctl (seen s) op fd event answer (seen after)) is at_fd
 
-    pub wait-recorded : (may_wait : Gv → ℤ → ℕ → Result ℕ Errno → List EpollEvent → Gv → Type 0) {ms z : ℤ} (room : ℕ) (answer : Result ℕ Errno) {events report : List EpollEvent} → z ≡ ms → report ≡ events
+    pub wait-recorded : (may_wait : WaitRelation) {ms z : ℤ} (room : ℕ) (answer : Result ℕ Errno) {events report : List EpollEvent} → z ≡ ms → report ≡ events
         → may_wait (meaning r.poller) z room answer events (meaning poller)
         → after ≡ recorded (with_poller r poller) (entries_of_wait z room answer report)
         → MayWait may_wait (seen before) ms room answer events (seen after)

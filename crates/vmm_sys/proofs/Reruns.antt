@@ -8,6 +8,7 @@ use Rattle.vmm_sys.specs.declared.epoll.ControlOperation.{ControlOperation}
 use Rattle.vmm_sys.specs.declared.errno.Errno.{Errno}
 use Rattle.vmm_sys.specs.declared.record.RecordEntry.{RecordEntry}
 use Rattle.vmm_sys.specs.declared.record.RecordEntry.TheVariants.{Reported}
+use Rattle.vmm_sys.specs.Poller.{CtlRelation, WaitRelation}
 use Rattle.vmm_sys.specs.Record.{entries_of_ctl, entries_of_wait, IsReport}
 use Rattle.vmm_sys.specs.Recording as recording
 use Rattle.vmm_sys.specs.Recording.{Recording, recorded, is_recorded, with_poller, recording_code}
@@ -22,7 +23,7 @@ left-true false b e = cc
 kept : (r : Recording Gv) (poller : Gv) (call : List RecordEntry) → (recorded (with_poller r poller) call).complete ≡ true → (r.complete ≡ true) × ((recorded (with_poller r poller) call).entries ≡ r.entries ++ call)
 kept r poller call full = (left-true r.complete _ full, ap (λ b. if b then r.entries ++ call else r.entries) full)
 
-module _ (may_ctl : Gv → ControlOperation → ℤ → EpollEvent → Result (Unit {0}) Errno → Gv → Type 0) (may_wait : Gv → ℤ → ℕ → Result ℕ Errno → List EpollEvent → Gv → Type 0) where
+module _ (may_ctl : CtlRelation) (may_wait : WaitRelation) where
   abbrev IsRecorded : List Call → Recording Gv → Recording Gv → Type 0
   IsRecorded calls t r = (r.complete ≡ true) × (t.entries ≡ r.entries ++ entries_of calls) × Runs may_ctl may_wait r.poller calls t.poller
 
@@ -90,7 +91,7 @@ wait-answered s t ms room answer other events found rest agreed report ahead (in
     (same, both.0, after ∙ ap (λ a. passed_by s (entries_of_wait ms room a found) rest) same ∙ ap (λ l. passed_by s (entries_of_wait ms room answer l) rest) both.0)
 wait-answered s t ms room answer other events found rest agreed report ahead (inr q) = absurd (q.0 answer events (passed_by s (entries_of_wait ms room answer events) rest) report (record { agreed = agreed; next = ahead; count = refl; agrees = refl }))
 
-module _ (may_ctl : Gv → ControlOperation → ℤ → EpollEvent → Result (Unit {0}) Errno → Gv → Type 0) (may_wait : Gv → ℤ → ℕ → Result ℕ Errno → List EpollEvent → Gv → Type 0) (later : List RecordEntry) where
+module _ (may_ctl : CtlRelation) (may_wait : WaitRelation) (later : List RecordEntry) where
   -- the others are these calls, and the replay has passed their entries
   abbrev pub AreReplayed : Replay → Gv → List Call → List Call → Type 0
   AreReplayed s end calls others = (others ≡ calls) × (end ≡ replay_code.code (passed_by s (entries_of calls) later))

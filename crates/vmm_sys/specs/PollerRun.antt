@@ -5,6 +5,7 @@ use Rattle.vmm_sys.specs.declared.epoll.EpollEvent.{EpollEvent}
 use Rattle.vmm_sys.specs.declared.epoll.ControlOperation.{ControlOperation}
 use Rattle.vmm_sys.specs.declared.errno.Errno.{Errno}
 use Rattle.vmm_sys.specs.declared.record.RecordEntry.{RecordEntry}
+use Rattle.vmm_sys.specs.Poller.{CtlRelation, WaitRelation}
 use Rattle.vmm_sys.specs.Record.{entries_of_ctl, entries_of_wait, IsReport}
 
 -- a call with its answer; a wait's with its report too
@@ -24,8 +25,9 @@ entries_of (Ctl op fd event answer ∷ calls) = entries_of_ctl op fd event answe
 entries_of (Wait ms room answer events ∷ calls) = entries_of_wait ms room answer events ++ entries_of calls
 
 -- by these relations of a poller the calls lead from one state to the other
-module _ (may_ctl : Gv → ControlOperation → ℤ → EpollEvent → Result (Unit {0}) Errno → Gv → Type 0) (may_wait : Gv → ℤ → ℕ → Result ℕ Errno → List EpollEvent → Gv → Type 0) where
+module _ (may_ctl : CtlRelation) (may_wait : WaitRelation) where
   abbrev pub Runs : Gv → List Call → Gv → Type 0
   Runs before [] after = before ≡ after
   Runs before (Ctl op fd event answer ∷ calls) after = (next : Gv) × may_ctl before op fd event answer next × Runs next calls after
-  Runs before (Wait ms room answer events ∷ calls) after = (next : Gv) × IsReport room answer events × may_wait before ms room answer events next × Runs next calls after
+  Runs before (Wait ms room answer events ∷ calls) after =
+      (next : Gv) × IsReport room answer events × may_wait before ms room answer events next × Runs next calls after

@@ -50,4 +50,7 @@ entry-parts (Reported event) = refl
 -- an entry as a tree of numbers: different entries have different codes
 abbrev pub entry_code : Coded RecordEntry
 entry_code =
-    code_by Parts (coded⊎ (coded× operation_code (coded× coded_ℤ (coded× event_code (coded_result coded_unit errno_code)))) (coded⊎ (coded× coded_ℤ (coded× coded_ℕ (coded_result coded_ℕ errno_code))) event_code)) parts entry entry-parts
+    code_by Parts
+    (coded⊎ (coded× operation_code (coded× coded_ℤ (coded× event_code (coded_result coded_unit errno_code))))
+    (coded⊎ (coded× coded_ℤ (coded× coded_ℕ (coded_result coded_ℕ errno_code))) event_code))
+    parts entry entry-parts
