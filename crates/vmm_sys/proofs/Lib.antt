@@ -6,6 +6,9 @@ pub mod Numbers
 pub mod Picks
 pub mod Places
 pub mod Readiness
+pub mod RecordingLemmas
+pub mod ReplayLemmas
+pub mod Reruns
 pub mod Rows
 pub mod Service
 pub mod SlotMarks

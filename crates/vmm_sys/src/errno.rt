@@ -18,6 +18,9 @@ impl Errno {
     /// The wait was interrupted.
     pub const EINTR: Errno = Errno(4);
 
+    /// A call isn't the one that a record has next.
+    pub const EIO: Errno = Errno(5);
+
     /// The descriptor isn't open, or isn't of the kind that the call is for.
     pub const EBADF: Errno = Errno(9);
 

@@ -19,6 +19,8 @@ mod memory;
 #[cfg(test)]
 mod random_calls;
 #[cfg(test)]
+mod records;
+#[cfg(test)]
 mod script_poller;
 #[cfg(test)]
 mod shared_table;

@@ -1,0 +1,10 @@
+use Rattle.std.proofs.Common.{◌≡◌, ◌+◌, ◌++◌, map, take, vec_len, vec_capacity}
+use Rattle.vmm_sys.specs.declared.record.RecordEntry.TheVariants.{Reported}
+use Rattle.vmm_sys.proofs.recording_poller.push_call.Given as goal
+
+abbrev pub invariant-loop-event : goal.invariant-loop-event
+invariant-loop-event l = record {
+  items : l.entries.items ≡ l.initial.entries.items ++ map Reported (take l.event-index l.report);
+  len : vec_len l.entries ≡ vec_len l.initial.entries + l.event-index;
+  room : vec_capacity l.entries ≡ vec_capacity l.initial.entries;
+}
