@@ -1,0 +1,42 @@
+//! Why a text is not read.
+
+use thiserror::Error;
+
+/// Why a text is not read as a record.
+#[derive(Clone, Copy, Debug, PartialEq, Eq, Error)]
+pub enum RecordFault {
+    /// A line is none of an entry's: the first such, counted from 1.
+    #[error("line {number}: {fault}")]
+    BadLine {
+        number: usize,
+        fault: LineFault,
+    },
+
+    /// A request for memory was refused.
+    #[error("out of memory")]
+    OutOfMemory,
+}
+
+/// What is wrong with a line.
+#[derive(Clone, Copy, Debug, PartialEq, Eq, Error)]
+pub enum LineFault {
+    /// Its first field is none of `add`, `modify`, `delete`, `wait` and `event`.
+    #[error("unknown entry")]
+    UnknownEntry,
+
+    /// It has too few fields, or too many before its answer or in place of one.
+    #[error("wrong number of fields")]
+    WrongFields,
+
+    /// A field is not a number, is out of its range, or is not written in the one way.
+    #[error("bad number")]
+    BadNumber,
+
+    /// Its answer is none that the call can have.
+    #[error("bad answer")]
+    BadAnswer,
+
+    /// It has no `\n`.
+    #[error("no end of line")]
+    NoEnd,
+}
