@@ -1,5 +1,9 @@
 //! Why a text is not read.
 
+ghost use Rattle.std.specs.Prelude.{◌≡◌};
+ghost use Rattle.poller_records.specs.declared.fault.RecordFault.TheVariants as fault;
+
+use std::alloc::{AllocError, AllocFailed};
 use thiserror::Error;
 
 /// Why a text is not read as a record.
@@ -15,6 +19,22 @@ pub enum RecordFault {
     /// A request for memory was refused.
     #[error("out of memory")]
     OutOfMemory,
+}
+
+impl From<AllocError> for RecordFault {
+    ghost from_gives = { λ error result. result ≡ fault.OutOfMemory };
+
+    fn from(_error: AllocError) -> RecordFault {
+        RecordFault::OutOfMemory
+    }
+}
+
+impl<T: Drop> From<AllocFailed<T>> for RecordFault {
+    ghost from_gives = { λ error result. result ≡ fault.OutOfMemory };
+
+    fn from(_error: AllocFailed<T>) -> RecordFault {
+        RecordFault::OutOfMemory
+    }
 }
 
 /// What is wrong with a line.

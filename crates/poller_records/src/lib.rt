@@ -1,5 +1,8 @@
 //! A record of a poller's calls as text, a line an entry.
 #![tactic(auto)]
 
+mod answers;
+mod entries;
 pub mod fault;
 mod numbers;
+pub mod text;
