@@ -1,7 +1,9 @@
 -- How a text is read, line by line.
-use Rattle.std.proofs.Common.{ℕ, ◌≡◌, ◌≢◌, ◌+◌, ◌<◌, List, [], ◌∷◌, ◌++◌, length, get_or, Result, Ok, Err, Option, Some, None, MatchResult, IfErr, IfSome, Bor, sym, ap, arith, refl, ◌∙◌, lit<, append_assoc, append-nil, length-append, subst}
+use Rattle.std.proofs.Common.{ℕ, ◌≡◌, ◌≢◌, ◌+◌, ◌<◌, List, [], ◌∷◌, ◌++◌, length, get_or, Result, Ok, Err, Option, Some, None, MatchResult, IfErr, IfSome, Bor, sym, ap, arith, refl, ◌∙◌, lit<, append_assoc, append-nil, length-append, subst, Bool, true, false, true≢false, ◌==◌}
 use Rattle.std.specs.List.{All}
 use Rattle.std.specs.Option.{MatchOption}
+use Rattle.std.proofs.lemmas.Bool.Decides.{Decides-eqb}
+use Rattle.std.proofs.lemmas.List.{nil_from_length}
 use Rattle.std.proofs.lemmas.List.Elements.{All-head, All-tail}
 use Rattle.std.proofs.lemmas.List.Concat.{flat_map-append}
 use Rattle.std.proofs.lemmas.Option.{MatchOption-at_some, MatchOption-at_none}
@@ -28,8 +30,17 @@ pub record IsRead (text : List ℕ) (before : List RecordEntry) (rest : List ℕ
 abbrev pub HasNoLine : List ℕ → Type 0
 HasNoLine rest = (entry : RecordEntry) (behind : List ℕ) → IsEntry entry → rest ≢ line_of entry ++ 10 ∷ behind
 
-pub nothing_read : (text : List ℕ) → IsRead text [] text
-nothing_read text = record { split = refl; goes_on = λ all held is. (all, held, refl, is) }
+-- the answer of is_empty
+pub is_left : (rest : List ℕ) (empty : Bool) → empty ≡ (length rest == 0) → empty ≡ false → rest ≢ []
+is_left rest empty answer not_empty nothing = true≢false (ap (λ rest. length rest == 0) (sym nothing) ∙ sym answer ∙ not_empty)
+
+pub is_done : (rest : List ℕ) (empty : Bool) → empty ≡ (length rest == 0) → empty ≡ true → rest ≡ []
+is_done rest empty answer done = nil_from_length rest ((Decides-eqb (length rest) 0).0 (sym answer ∙ done))
+
+-- the line in front is bad
+pub first_bad : (text : List ℕ) (before : List RecordEntry) (rest : List ℕ) (count : ℕ) → IsRead text before rest → count ≡ length before → rest ≢ [] → HasNoLine rest → IsFirstBad text (count + 1)
+first_bad text before rest count so_far counted more bad =
+    record { before = before; rest = rest; split = so_far.split; count = ap (λ n. n + 1) (sym counted); more = more; bad = bad }
 
 -- where a line of an entry is in front, it is what stands before the first newline
 pub line_in_front : (rest : List ℕ) (cut : Option (Bor (List ℕ) × Bor (List ℕ))) (entry : RecordEntry) (behind : List ℕ) → IsSplitOnceResult 10 rest cut → IsEntry entry → rest ≡ line_of entry ++ 10 ∷ behind → MatchOption cut ⊥ (λ parts. (parts.0.now ≡ line_of entry) × (parts.1.now ≡ behind))

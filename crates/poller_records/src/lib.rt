@@ -4,5 +4,6 @@
 mod answers;
 mod entries;
 pub mod fault;
+pub mod laws;
 mod numbers;
 pub mod text;
