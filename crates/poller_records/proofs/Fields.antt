@@ -1,5 +1,6 @@
 -- The fields of a line: no space and no newline is in one.
-use Rattle.std.proofs.Common.{ℕ, ℤ, pos, negsuc, suc, ◌≡◌, ◌≢◌, ◌≤◌, ◌<◌, ◌+◌, ◌^◌, ◌==◌, nat_lt, Bool, true, false, List, [], ◌∷◌, ◌++◌, length, get_or, Result, Ok, Err, IfOk, FitsSigned, sym, ap, arith, refl, ◌∙◌, lit<, codes}
+use Rattle.std.proofs.Common.{ℕ, ℤ, pos, negsuc, suc, ◌≡◌, ◌≢◌, ◌<◌, ◌^◌, ◌==◌, nat_lt, true, false, List}
+use Rattle.std.proofs.Common.{[], ◌∷◌, length, get_or, Result, Ok, Err, IfOk, FitsSigned, ap, arith, refl, ◌∙◌, lit<, codes}
 use Rattle.std.specs.Fmt.{decimal, signed_decimal}
 use Rattle.std.specs.Int.{w32}
 use Rattle.std.specs.List.{All, AllByRecursion, list_all, slice_split, join_with_byte}
@@ -13,12 +14,11 @@ use Rattle.std.proofs.lemmas.Bool.Decides.{Decides-ltb, Decides-eqb}
 use Rattle.std.proofs.lemmas.Bool.{false_from_ne_true}
 use Rattle.vmm_sys.specs.declared.epoll.ControlOperation.{ControlOperation}
 use Rattle.vmm_sys.specs.declared.epoll.ControlOperation.TheVariants.{Add, Modify, Delete}
-use Rattle.vmm_sys.specs.declared.epoll.EpollEvent.{EpollEvent}
 use Rattle.vmm_sys.specs.declared.errno.Errno.{Errno}
 use Rattle.vmm_sys.specs.declared.record.RecordEntry.{RecordEntry}
 use Rattle.vmm_sys.specs.declared.record.RecordEntry.TheVariants.{Control, Wait, Reported}
-use Rattle.poller_records.specs.Held.{IsEvent, IsEntry, HasErrno}
-use Rattle.poller_records.specs.Lines.{operation_word, control_answer, wait_answer, event_fields, fields_of, line_of}
+use Rattle.poller_records.specs.Held.{IsEntry, HasErrno}
+use Rattle.poller_records.specs.Lines.{operation_word, control_answer, wait_answer, fields_of, line_of}
 
 -- above the space
 abbrev IsVisible : ℕ → Type 0
@@ -69,7 +69,8 @@ without_space bytes all =
     All-weaker IsVisible (λ byte. (byte == 32) ≡ false) (λ byte above. false_from_ne_true _ (λ same. omega (arith, above, (Decides-eqb byte 32).0 same))) bytes all
 
 -- fields that are joined by spaces are cut there again
-cut : (field : List ℕ) (fields : List (List ℕ)) → AreFields (field ∷ fields) → slice_split (λ byte. byte == 32) (join_with_byte 32 (field ∷ fields)) ≡ field ∷ fields
+cut : (field : List ℕ) (fields : List (List ℕ)) → AreFields (field ∷ fields) →
+    slice_split (λ byte. byte == 32) (join_with_byte 32 (field ∷ fields)) ≡ field ∷ fields
 cut field [] all = slice_split_none _ field (without_space field all.0)
 cut field (next ∷ fields) all =
     slice_split_at _ field 32 _ (without_space field all.0) refl ∙ ap (λ rest. field ∷ rest) (cut next fields all.1)

@@ -1,5 +1,6 @@
 -- How a text is read, line by line.
-use Rattle.std.proofs.Common.{ℕ, ◌≡◌, ◌≢◌, ◌+◌, ◌<◌, List, [], ◌∷◌, ◌++◌, length, get_or, Result, Ok, Err, Option, Some, None, MatchResult, IfErr, IfSome, Bor, sym, ap, arith, refl, ◌∙◌, lit<, append_assoc, append-nil, length-append, subst, Bool, true, false, true≢false, ◌==◌}
+use Rattle.std.proofs.Common.{ℕ, ◌≡◌, ◌≢◌, ◌+◌, List, [], ◌∷◌, ◌++◌, length, Option, Some, None, IfSome, Bor}
+use Rattle.std.proofs.Common.{sym, ap, arith, refl, ◌∙◌, lit<, append_assoc, append-nil, length-append, subst, Bool, true, false, true≢false, ◌==◌}
 use Rattle.std.specs.List.{All}
 use Rattle.std.specs.Option.{MatchOption}
 use Rattle.std.proofs.lemmas.Bool.Decides.{Decides-eqb}
@@ -38,12 +39,15 @@ pub is_done : (rest : List ℕ) (empty : Bool) → empty ≡ (length rest == 0) 
 is_done rest empty answer done = nil_from_length rest ((Decides-eqb (length rest) 0).0 (sym answer ∙ done))
 
 -- the line in front is bad
-pub first_bad : (text : List ℕ) (before : List RecordEntry) (rest : List ℕ) (count : ℕ) → IsRead text before rest → count ≡ length before → rest ≢ [] → HasNoLine rest → IsFirstBad text (count + 1)
+pub first_bad : (text : List ℕ) (before : List RecordEntry) (rest : List ℕ) (count : ℕ) → IsRead text before rest → count ≡ length before →
+    rest ≢ [] → HasNoLine rest → IsFirstBad text (count + 1)
 first_bad text before rest count so_far counted more bad =
     record { before = before; rest = rest; split = so_far.split; count = ap (λ n. n + 1) (sym counted); more = more; bad = bad }
 
 -- where a line of an entry is in front, it is what stands before the first newline
-pub line_in_front : (rest : List ℕ) (cut : Option (Bor (List ℕ) × Bor (List ℕ))) (entry : RecordEntry) (behind : List ℕ) → IsSplitOnceResult 10 rest cut → IsEntry entry → rest ≡ line_of entry ++ 10 ∷ behind → MatchOption cut ⊥ (λ parts. (parts.0.now ≡ line_of entry) × (parts.1.now ≡ behind))
+pub line_in_front : (rest : List ℕ) (cut : Option (Bor (List ℕ) × Bor (List ℕ))) (entry : RecordEntry) (behind : List ℕ) →
+    IsSplitOnceResult 10 rest cut → IsEntry entry → rest ≡ line_of entry ++ 10 ∷ behind →
+    MatchOption cut ⊥ (λ parts. (parts.0.now ≡ line_of entry) × (parts.1.now ≡ behind))
 line_in_front rest cut entry behind is_cut held is = split_after 10 rest (line_of entry) behind cut is_cut (lit< tt) is (no_newline entry held)
 
 -- the line of an entry, and its newline
@@ -55,12 +59,14 @@ pub bad_end : (rest : List ℕ) (cut : Option (Bor (List ℕ) × Bor (List ℕ))
 bad_end rest cut is_cut none entry behind held is = MatchOption-at_none _ _ none (line_in_front rest cut entry behind is_cut held is)
 
 -- nor is one where what stands before the newline is no line
-pub bad_front : (rest : List ℕ) (cut : Option (Bor (List ℕ) × Bor (List ℕ))) (parts : Bor (List ℕ) × Bor (List ℕ)) → IsSplitOnceResult 10 rest cut → cut ≡ Some parts →
+pub bad_front : (rest : List ℕ) (cut : Option (Bor (List ℕ) × Bor (List ℕ))) (parts : Bor (List ℕ) × Bor (List ℕ)) → IsSplitOnceResult 10 rest cut →
+    cut ≡ Some parts →
     ((entry : RecordEntry) → IsEntry entry → parts.0.now ≢ line_of entry) → HasNoLine rest
 bad_front rest cut parts is_cut found not entry behind held is = not entry held (MatchOption-at_some _ _ parts found (line_in_front rest cut entry behind is_cut held is)).0
 
 -- the text of one more entry
-text_of-push : (before : List RecordEntry) (entry : RecordEntry) (behind : List ℕ) → text_of (before ++ entry ∷ []) ++ behind ≡ text_of before ++ (line_of entry ++ 10 ∷ behind)
+text_of-push : (before : List RecordEntry) (entry : RecordEntry) (behind : List ℕ) →
+    text_of (before ++ entry ∷ []) ++ behind ≡ text_of before ++ (line_of entry ++ 10 ∷ behind)
 text_of-push before entry behind = simp (flat_map-append ended_line before (entry ∷ []), append_assoc) refl
 
 -- what is left of a text of entries begins with a line, if it isn't empty
@@ -75,8 +81,13 @@ record BeginsWith (all : List RecordEntry) (rest : List ℕ) : Type 0 where
 begins_with : (all : List RecordEntry) (rest : List ℕ) → All IsEntry all → rest ≡ text_of all → rest ≢ [] → BeginsWith all rest
 begins_with [] rest held is more = absurd (more is)
 begins_with (first ∷ others) rest held is more = record {
-    first = first; others = others; is = refl; held = All-head IsEntry first others held; others_held = All-tail IsEntry first others held;
-    split = is ∙ append_assoc (line_of first) (10 ∷ []) (text_of others) }
+  first = first;
+  others = others;
+  is = refl;
+  held = All-head IsEntry first others held;
+  others_held = All-tail IsEntry first others held;
+  split = is ∙ append_assoc (line_of first) (10 ∷ []) (text_of others);
+}
 
 -- one more entry is read
 pub read_more : (text : List ℕ) (before : List RecordEntry) (rest : List ℕ) (entry : RecordEntry) (cut : Option (Bor (List ℕ) × Bor (List ℕ))) (parts : Bor (List ℕ) × Bor (List ℕ)) →
@@ -85,15 +96,16 @@ pub read_more : (text : List ℕ) (before : List RecordEntry) (rest : List ℕ) 
     IsRead text (before ++ entry ∷ []) parts.1.now
 read_more text before rest entry cut parts so_far more is_cut found is only =
     record { split = so_far.split ∙ ap (λ rest. text_of before ++ rest) (pieces ∙ ap (λ line. line ++ 10 ∷ parts.1.now) is) ∙ sym (text_of-push before entry parts.1.now); goes_on = next } where
-  pieces : rest ≡ parts.0.now ++ 10 ∷ parts.1.now
-  pieces = (MatchOption-at_some _ _ parts found (split_parts 10 rest cut is_cut (lit< tt))).0
-  next : GoesOn text (before ++ entry ∷ []) parts.1.now
-  next all held all_is =
-      let left = so_far.goes_on all held all_is in
-      let begins = begins_with left.0 rest left.1 left.3 more in
-      let same = MatchOption-at_some _ _ parts found (line_in_front rest cut begins.first (text_of begins.others) is_cut begins.held begins.split) in
-      let entry_is = only begins.first begins.held same.0 in
-      (begins.others, begins.others_held, left.2 ∙ ap (λ more. before ++ more) (begins.is ∙ ap (λ e. e ∷ begins.others) (sym entry_is)) ∙ sym (append_assoc before (entry ∷ []) begins.others), same.1)
+      pieces : rest ≡ parts.0.now ++ 10 ∷ parts.1.now
+      pieces = (MatchOption-at_some _ _ parts found (split_parts 10 rest cut is_cut (lit< tt))).0
+
+      next : GoesOn text (before ++ entry ∷ []) parts.1.now
+      next all held all_is =
+          let left = so_far.goes_on all held all_is in
+          let begins = begins_with left.0 rest left.1 left.3 more in
+          let same = MatchOption-at_some _ _ parts found (line_in_front rest cut begins.first (text_of begins.others) is_cut begins.held begins.split) in
+          let entry_is = only begins.first begins.held same.0 in
+          (begins.others, begins.others_held, left.2 ∙ ap (λ more. before ++ more) (begins.is ∙ ap (λ e. e ∷ begins.others) (sym entry_is)) ∙ sym (append_assoc before (entry ∷ []) begins.others), same.1)
 
 -- where no line is in front, the text is none of entries
 pub not_written : (text : List ℕ) (before : List RecordEntry) (rest : List ℕ) → IsRead text before rest → rest ≢ [] →
@@ -109,13 +121,15 @@ none_left (entry ∷ more) is =
     absurd (omega (arith, sym (length-append (ended_line entry) (text_of more)) ∙ ap length is, length-append (line_of entry) (10 ∷ [])))
 
 -- where all is read, these are the entries
-pub all_read : (text : List ℕ) (before : List RecordEntry) (rest : List ℕ) → IsRead text before rest → rest ≡ [] → (all : List RecordEntry) → All IsEntry all → text ≡ text_of all → before ≡ all
+pub all_read : (text : List ℕ) (before : List RecordEntry) (rest : List ℕ) → IsRead text before rest → rest ≡ [] → (all : List RecordEntry) →
+    All IsEntry all → text ≡ text_of all → before ≡ all
 all_read text before rest so_far done all held is =
     let left = so_far.goes_on all held is in
     sym (left.2 ∙ ap (λ more. before ++ more) (none_left left.0 (sym left.3 ∙ done)) ∙ append-nil before)
 
 -- a fault names this line, unless memory was refused
-pub named : (text : List ℕ) (number : ℕ) (fault : RecordFault) → IfSome (bad_line fault) (λ bad. bad ≡ number) → (fault ≢ OutOfMemory → IsFirstBad text number) → IfSome (bad_line fault) (λ bad. IsFirstBad text bad)
+pub named : (text : List ℕ) (number : ℕ) (fault : RecordFault) → IfSome (bad_line fault) (λ bad. bad ≡ number) →
+    (fault ≢ OutOfMemory → IsFirstBad text number) → IfSome (bad_line fault) (λ bad. IsFirstBad text bad)
 named text number (BadLine bad why) is first = subst (λ n. IsFirstBad text n) (sym is) (first (λ same. cc))
 named text number OutOfMemory is first = tt
 

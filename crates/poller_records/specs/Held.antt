@@ -1,5 +1,5 @@
 -- What the types of an entry's numbers can hold.
-use Rattle.std.specs.Prelude.{ℕ, ◌<◌, ◌^◌, Result, IfOk, IfErr, FitsSigned}
+use Rattle.std.specs.Prelude.{◌<◌, ◌^◌, Result, IfOk, IfErr, FitsSigned}
 use Rattle.std.specs.Int.{w32}
 use Rattle.vmm_sys.specs.EpollEvent.{set_of, word_of}
 use Rattle.vmm_sys.specs.EventSet.{bits_of}

@@ -1,7 +1,7 @@
 -- The text of a record.
-use Rattle.std.specs.Prelude.{ℕ, ◌<◌, ◌^◌, List, [], ◌∷◌, ◌++◌, Result, Ok, Err, IfOk, IfErr, codes, FitsSigned}
+use Rattle.std.specs.Prelude.{map, ℕ, List, [], ◌∷◌, ◌++◌, Result, Ok, Err, codes}
+use Rattle.std.specs.Borrow.{Bor}
 use Rattle.std.specs.Fmt.{decimal, signed_decimal}
-use Rattle.std.specs.Int.{w32}
 use Rattle.std.specs.List.{flat_map, join_with_byte}
 use Rattle.vmm_sys.specs.EpollEvent.{set_of, word_of}
 use Rattle.vmm_sys.specs.EventSet.{bits_of}
@@ -49,3 +49,7 @@ line_of entry = join_with_byte 32 (fields_of entry)
 -- the text of a record: each line with a newline (10) behind it
 abbrev pub text_of : List RecordEntry → List ℕ
 text_of entries = flat_map (λ entry. line_of entry ++ 10 ∷ []) entries
+
+-- what fields hold that are read
+abbrev pub contents : List (Bor (List ℕ)) → List (List ℕ)
+contents fields = map (λ field. field.now) fields

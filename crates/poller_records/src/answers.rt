@@ -1,8 +1,8 @@
 //! The fields of an answer.
 
-ghost use Rattle.std.specs.Prelude.{◌≡◌, ◌<◌, ◌^◌, ℕ, Ok, Result, IfOk, map};
+ghost use Rattle.std.specs.Prelude.{◌≡◌, ◌<◌, ◌^◌, ℕ, Ok, Result, IfOk};
 ghost use Rattle.poller_records.specs.Held.{HasErrno};
-ghost use Rattle.poller_records.specs.Lines.{control_answer, wait_answer};
+ghost use Rattle.poller_records.specs.Lines.{contents, control_answer, wait_answer};
 ghost use Rattle.vmm_sys.specs.declared.errno.Errno.{Errno};
 
 use crate::fault::LineFault;
@@ -11,8 +11,8 @@ use vmm_sys::errno::Errno;
 
 /// The answer of a call of `ctl` that the fields say. `BadAnswer`, `BadNumber`.
 pub(crate) fn control_answer(fields: &[&str]) -> Result<Result<(), Errno>, LineFault>
-    ensures read { IfOk result (λ answer. map (λ field. field.now) fields.now ≡ control_answer answer) }
-    ensures written { (answer : Result (Unit {0}) Errno) → HasErrno answer → map (λ field. field.now) fields.now ≡ control_answer answer → result ≡ Ok answer }
+    ensures read { IfOk result (λ answer. contents fields.now ≡ control_answer answer) }
+    ensures written { (answer : Result (Unit {0}) Errno) → HasErrno answer → contents fields.now ≡ control_answer answer → result ≡ Ok answer }
 {
     match fields {
         ["ok"] => Ok(Ok(())),
@@ -23,8 +23,9 @@ pub(crate) fn control_answer(fields: &[&str]) -> Result<Result<(), Errno>, LineF
 
 /// The answer of a call of `wait` that the fields say. `BadAnswer`, `BadNumber`.
 pub(crate) fn wait_answer(fields: &[&str]) -> Result<Result<usize, Errno>, LineFault>
-    ensures read { IfOk result (λ answer. map (λ field. field.now) fields.now ≡ wait_answer answer) }
-    ensures written { (answer : Result ℕ Errno) → IfOk answer (λ count. count < 2 ^ 64) → HasErrno answer → map (λ field. field.now) fields.now ≡ wait_answer answer → result ≡ Ok answer }
+    ensures read { IfOk result (λ answer. contents fields.now ≡ wait_answer answer) }
+    ensures written { (answer : Result ℕ Errno) → IfOk answer (λ count. count < 2 ^ 64) → HasErrno answer →
+        contents fields.now ≡ wait_answer answer → result ≡ Ok answer }
 {
     match fields {
         ["ok", count] => Ok(Ok(natural(count)? as usize)),

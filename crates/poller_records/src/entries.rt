@@ -1,8 +1,8 @@
 //! The fields of an entry.
 
-ghost use Rattle.std.specs.Prelude.{◌≡◌, ◌∷◌, Ok, IfOk, map, codes};
+ghost use Rattle.std.specs.Prelude.{◌≡◌, ◌∷◌, Ok, IfOk, codes};
 ghost use Rattle.poller_records.specs.Held.{IsEntry, IsEvent};
-ghost use Rattle.poller_records.specs.Lines.{event_fields, fields_of, operation_word};
+ghost use Rattle.poller_records.specs.Lines.{contents, event_fields, fields_of, operation_word};
 ghost use Rattle.vmm_sys.specs.declared.epoll.EpollEvent.{EpollEvent};
 ghost use Rattle.vmm_sys.specs.declared.record.RecordEntry.{RecordEntry};
 
@@ -14,8 +14,8 @@ use vmm_sys::record::RecordEntry;
 
 /// The event of a set and a word. `BadNumber`.
 fn event(fields: &[&str]) -> Result<EpollEvent, LineFault>
-    ensures read { IfOk result (λ event. map (λ field. field.now) fields.now ≡ event_fields event) }
-    ensures written { (event : EpollEvent) → IsEvent event → map (λ field. field.now) fields.now ≡ event_fields event → result ≡ Ok event }
+    ensures read { IfOk result (λ event. contents fields.now ≡ event_fields event) }
+    ensures written { (event : EpollEvent) → IsEvent event → contents fields.now ≡ event_fields event → result ≡ Ok event }
 {
     match fields {
         [set, word] => {
@@ -28,8 +28,8 @@ fn event(fields: &[&str]) -> Result<EpollEvent, LineFault>
 
 /// The call of `ctl` that the fields behind its first say. `WrongFields`, `BadNumber`, `BadAnswer`.
 fn control(op: ControlOperation, fields: &[&str]) -> Result<RecordEntry, LineFault>
-    ensures read { IfOk result (λ entry. operation_word op ∷ map (λ field. field.now) fields.now ≡ fields_of entry) }
-    ensures written { (entry : RecordEntry) → IsEntry entry → operation_word op ∷ map (λ field. field.now) fields.now ≡ fields_of entry → result ≡ Ok entry }
+    ensures read { IfOk result (λ entry. operation_word op ∷ contents fields.now ≡ fields_of entry) }
+    ensures written { (entry : RecordEntry) → IsEntry entry → operation_word op ∷ contents fields.now ≡ fields_of entry → result ≡ Ok entry }
 {
     match fields {
         [fd, set, word, answer @ ..] => Ok(RecordEntry::Control {
@@ -44,8 +44,8 @@ fn control(op: ControlOperation, fields: &[&str]) -> Result<RecordEntry, LineFau
 
 /// The call of `wait` that the fields behind its first say. `WrongFields`, `BadNumber`, `BadAnswer`.
 fn wait(fields: &[&str]) -> Result<RecordEntry, LineFault>
-    ensures read { IfOk result (λ entry. codes "wait" ∷ map (λ field. field.now) fields.now ≡ fields_of entry) }
-    ensures written { (entry : RecordEntry) → IsEntry entry → codes "wait" ∷ map (λ field. field.now) fields.now ≡ fields_of entry → result ≡ Ok entry }
+    ensures read { IfOk result (λ entry. codes "wait" ∷ contents fields.now ≡ fields_of entry) }
+    ensures written { (entry : RecordEntry) → IsEntry entry → codes "wait" ∷ contents fields.now ≡ fields_of entry → result ≡ Ok entry }
 {
     match fields {
         [ms, room, answer @ ..] => Ok(RecordEntry::Wait {
@@ -63,8 +63,8 @@ fn wait(fields: &[&str]) -> Result<RecordEntry, LineFault>
 ///
 /// `UnknownEntry`, `WrongFields`, `BadNumber`, `BadAnswer`.
 pub(crate) fn entry(fields: &[&str]) -> Result<RecordEntry, LineFault>
-    ensures read { IfOk result (λ entry. map (λ field. field.now) fields.now ≡ fields_of entry) }
-    ensures written { (entry : RecordEntry) → IsEntry entry → map (λ field. field.now) fields.now ≡ fields_of entry → result ≡ Ok entry }
+    ensures read { IfOk result (λ entry. contents fields.now ≡ fields_of entry) }
+    ensures written { (entry : RecordEntry) → IsEntry entry → contents fields.now ≡ fields_of entry → result ≡ Ok entry }
 {
     match fields {
         ["add", fields @ ..] => control(ControlOperation::Add, fields),

@@ -11,10 +11,7 @@ use thiserror::Error;
 pub enum RecordFault {
     /// A line is none of an entry's: the first such, counted from 1.
     #[error("line {number}: {fault}")]
-    BadLine {
-        number: usize,
-        fault: LineFault,
-    },
+    BadLine { number: usize, fault: LineFault },
 
     /// A request for memory was refused.
     #[error("out of memory")]
@@ -44,7 +41,7 @@ pub enum LineFault {
     #[error("unknown entry")]
     UnknownEntry,
 
-    /// It has too few fields, or too many before its answer or in place of one.
+    /// It has too few fields in front of its answer, or is an event with too few or too many.
     #[error("wrong number of fields")]
     WrongFields,
 

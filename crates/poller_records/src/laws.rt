@@ -27,8 +27,7 @@ fn errno_is_held(error: Errno)
 
 fn count_is_held(_count: usize)
     ensures { _count < 2 ^ 64 }
-{
-}
+{}
 
 /// The numbers of an entry are in the ranges of their types.
 pub fn entry_is_held(entry: RecordEntry)

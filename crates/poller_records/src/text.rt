@@ -1,11 +1,10 @@
 //! The text of a record: written, and read.
 
-ghost use Rattle.std.specs.Prelude.{◌≡◌, ◌∷◌, ◌++◌, ◌==◌, [], Some, IfOk, IfErr, IfSome, Ok, List, MatchResult, All, map, length, string_bytes};
+ghost use Rattle.std.specs.Prelude.{◌≡◌, ◌==◌, Some, IfOk, IfErr, IfSome, List, MatchResult, All, string_bytes};
 ghost use Rattle.std.specs.List.{slice_split};
 ghost use Rattle.poller_records.specs.BadLine.{bad_line, IsFirstBad};
 ghost use Rattle.poller_records.specs.Held.{IsEntry};
-
-ghost use Rattle.poller_records.specs.Lines.{line_of, operation_word, text_of};
+ghost use Rattle.poller_records.specs.Lines.{contents, line_of, operation_word, text_of};
 ghost use Rattle.poller_records.specs.declared.fault.RecordFault.TheVariants.{OutOfMemory};
 ghost use Rattle.vmm_sys.specs.declared.record.RecordEntry.{RecordEntry};
 
@@ -40,13 +39,26 @@ impl fmt::Display for Line {
                 fd,
                 event,
                 answer: Ok(()),
-            } => write!(f, "{} {fd} {} {} ok", operation_word(op), event.events(), event.data()),
+            } => write!(
+                f,
+                "{} {fd} {} {} ok",
+                operation_word(op),
+                event.events(),
+                event.data()
+            ),
             RecordEntry::Control {
                 op,
                 fd,
                 event,
                 answer: Err(error),
-            } => write!(f, "{} {fd} {} {} error {}", operation_word(op), event.events(), event.data(), error.0),
+            } => write!(
+                f,
+                "{} {fd} {} {} error {}",
+                operation_word(op),
+                event.events(),
+                event.data(),
+                error.0
+            ),
             RecordEntry::Wait {
                 ms,
                 room,
@@ -78,8 +90,8 @@ pub fn write_record(alloc: Global, entries: &[RecordEntry]) -> Result<String, Al
 }
 
 /// The parts of a line between its spaces.
-fn fields_of(alloc: Global, line: &str) -> Result<Vec<&str>, AllocError>
-    ensures { IfOk result (λ fields. map (λ field. field.now) fields.items ≡ slice_split (λ byte. byte == 32) line.now) }
+fn split_fields(alloc: Global, line: &str) -> Result<Vec<&str>, AllocError>
+    ensures { IfOk result (λ fields. contents fields.items ≡ slice_split (λ byte. byte == 32) line.now) }
 {
     line.split(' ').collect(alloc)
 }
@@ -91,24 +103,26 @@ fn fields_of(alloc: Global, line: &str) -> Result<Vec<&str>, AllocError>
 /// `BadLine` with the number, `OutOfMemory`.
 fn read_line(alloc: Global, number: usize, line: &str) -> Result<RecordEntry, RecordFault>
     ensures read { IfOk result (λ entry. line.now ≡ line_of entry) }
-    ensures written { (entry : RecordEntry) → IsEntry entry → line.now ≡ line_of entry → MatchResult result (λ read. read ≡ entry) (λ fault. fault ≡ OutOfMemory) }
+    ensures written { (entry : RecordEntry) → IsEntry entry → line.now ≡ line_of entry →
+        MatchResult result (λ read. read ≡ entry) (λ fault. fault ≡ OutOfMemory) }
     ensures number { IfErr result (λ fault. IfSome (bad_line fault) (λ bad. bad ≡ number)) }
 {
-    let fields = fields_of(alloc, line)?;
+    let fields = split_fields(alloc, line)?;
     match entry(&fields) {
         Ok(entry) => Ok(entry),
         Err(fault) => Err(RecordFault::BadLine { number, fault }),
     }
 }
 
-/// Reads the text of a record.
+/// Reads the text of a record. Memory is requested for the list of entries, and for the fields of one line at a time.
 ///
 /// # Errors
 ///
 /// `BadLine` for the first line that is none of an entry's, `OutOfMemory`.
 pub fn read_record(alloc: Global, text: &str) -> Result<Vec<RecordEntry>, RecordFault>
     ensures read { IfOk result (λ entries. text.now ≡ text_of entries.items) }
-    ensures written { (entries : List RecordEntry) → All IsEntry entries → text.now ≡ text_of entries → MatchResult result (λ read. read.items ≡ entries) (λ fault. fault ≡ OutOfMemory) }
+    ensures written { (entries : List RecordEntry) → All IsEntry entries → text.now ≡ text_of entries →
+        MatchResult result (λ read. read.items ≡ entries) (λ fault. fault ≡ OutOfMemory) }
     ensures bad { IfErr result (λ fault. IfSome (bad_line fault) (λ number. IsFirstBad text.now number)) }
 {
     let mut entries = Vec::new(alloc);

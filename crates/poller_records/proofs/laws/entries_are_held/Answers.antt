@@ -1,4 +1,4 @@
-use Rattle.std.proofs.Common.{length, take, sym, ap, arith, List, ◌≤◌}
+use Rattle.std.proofs.Common.{sym}
 use Rattle.std.proofs.lemmas.List.{take_all}
 use Rattle.std.proofs.lemmas.List.Elements.{All-more, All-same}
 use Rattle.poller_records.specs.Held.{IsEntry}

@@ -1,4 +1,4 @@
-use Rattle.std.proofs.Common.{lit<, ◌≡◌, ◌≢◌, ◌∷◌, ℕ, List, Ok}
+use Rattle.std.proofs.Common.{lit<, Ok}
 use Rattle.std.proofs.lemmas.Str.Pattern.{strip_prefix_char}
 use Rattle.std.proofs.lemmas.Option.{MatchOption-at_some, MatchOption-at_none}
 use Rattle.poller_records.proofs.Decimals.{behind_minus, without_minus}

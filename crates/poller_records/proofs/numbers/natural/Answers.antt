@@ -1,4 +1,4 @@
-use Rattle.std.proofs.Common.{rules, arith, lit<, ◌≡◌, ◌<◌, ◌≤◌, ◌^◌, ℕ, get_or, length, ap, sym, ◌∙◌, inl, inr, ◌⊎◌, true≢false}
+use Rattle.std.proofs.Common.{arith, lit<, ◌≡◌, ◌≤◌, get_or, length, ap, sym, ◌∙◌, inl, inr, true≢false}
 use Rattle.std.specs.Fmt.{decimal}
 use Rattle.std.proofs.lemmas.Str.Pattern.{starts_char}
 use Rattle.std.proofs.lemmas.Fmt.{parse-decimal}
@@ -22,9 +22,9 @@ returns-in-Ok-clause-read c =
     let plus = starts_char 43 c.args.field.now _ c.starts_with.ensures.cases (lit< tt) (lit< tt) in
     let zero = starts_char 48 c.args.field.now _ c.starts_with-2.ensures.cases (lit< tt) (lit< tt) in
     let no_zero : get_or c.args.field.now 0 0 ≡ 48 → length c.args.field.now ≤ 1 =
-        λ is_zero. elim c.else-starts_with-2.either [ inl short ↦ short.1 | inr not ↦ absurd (true≢false (sym (zero.1 is_zero) ∙ not)) ] in
+    λ is_zero. elim c.else-starts_with-2.either [ inl short ↦ short.1 | inr not ↦ absurd (true≢false (sym (zero.1 is_zero) ∙ not)) ] in
     IfOk-at_ok (λ n. c.args.field.now ≡ decimal n) c.in-Ok.is
-        (decimal_from_parse c.args.field.now _ c.parse.ensures.value.0 (λ is_plus. true≢false (sym (plus.1 is_plus) ∙ c.if-starts_with.false)) no_zero)
+    (decimal_from_parse c.args.field.now _ c.parse.ensures.value.0 (λ is_plus. true≢false (sym (plus.1 is_plus) ∙ c.if-starts_with.false)) no_zero)
 
 pub returns-in-Ok-clause-written : goal.returns-in-Ok-clause-written
 returns-in-Ok-clause-written c number small is =

@@ -1,9 +1,8 @@
-use Rattle.std.proofs.Common.{◌≡◌, ◌==◌, List, map, sym, ap, ◌∙◌}
+use Rattle.std.proofs.Common.{◌==◌, map, sym, ap, ◌∙◌}
 use Rattle.std.specs.List.{join_with_byte, slice_split}
 use Rattle.std.proofs.lemmas.List.Splits.{join_with_byte-slice_split}
 use Rattle.std.proofs.lemmas.Result.{IfOk-at_ok}
 use Rattle.poller_records.proofs.Fields.{slice_split-line_of}
-use Rattle.poller_records.specs.Lines.{fields_of}
 use Rattle.poller_records.proofs.text.read_line.Goals as goal
 
 pub returns-in-Ok-clause-read : goal.returns-in-Ok-clause-read
