@@ -66,7 +66,9 @@ of_entry (Reported event) held = (word (codes "event") refl, (natural _ (omega (
 
 without_space : (bytes : List ℕ) → IsField bytes → All (λ byte. (byte == 32) ≡ false) bytes
 without_space bytes all =
-    All-weaker IsVisible (λ byte. (byte == 32) ≡ false) (λ byte above. false_from_ne_true _ (λ same. omega (arith, above, (Decides-eqb byte 32).0 same))) bytes all
+    let no_space = λ (byte : ℕ) (above : IsVisible byte).
+    false_from_ne_true (byte == 32) (λ (same : (byte == 32) ≡ true). omega (arith, above, (Decides-eqb byte 32).0 same)) in
+    All-weaker IsVisible (λ byte. (byte == 32) ≡ false) no_space bytes all
 
 -- fields that are joined by spaces are cut there again
 cut : (field : List ℕ) (fields : List (List ℕ)) → AreFields (field ∷ fields) →

@@ -17,6 +17,10 @@ use Rattle.poller_records.specs.declared.fault.RecordFault.{RecordFault}
 use Rattle.poller_records.specs.declared.fault.RecordFault.TheVariants.{BadLine, OutOfMemory}
 use Rattle.poller_records.proofs.Fields.{no_newline}
 
+-- what stands before and behind the first newline
+abbrev Parts : Type 0
+Parts = Bor (List ℕ) × Bor (List ℕ)
+
 -- a text of entries that has these entries in front has the text of others behind them
 abbrev pub GoesOn : List ℕ → List RecordEntry → List ℕ → Type 0
 GoesOn text before rest = (all : List RecordEntry) → All IsEntry all → text ≡ text_of all →
@@ -45,7 +49,7 @@ first_bad text before rest count so_far counted more bad =
     record { before = before; rest = rest; split = so_far.split; count = ap (λ n. n + 1) (sym counted); more = more; bad = bad }
 
 -- where a line of an entry is in front, it is what stands before the first newline
-pub line_in_front : (rest : List ℕ) (cut : Option (Bor (List ℕ) × Bor (List ℕ))) (entry : RecordEntry) (behind : List ℕ) →
+pub line_in_front : (rest : List ℕ) (cut : Option Parts) (entry : RecordEntry) (behind : List ℕ) →
     IsSplitOnceResult 10 rest cut → IsEntry entry → rest ≡ line_of entry ++ 10 ∷ behind →
     MatchOption cut ⊥ (λ parts. (parts.0.now ≡ line_of entry) × (parts.1.now ≡ behind))
 line_in_front rest cut entry behind is_cut held is = split_after 10 rest (line_of entry) behind cut is_cut (lit< tt) is (no_newline entry held)
@@ -55,14 +59,14 @@ abbrev ended_line : RecordEntry → List ℕ
 ended_line entry = line_of entry ++ 10 ∷ []
 
 -- where no newline is left, no line is in front
-pub bad_end : (rest : List ℕ) (cut : Option (Bor (List ℕ) × Bor (List ℕ))) → IsSplitOnceResult 10 rest cut → cut ≡ None → HasNoLine rest
+pub bad_end : (rest : List ℕ) (cut : Option Parts) → IsSplitOnceResult 10 rest cut → cut ≡ None → HasNoLine rest
 bad_end rest cut is_cut none entry behind held is = MatchOption-at_none _ _ none (line_in_front rest cut entry behind is_cut held is)
 
 -- nor is one where what stands before the newline is no line
-pub bad_front : (rest : List ℕ) (cut : Option (Bor (List ℕ) × Bor (List ℕ))) (parts : Bor (List ℕ) × Bor (List ℕ)) → IsSplitOnceResult 10 rest cut →
-    cut ≡ Some parts →
+pub bad_front : (rest : List ℕ) (cut : Option Parts) (parts : Parts) → IsSplitOnceResult 10 rest cut → cut ≡ Some parts →
     ((entry : RecordEntry) → IsEntry entry → parts.0.now ≢ line_of entry) → HasNoLine rest
-bad_front rest cut parts is_cut found not entry behind held is = not entry held (MatchOption-at_some _ _ parts found (line_in_front rest cut entry behind is_cut held is)).0
+bad_front rest cut parts is_cut found not entry behind held is =
+    not entry held (MatchOption-at_some _ _ parts found (line_in_front rest cut entry behind is_cut held is)).0
 
 -- the text of one more entry
 text_of-push : (before : List RecordEntry) (entry : RecordEntry) (behind : List ℕ) →
@@ -90,22 +94,23 @@ begins_with (first ∷ others) rest held is more = record {
 }
 
 -- one more entry is read
-pub read_more : (text : List ℕ) (before : List RecordEntry) (rest : List ℕ) (entry : RecordEntry) (cut : Option (Bor (List ℕ) × Bor (List ℕ))) (parts : Bor (List ℕ) × Bor (List ℕ)) →
+pub read_more : (text : List ℕ) (before : List RecordEntry) (rest : List ℕ) (entry : RecordEntry) (cut : Option Parts) (parts : Parts) →
     IsRead text before rest → rest ≢ [] → IsSplitOnceResult 10 rest cut → cut ≡ Some parts → parts.0.now ≡ line_of entry →
     ((other : RecordEntry) → IsEntry other → parts.0.now ≡ line_of other → entry ≡ other) →
     IsRead text (before ++ entry ∷ []) parts.1.now
 read_more text before rest entry cut parts so_far more is_cut found is only =
-    record { split = so_far.split ∙ ap (λ rest. text_of before ++ rest) (pieces ∙ ap (λ line. line ++ 10 ∷ parts.1.now) is) ∙ sym (text_of-push before entry parts.1.now); goes_on = next } where
-      pieces : rest ≡ parts.0.now ++ 10 ∷ parts.1.now
-      pieces = (MatchOption-at_some _ _ parts found (split_parts 10 rest cut is_cut (lit< tt))).0
+    record { split = so_far.split ∙ ap (λ rest. text_of before ++ rest) pieces ∙ sym (text_of-push before entry parts.1.now); goes_on = next } where
+      pieces : rest ≡ line_of entry ++ 10 ∷ parts.1.now
+      pieces = (MatchOption-at_some _ _ parts found (split_parts 10 rest cut is_cut (lit< tt))).0 ∙ ap (λ line. line ++ 10 ∷ parts.1.now) is
 
       next : GoesOn text (before ++ entry ∷ []) parts.1.now
       next all held all_is =
           let left = so_far.goes_on all held all_is in
           let begins = begins_with left.0 rest left.1 left.3 more in
           let same = MatchOption-at_some _ _ parts found (line_in_front rest cut begins.first (text_of begins.others) is_cut begins.held begins.split) in
-          let entry_is = only begins.first begins.held same.0 in
-          (begins.others, begins.others_held, left.2 ∙ ap (λ more. before ++ more) (begins.is ∙ ap (λ e. e ∷ begins.others) (sym entry_is)) ∙ sym (append_assoc before (entry ∷ []) begins.others), same.1)
+          let entry_is = begins.is ∙ ap (λ first. first ∷ begins.others) (sym (only begins.first begins.held same.0)) in
+          let all_are = left.2 ∙ ap (λ more. before ++ more) entry_is ∙ sym (append_assoc before (entry ∷ []) begins.others) in
+          (begins.others, begins.others_held, all_are, same.1)
 
 -- where no line is in front, the text is none of entries
 pub not_written : (text : List ℕ) (before : List RecordEntry) (rest : List ℕ) → IsRead text before rest → rest ≢ [] →
