@@ -1,12 +1,11 @@
-use Rattle.std.proofs.Common.{◌≡◌, ℕ, ◌+◌, ◌≤◌, ◌∙◌, ap, sym, subst, refl, arith, length, take, false, Option, Some, None}
+use Rattle.std.proofs.Common.{◌≡◌, ◌+◌, ◌≤◌, ◌∙◌, ap, sym, refl, arith, length, take, false, Option, Some, None}
 use Rattle.std.proofs.lemmas.List.{length-take}
 use Rattle.std.specs.Option.{is_some}
 use Rattle.vmm_sys.specs.declared.table.Interest.{Interest}
 use Rattle.vmm_sys.specs.Lists.{held}
-use Rattle.vmm_sys.specs.Interests.{InterestsState, AreMarked, slot_at}
+use Rattle.vmm_sys.specs.Interests.{InterestsState, slot_at}
 use Rattle.vmm_sys.proofs.Held.{slot-last, held-cut}
 use Rattle.vmm_sys.proofs.Slots.{in-slots-same}
-use Rattle.vmm_sys.proofs.SlotMarks.{fit-same}
 use Rattle.vmm_sys.proofs.table.interests.Interests.give_back.Goals as goal
 
 none_by : (o : Option Interest) → is_some o ≡ false → o ≡ None
