@@ -51,15 +51,6 @@ module _ {A : Type 0} where
       ap (λ l. set l (length slots) (get_or (slots ++ None ∷ []) s None)) (set-append_left slots (None ∷ []) s None (some-within slots s h))
       ∙ set_at (set slots s None) None [] (get_or (slots ++ None ∷ []) s None) (length slots) (length-set slots s None) ∙ ap (λ o. set slots s None ++ o ∷ []) (slot-grown slots s)
 
-  -- what the last slot holds is as well put behind it
-  pub held-last : (slots : List (Option A)) (s : ℕ) → s + 1 ≡ length slots → held (set slots s None ++ get_or slots s None ∷ []) ≡ held slots
-  held-last [] s e = absurd (omega (arith, e))
-  held-last (None ∷ []) zero e = refl
-  held-last (Some x ∷ []) zero e = refl
-  held-last (y ∷ z ∷ slots) zero e = absurd (omega (arith, e))
-  held-last (None ∷ slots) (suc s) e = held-last slots s (omega (arith, e))
-  held-last (Some x ∷ slots) (suc s) e = ap (λ l. x ∷ l) (held-last slots s (omega (arith, e)))
-
   -- an empty last slot may be cut off
 
   pub slot-last : (slots : List (Option A)) (s t : ℕ) → length slots ≤ s + 1 → get_or slots s None ≡ None → get_or (take s slots) t None ≡ get_or slots t None

@@ -1,6 +1,7 @@
 pub mod Closing
 pub mod Firsts
 pub mod Held
+pub mod InPlace
 pub mod Marks
 pub mod Numbers
 pub mod Picks

@@ -1,10 +1,12 @@
 -- Rows of marks, and rows that mark the words of others.
-use Rattle.std.proofs.Common.{◌≡◌, ◌≢◌, ℕ, zero, suc, ◌+◌, ◌*◌, ◌/◌, ◌<◌, ◌≤◌, Bool, true, false, List, [], ◌∷◌, ◌++◌, length, set, replicate, Option, Some, None, refl, sym, ap, ◌∙◌, subst, inl, inr, arith, length-set}
+use Rattle.std.proofs.Common.{◌≡◌, ◌≢◌, ℕ, zero, suc, ◌+◌, ◌*◌, ◌/◌, ◌<◌, ◌≤◌, Bool, true, false, List, [], ◌∷◌, ◌++◌, length, set, replicate, min, max, Option, Some, None, refl, sym, ap, ◌∙◌, subst, inl, inr, arith, length-set}
 use Rattle.std.specs.Prelude.{◌⊎◌, MatchOption, Result, Ok, Err, OnOk, OnErr, slice_get}
 use Rattle.std.proofs.lemmas.Bool.{cases_lt, cases_eq}
+use Rattle.std.proofs.Math.Nat.{min-le_left, min-le_right, le-max_left, max-le}
+use Rattle.std.specs.Option.{unwrap_or}
 use Rattle.std.proofs.lemmas.List.{get_or-set_same, length-append, length-replicate, append-nil}
 use Rattle.std.proofs.lemmas.Option.{slice_get-get_or}
-use Rattle.vmm_sys.specs.ReadySet.{IsMarked, IsFirstFrom, NoneFrom, NoneInWordFrom, IsEmptyWord, MarksWords}
+use Rattle.vmm_sys.specs.ReadySet.{IsMarked, IsFirstFrom, NoneFrom, NoneBelow, NoneInWordFrom, IsEmptyWord, MarksWords}
 
 -- a position that isn't marked stays so
 pub bare_set : (marks : List Bool) (n : ℕ) → ¬ IsMarked marks n → marks ≡ set marks n false
@@ -168,3 +170,35 @@ pub longer_or_same : {A E : Type 0} (old new : List Bool) (k : ℕ) (r : Result 
     → (j : ℕ) × (j ≤ k) × (new ≡ old ++ replicate j false)
 longer_or_same old new k (Ok u) more same = (k, omega arith, more)
 longer_or_same old new k (Err e) more same = (0, omega arith, same ∙ sym (append-nil old))
+
+-- what is known of the numbers below stays known
+
+pub below-set : (marks : List Bool) (k n : ℕ) → NoneBelow marks k → NoneBelow (set marks n true) (min k n)
+below-set marks k n none m lt marked =
+    let other : m ≢ n = λ e. let at_most = min-le_right k n in absurd (omega arith) in
+    none m (let at_most = min-le_left k n in omega arith) (sym (slice_get-set_other marks n m true other) ∙ marked)
+
+pub below-clear : (marks : List Bool) (k n : ℕ) → NoneBelow marks k → NoneBelow (set marks n false) k
+below-clear marks k n none m lt marked =
+    elim (cases_eq m n) [
+      | inl same ↦ IsMarked-set_false marks n (subst (IsMarked (set marks n false)) same marked)
+      | inr other ↦ none m lt (sym (slice_get-set_other marks n m false other) ∙ marked)
+    ]
+
+pub below-grown : (old new : List Bool) (j k : ℕ) → new ≡ old ++ replicate j false → NoneBelow old k → NoneBelow new k
+below-grown old new j k more none m lt marked = none m lt (IsMarked-ungrown old j m (subst (λ ms. IsMarked ms m) more marked))
+
+-- a search from the lowest finds the first from any number on
+pub first_from-lowest : (marks : List Bool) (k n : ℕ) → NoneBelow marks k → (found : Option ℕ) →
+    MatchOption found (NoneFrom marks (max n k)) (λ f. IsFirstFrom marks (max n k) f) → MatchOption found (NoneFrom marks n) (λ f. IsFirstFrom marks n f)
+first_from-lowest marks k n none None h = λ m ge marked. elim (cases_lt m k) [ inl lt ↦ none m lt marked | inr le ↦ h m (max-le ge le) marked ]
+first_from-lowest marks k n none (Some f) h = record {
+  from = (let least = le-max_left n k in let from = h.from in omega arith);
+  marked = h.marked;
+  first = λ m ge before marked. elim (cases_lt m k) [ inl lt ↦ none m lt marked | inr le ↦ h.first m (max-le ge le) before marked ];
+}
+
+-- and none is below the first
+pub below-first : (marks : List Bool) (k : ℕ) → NoneBelow marks k → (found : Option ℕ) → MatchOption found (NoneFrom marks 0) (λ f. IsFirstFrom marks 0 f) → NoneBelow marks (unwrap_or found k)
+below-first marks k none None h = none
+below-first marks k none (Some f) h = λ m before marked. h.first m (omega arith) before marked

@@ -1,5 +1,5 @@
 -- A wait's walk from ready slot to ready slot: what was looked at, what is left, and what came to the back.
-use Rattle.std.proofs.Common.{◌≡◌, ℕ, zero, suc, ◌+◌, ◌-◌, ◌<◌, ◌≤◌, Bool, true, false, not, cond, inl, inr, List, [], ◌∷◌, ◌++◌, length, take, drop, set, map, filter, get_or, refl, ap, ◌∙◌, sym, arith, append_assoc, Option, Some, None}
+use Rattle.std.proofs.Common.{◌≡◌, ℕ, zero, suc, ◌+◌, ◌-◌, ◌<◌, ◌≤◌, Bool, true, false, not, cond, inl, inr, List, [], ◌∷◌, ◌++◌, length, drop, set, map, filter, get_or, refl, ap, ◌∙◌, sym, arith, append_assoc, Option, Some, None}
 use Rattle.std.specs.Prelude.{slice_get, find}
 use Rattle.std.proofs.lemmas.Bool.{cases_lt, cases_Bool, false≢true}
 use Rattle.std.proofs.lemmas.List.{get_or_past, get_or_append_left, get_or-append_right, set_at, append-nil, map-append, length-append, length-map, length_push, drop_more, nil_from_length}
@@ -7,10 +7,10 @@ use Rattle.std.proofs.lemmas.List.Elements.{filter-append}
 use Rattle.std.proofs.lemmas.Option.{get_or_from_slice_get}
 use Rattle.vmm_sys.specs.declared.epoll.EpollEvent.{EpollEvent}
 use Rattle.vmm_sys.specs.declared.table.Interest.{Interest}
-use Rattle.vmm_sys.specs.Lists.{held, without_first}
+use Rattle.vmm_sys.specs.Lists.{held}
 use Rattle.vmm_sys.specs.Interests.{InterestsState, slot_at, passes, AreMarked}
 use Rattle.vmm_sys.specs.ReadySet.{IsMarked, IsFirstFrom}
-use Rattle.vmm_sys.proofs.Held.{held-append, held-full, held-last, split-at}
+use Rattle.vmm_sys.proofs.Held.{held-append, held-full, split-at}
 use Rattle.vmm_sys.proofs.Picks.{Picked, fails, IsDone, done_by_none}
 
 -- the slots below `from` were looked at, and so those of `looked`: those that pass came to the back in their order, and the others are in `left`
@@ -53,7 +53,7 @@ none_find p [] h = refl
 none_find p (None ∷ slots) h = none_find p slots (λ t. h (suc t))
 none_find p (Some i ∷ slots) h = let e : p i ≡ false = h 0 in simp e (none_find p slots (λ t. h (suc t)))
 
-none_filter : (p : Interest → Bool) (slots : List (Option Interest)) → NoneIn p slots → (filter p (held slots) ≡ []) × (filter (fails p) (held slots) ≡ held slots)
+pub none_filter : (p : Interest → Bool) (slots : List (Option Interest)) → NoneIn p slots → (filter p (held slots) ≡ []) × (filter (fails p) (held slots) ≡ held slots)
 none_filter p [] h = (refl, refl)
 none_filter p (None ∷ slots) h = none_filter p slots (λ t. h (suc t))
 none_filter p (Some i ∷ slots) h =
@@ -69,13 +69,7 @@ filter_shorter : (p : Interest → Bool) (xs : List Interest) → length (filter
 filter_shorter p [] = omega arith
 filter_shorter p (x ∷ xs) = filter_shorter_by (p x) p x xs refl (filter_shorter p xs)
 
--- the marks of the slots that pass
-marks-passes : (p : Interest → Bool) (slots : List (Option Interest)) (s : ℕ) → get_or (map (passes p) slots) s false ≡ passes p (slot_at slots s)
-marks-passes p [] s = refl
-marks-passes p (o ∷ slots) zero = refl
-marks-passes p (o ∷ slots) (suc s) = marks-passes p slots s
-
-get_marked : (marks : List Bool) (n : ℕ) → get_or marks n false ≡ true → slice_get marks n ≡ Some true
+pub get_marked : (marks : List Bool) (n : ℕ) → get_or marks n false ≡ true → slice_get marks n ≡ Some true
 get_marked [] n e = absurd (false≢true e)
 get_marked (b ∷ marks) zero e = ap Some e
 get_marked (b ∷ marks) (suc n) e = get_marked marks n e
@@ -195,28 +189,3 @@ module _ {p : Interest → Bool} {f : Interest → EpollEvent} {before now : Int
           room = room ∙ h.room;
           marks = marks;
         }
-
--- where the first marked slot is the last in use, the walk is over with it where it stands
-module _ {p : Interest → Bool} {f : Interest → EpollEvent} {before now : InterestsState} {ys ws : List EpollEvent} {count from : ℕ} (h : Walked p f before ys now ws count from)
-    (slot : ℕ) (i : Interest) (first : IsFirstFrom now.marks from slot) (lt : slot < length before.slots) (at : slot_at now.slots slot ≡ Some i)
-    (vs : List EpollEvent) (free : count < length ys) (v : vs ≡ set ws count (f i)) (last : slot + 1 ≡ length now.slots) where
-  abbrev put_last : List (Option Interest)
-  put_last = set now.slots slot None ++ slot_at now.slots slot ∷ []
-
-  as_if_moved : Walked p f before ys (record { room = now.room; slots = put_last; marks = map (passes p) put_last }) vs (count + 1) (slot + 1)
-  as_if_moved = Walked-more h slot i first lt at (record { room = now.room; slots = put_last; marks = map (passes p) put_last }) vs free refl refl (λ s. marks-passes p put_last s) v
-
-  none_behind : length before.slots ≤ slot + 1
-  none_behind =
-      let whole = ap length h.slots_are ∙ length-append h.left (h.rest ++ map Some (filter p h.looked)) in
-      let rest = length-append h.rest (map Some (filter p h.looked)) in
-      let left = h.left_is in
-      let end = h.end_is in
-      omega arith
-
-  pub done_by_last : (count + 1 ≡ length (take (length ys) (filter p (held before.slots))))
-      × (held now.slots ≡ without_first p (held before.slots) (length ys) ++ take (length ys) (filter p (held before.slots)))
-      × (vs ≡ map f (take (length ys) (filter p (held before.slots))) ++ drop (count + 1) ys)
-  done_by_last =
-      let done = done_by_marks as_if_moved (omega arith) (λ s ge lt'. let n = none_behind in absurd (omega arith)) in
-      (done.0, sym (held-last now.slots slot last) ∙ done.1, done.2)

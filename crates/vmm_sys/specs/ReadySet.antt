@@ -15,6 +15,10 @@ pub record IsFirstFrom (marks : List Bool) (k n : ℕ) : Type 0 where
 abbrev pub NoneFrom : List Bool → ℕ → Type 0
 NoneFrom marks k = (m : ℕ) → k ≤ m → ¬ IsMarked marks m
 
+-- no position below k is marked
+abbrev pub NoneBelow : List Bool → ℕ → Type 0
+NoneBelow marks k = (m : ℕ) → m < k → ¬ IsMarked marks m
+
 -- no position from k on is marked in the word of k
 abbrev pub NoneInWordFrom : List Bool → ℕ → Type 0
 NoneInWordFrom marks k = (m : ℕ) → k ≤ m → m / 64 ≡ k / 64 → ¬ IsMarked marks m

@@ -1,6 +1,6 @@
 //! The in-process table: counters and lines, and a list of interests in them.
 
-ghost use Rattle.std.specs.Prelude.{◌≡◌, ◌≢◌, ◌<◌, ◌≤◌, ◌^◌, List, length, ◌++◌, ◌∷◌, take, drop, filter, find, map, slice_get, slice_set, ℕ, Bool, Some, None, IsSome};
+ghost use Rattle.std.specs.Prelude.{◌≡◌, ◌≢◌, ◌<◌, ◌≤◌, ◌+◌, ◌-◌, ◌^◌, List, length, ◌++◌, ◌∷◌, take, drop, filter, find, map, slice_get, slice_set, ℕ, Bool, Some, None, IsSome};
 ghost use Rattle.vmm_sys.specs.EventSet.{bits_of};
 ghost use Rattle.vmm_sys.specs.Table.{new_table, state_of, state_at, is_ready, entry_of as entry_in, opened, source_of as source_in, with_source, place_of as place_in, changed, has_mode, Answers, AnswersWithMemory, ctl_of, wait_of, write_of, read_of, set_line_of, open_of, add_counter_of, add_line_of, filled, counted, chosen, moved_back, first_ready, first_ready_last};
 ghost use Rattle.vmm_sys.specs.Lists.{held};
@@ -396,8 +396,54 @@ fn renew(sources: &[Source], interests: &mut Interests, descriptor: usize)
 }
 
 // Writes the entries of the first ready interests, as many as there is room for, and moves these to
-// the back. It goes from ready slot to ready slot, up to the end of those in use when it begins.
+// the back.
 fn report(sources: &[Source], interests: &mut Interests, buffer: &mut [EpollEvent]) -> usize
+    requires { AreMarked (is_ready sources.now) interests.old }
+    ensures count { result ≡ length (first_ready sources.now (held interests.old.slots) (length buffer.old)) }
+    ensures room { interests.new.room ≡ interests.old.room }
+    ensures interests { held interests.new.slots ≡ first_ready_last sources.now (held interests.old.slots) (length buffer.old) }
+    ensures marks { AreMarked (is_ready sources.now) interests.new }
+    ensures buffer { let entries = map (entry_in sources.now) (first_ready sources.now (held interests.old.slots) (length buffer.old)) in
+        buffer.new ≡ entries ++ drop result buffer.old }
+{
+    if let Some(first) = interests.first_ready() {
+        if interests.are_ready_from(first, buffer.len()) {
+            // They are the last ones already, in this order.
+            return report_from(sources, interests, first, buffer);
+        }
+    }
+    report_and_move(sources, interests, buffer)
+}
+
+// Writes the entries of the interests in the slots from one on.
+fn report_from(
+    sources: &[Source],
+    interests: &Interests,
+    first: usize,
+    buffer: &mut [EpollEvent],
+) -> usize
+    requires some { (s : ℕ) → first ≤ s → s < length interests.now.slots → IsSome (slot_at interests.now.slots s) }
+    requires room { length interests.now.slots ≤ first + length buffer.old }
+    ensures count { result ≡ length interests.now.slots - first }
+    ensures entries { buffer.new ≡ map (entry_in sources.now) (held (drop first interests.now.slots)) ++ drop result buffer.old }
+{
+    let count = interests.end().saturating_sub(first);
+    for at in 0..count {
+        let Some(interest) = interests.interest_in(first + at) else {
+            return at;
+        };
+        buffer[at] = entry_of(sources, interest);
+    }
+    count
+}
+
+// As `report`, whatever stands behind the ready ones. It goes from ready slot to ready slot, up to
+// the end of those in use when it begins.
+fn report_and_move(
+    sources: &[Source],
+    interests: &mut Interests,
+    buffer: &mut [EpollEvent],
+) -> usize
     requires { AreMarked (is_ready sources.now) interests.old }
     ensures count { result ≡ length (first_ready sources.now (held interests.old.slots) (length buffer.old)) }
     ensures room { interests.new.room ≡ interests.old.room }
@@ -421,10 +467,6 @@ fn report(sources: &[Source], interests: &mut Interests, buffer: &mut [EpollEven
             return count;
         };
         buffer[count] = entry_of(sources, interest);
-        if slot + 1 == interests.end() {
-            // It is the last one as it is: one descriptor alone at work takes up no slots.
-            return count + 1;
-        }
         interests.move_to_back(slot);
         from = slot + 1;
     }

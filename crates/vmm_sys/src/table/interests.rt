@@ -1,6 +1,6 @@
 //! The interests of a table, in a row of slots, with a set of the slots whose interest is ready.
 
-ghost use Rattle.std.specs.Prelude.{◌≡◌, ◌≢◌, ◌<◌, ◌≤◌, ◌+◌, ◌*◌, ◌^◌, ◌++◌, ◌∷◌, [], ℕ, Bool, true, false, length, map, slice_index_or, slice_set, Some, None, IsSome, IfSome, MatchOption, OnOk, OnErr};
+ghost use Rattle.std.specs.Prelude.{◌≡◌, ◌≢◌, ◌<◌, ◌≤◌, ◌+◌, ◌*◌, ◌^◌, ◌++◌, ◌∷◌, [], ℕ, Bool, true, false, length, map, slice_index_or, slice_set, Some, None, IsSome, IsTrue, IfSome, MatchOption, OnOk, OnErr};
 ghost use Rattle.vmm_sys.specs.Lists.{held};
 ghost use Rattle.vmm_sys.specs.Interests.{slot_at, place_at, Holds, NoneHolds, AloneHolds, AreMarked};
 ghost use Rattle.vmm_sys.specs.ReadySet.{IsMarked, IsFirstFrom, NoneFrom};
@@ -95,11 +95,36 @@ impl Interests {
         self.slots.len()
     }
 
+    /// The first marked slot.
+    pub(super) fn first_ready(&mut self) -> Option<usize>
+        ensures unchanged { self.new ≡ self.old }
+        ensures first { MatchOption result (NoneFrom self.old.marks 0) (λ s. IsFirstFrom self.old.marks 0 s) }
+    {
+        self.ready.first()
+    }
+
     /// The first marked slot from one on.
     pub(super) fn ready_from(&self, slot: usize) -> Option<usize>
         ensures { MatchOption result (NoneFrom self.now.marks slot) (λ s. IsFirstFrom self.now.marks slot s) }
     {
         self.ready.first_from(slot)
+    }
+
+    /// Whether the slots in use from one on are at most so many, and all marked.
+    pub(super) fn are_ready_from(&self, slot: usize, most: usize) -> bool
+        ensures few { IsTrue result → length self.now.slots ≤ slot + most }
+        ensures marked { IsTrue result → (s : ℕ) → slot ≤ s → s < length self.now.slots → IsMarked self.now.marks s }
+    {
+        let end = self.slots.len();
+        if end.saturating_sub(slot) > most {
+            return false;
+        }
+        for s in slot..end {
+            if !self.ready.contains(s) {
+                return false;
+            }
+        }
+        true
     }
 
     /// Marks a slot in use as ready, or as not ready.

@@ -21,17 +21,19 @@ pub(super) struct ReadySet {
     groups: Row,
     /// A mark for each word of `groups`, set where that has one.
     blocks: Row,
+    /// No number of the set is below it: a search begins there.
+    lowest: usize,
 }
 
 impl Model for ReadySet {
     ghost use Rattle.std.specs.Prelude.{Bool, List};
-    ghost use Rattle.vmm_sys.specs.ReadySet.{AreTiers};
+    ghost use Rattle.vmm_sys.specs.ReadySet.{AreTiers, NoneBelow};
 
     ghost Value = { List Bool };
 
     ghost view = { λ s. s.numbers };
 
-    ghost invariant = { λ s. AreTiers s.numbers s.words s.groups s.blocks };
+    ghost invariant = { λ s. AreTiers s.numbers s.words s.groups s.blocks × NoneBelow s.numbers s.lowest };
 }
 
 impl ReadySet {
@@ -43,6 +45,7 @@ impl ReadySet {
             words: Row::new(alloc),
             groups: Row::new(alloc),
             blocks: Row::new(alloc),
+            lowest: 0,
         }
     }
 
@@ -68,6 +71,7 @@ impl ReadySet {
         if self.numbers.contains(number) {
             return;
         }
+        self.lowest = self.lowest.min(number);
         let word = number / WORD;
         let group = word / WORD;
         if self.numbers.set(number) && self.words.set(word) && self.groups.set(group) {
@@ -91,9 +95,28 @@ impl ReadySet {
         }
     }
 
+    /// The lowest number of the set, where searches begin from then on.
+    #[inline(always)]
+    pub(super) fn first(&mut self) -> Option<usize>
+        ensures set { self.new ≡ self.old }
+        ensures first { MatchOption result (NoneFrom self.old 0) (λ n. IsFirstFrom self.old 0 n) }
+    {
+        let found = self.first_from(0);
+        self.lowest = found.unwrap_or(self.lowest);
+        found
+    }
+
     /// The lowest number of the set from `number` on.
     #[inline(always)]
     pub(super) fn first_from(&self, number: usize) -> Option<usize>
+        ensures { MatchOption result (NoneFrom self.now number) (λ n. IsFirstFrom self.now number n) }
+    {
+        self.search(number.max(self.lowest))
+    }
+
+    // The lowest number of the set from one on, whatever is known of those below.
+    #[inline(always)]
+    fn search(&self, number: usize) -> Option<usize>
         ensures { MatchOption result (NoneFrom self.now number) (λ n. IsFirstFrom self.now number n) }
     {
         if let Some(n) = self.numbers.first_in_word_from(number) {

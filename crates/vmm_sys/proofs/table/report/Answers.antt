@@ -1,134 +1,38 @@
-use Rattle.std.proofs.Common.{◌≡◌, ◌+◌, ◌∙◌, ◌++◌, ap, sym, subst, arith, length, drop, map, set, inl, inr, true, false, Some}
-use Rattle.std.proofs.lemmas.Bool.{cases_lt, false≢true}
-use Rattle.std.proofs.lemmas.Option.{get_or_from_slice_get}
-use Rattle.vmm_sys.specs.Table.{is_ready, entry_of, first_ready, first_ready_last}
+use Rattle.std.proofs.Common.{◌≡◌, ℕ, ◌<◌, ◌≤◌, ◌+◌, ◌-◌, ◌∙◌, ◌++◌, ap, sym, subst, refl, length, drop, map}
+use Rattle.vmm_sys.specs.Table.{is_ready, entry_of, first_ready}
 use Rattle.vmm_sys.specs.Lists.{held}
-use Rattle.vmm_sys.specs.Interests.{slot_at, passes}
-use Rattle.vmm_sys.proofs.Picks.{IsDone, done_by_room}
-use Rattle.vmm_sys.proofs.Walked.{Walked-start, Walked-more, picked, done_by_marks, done_by_all, done_by_last}
+use Rattle.vmm_sys.specs.Interests.{InterestsState}
+use Rattle.vmm_sys.specs.ReadySet.{IsMarked}
+use Rattle.vmm_sys.proofs.InPlace.{StandLast, done_in_place}
 use Rattle.vmm_sys.proofs.table.report.Goals as goal
 
-pub loop-count-init : goal.loop-count-init
-loop-count-init c = Walked-start (is_ready c.args.sources.now) (entry_of c.args.sources.now) c.leave_unused.new.self c.args.buffer.now (c.leave_unused.ensures.marks (is_ready c.args.sources.now) c.requires)
+stand-last : (c : goal.After-buffer-1) → StandLast (is_ready c.args.sources.now) c.args.interests.now c.in-Some.first
+stand-last c = record {
+  marks = c.requires;
+  front = c.in-Some.ensures.first;
+  ready = subst (λ (s : InterestsState). (n : ℕ) → c.in-Some.first ≤ n → n < length s.slots → IsMarked s.marks n) c.in-Some.ensures.unchanged (c.if-are_ready_from.ensures.marked refl);
+}
 
-pub loop-count-preserved : goal.loop-count-preserved
-loop-count-preserved c =
-    let p = is_ready c.args.sources.now in
-    let h = c.loop-count.invariant in
-    let end = c.end-end.ensures in
-    let below = c.if-slot-end.false in
-    let fits = c.min-room.ensures in
-    let more = c.loop-count-test.true in
-    let at : slot_at c.loop-count.interests.slots c.in-Some.slot ≡ Some c.in-Some-interest_in.interest = sym c.interest_in.ensures ∙ c.in-Some-interest_in.is in
-    Walked-more h c.in-Some.slot c.in-Some-interest_in.interest c.in-Some.ensures (omega arith) at c.move_to_back.new.self _ (omega arith) c.move_to_back.ensures.slots c.move_to_back.ensures.room
-    (c.move_to_back.ensures.marks p h.marks) (ap (set c.loop-count.buffer c.loop-count.count) c.entry_of.ensures)
+few : (c : goal.After-buffer-1) → length c.args.interests.now.slots ≤ c.in-Some.first + length c.args.buffer.now
+few c = subst (λ (s : InterestsState). length s.slots ≤ c.in-Some.first + length c.args.buffer.now) c.in-Some.ensures.unchanged (c.if-are_ready_from.ensures.few refl)
 
--- none is marked any more
+count : (c : goal.After-buffer-1) → c.report_from.result ≡ length c.args.interests.now.slots - c.in-Some.first
+count c = c.report_from.ensures.count ∙ ap (λ (s : InterestsState). length s.slots - c.in-Some.first) c.in-Some.ensures.unchanged
 
-none-left : (c : goal.In_default) → IsDone (is_ready c.args.sources.now) (entry_of c.args.sources.now) (picked c.loop-count.invariant)
-none-left c =
-    let le = c.loop-count.auto.count-end in
-    let fits = c.min-room.ensures in
-    done_by_marks c.loop-count.invariant (omega arith) (λ s ge lt. c.in_default.ensures s ge)
+entries : (c : goal.After-buffer-1) → c.report_from.new.buffer ≡ map (entry_of c.args.sources.now) (held (drop c.in-Some.first c.args.interests.now.slots)) ++ drop (length c.args.interests.now.slots - c.in-Some.first) c.args.buffer.now
+entries c =
+    c.report_from.ensures.entries ∙ ap (λ (s : InterestsState). map (entry_of c.args.sources.now) (held (drop c.in-Some.first s.slots)) ++ drop c.report_from.result c.args.buffer.now) c.in-Some.ensures.unchanged
+    ∙ ap (λ n. map (entry_of c.args.sources.now) (held (drop c.in-Some.first c.args.interests.now.slots)) ++ drop n c.args.buffer.now) (count c)
 
-pub returns-in_default-clause-count : goal.returns-in_default-clause-count
-returns-in_default-clause-count c = subst (λ l. c.loop-count.count ≡ length (first_ready c.args.sources.now l (length c.args.buffer.now))) c.leave_unused.ensures.list (none-left c).0
+pub returns-then-are_ready_from-clause-count : goal.returns-then-are_ready_from-clause-count
+returns-then-are_ready_from-clause-count c = count c ∙ (done_in_place (stand-last c) (entry_of c.args.sources.now) c.args.buffer.now c.report_from.new.buffer (entries c) (few c)).0
 
-pub returns-in_default-clause-interests : goal.returns-in_default-clause-interests
-returns-in_default-clause-interests c = subst (λ l. held c.loop-count.interests.slots ≡ first_ready_last c.args.sources.now l (length c.args.buffer.now)) c.leave_unused.ensures.list (none-left c).1
+pub returns-then-are_ready_from-clause-interests : goal.returns-then-are_ready_from-clause-interests
+returns-then-are_ready_from-clause-interests c =
+    ap (λ (s : InterestsState). held s.slots) c.in-Some.ensures.unchanged
+    ∙ (done_in_place (stand-last c) (entry_of c.args.sources.now) c.args.buffer.now c.report_from.new.buffer (entries c) (few c)).1
 
-pub returns-in_default-clause-buffer : goal.returns-in_default-clause-buffer
-returns-in_default-clause-buffer c =
-    subst (λ l. c.loop-count.buffer ≡ map (entry_of c.args.sources.now) (first_ready c.args.sources.now l (length c.args.buffer.now)) ++ drop c.loop-count.count c.args.buffer.now) c.leave_unused.ensures.list (none-left c).2
-
--- the first that is marked came to the back in this walk
-
-none-below : (c : goal.Then-slot-end) → IsDone (is_ready c.args.sources.now) (entry_of c.args.sources.now) (picked c.loop-count.invariant)
-none-below c =
-    let le = c.loop-count.auto.count-end in
-    let fits = c.min-room.ensures in
-    let end = c.end-end.ensures in
-    let over = c.if-slot-end.true in
-    done_by_marks c.loop-count.invariant (omega arith) (λ s ge lt. c.in-Some.ensures.first s ge (omega arith))
-
-pub returns-then-slot-end-clause-count : goal.returns-then-slot-end-clause-count
-returns-then-slot-end-clause-count c = subst (λ l. c.loop-count.count ≡ length (first_ready c.args.sources.now l (length c.args.buffer.now))) c.leave_unused.ensures.list (none-below c).0
-
-pub returns-then-slot-end-clause-interests : goal.returns-then-slot-end-clause-interests
-returns-then-slot-end-clause-interests c = subst (λ l. held c.loop-count.interests.slots ≡ first_ready_last c.args.sources.now l (length c.args.buffer.now)) c.leave_unused.ensures.list (none-below c).1
-
-pub returns-then-slot-end-clause-buffer : goal.returns-then-slot-end-clause-buffer
-returns-then-slot-end-clause-buffer c =
-    subst (λ l. c.loop-count.buffer ≡ map (entry_of c.args.sources.now) (first_ready c.args.sources.now l (length c.args.buffer.now)) ++ drop c.loop-count.count c.args.buffer.now) c.leave_unused.ensures.list (none-below c).2
-
--- a slot that is marked holds an interest
-
-holds-one : (c : goal.In_default-interest_in) → ⊥
-holds-one c =
-    let p = is_ready c.args.sources.now in
-    let slot = c.in-Some.slot in
-    let none = ap (passes p) (sym c.interest_in.ensures ∙ c.in_default-interest_in.is) in
-    false≢true (sym (c.loop-count.invariant.marks slot ∙ none) ∙ get_or_from_slice_get c.loop-count.interests.marks slot true false c.in-Some.ensures.marked)
-
-pub returns-in_default-interest_in-clause-count : goal.returns-in_default-interest_in-clause-count
-returns-in_default-interest_in-clause-count c = absurd (holds-one c)
-
-pub returns-in_default-interest_in-clause-interests : goal.returns-in_default-interest_in-clause-interests
-returns-in_default-interest_in-clause-interests c = absurd (holds-one c)
-
-pub returns-in_default-interest_in-clause-buffer : goal.returns-in_default-interest_in-clause-buffer
-returns-in_default-interest_in-clause-buffer c = absurd (holds-one c)
-
--- the first that is marked is the last of all
-
-already_last : (c : goal.Then-slot-end-2) → (c.loop-count.count + 1 ≡ length (first_ready c.args.sources.now (held c.leave_unused.new.self.slots) (length c.args.buffer.now)))
-    × (held c.loop-count.interests.slots ≡ first_ready_last c.args.sources.now (held c.leave_unused.new.self.slots) (length c.args.buffer.now))
-    × (set c.loop-count.buffer c.loop-count.count c.entry_of.result ≡ map (entry_of c.args.sources.now) (first_ready c.args.sources.now (held c.leave_unused.new.self.slots) (length c.args.buffer.now)) ++ drop (c.loop-count.count + 1) c.args.buffer.now)
-already_last c =
-    let end = c.end-end.ensures in
-    let below = c.if-slot-end.false in
-    let fits = c.min-room.ensures in
-    let more = c.loop-count-test.true in
-    let at : slot_at c.loop-count.interests.slots c.in-Some.slot ≡ Some c.in-Some-interest_in.interest = sym c.interest_in.ensures ∙ c.in-Some-interest_in.is in
-    done_by_last c.loop-count.invariant c.in-Some.slot c.in-Some-interest_in.interest c.in-Some.ensures (omega arith) at _ (omega arith) (ap (set c.loop-count.buffer c.loop-count.count) c.entry_of.ensures) (c.if-slot-end-2.true ∙ c.end.ensures)
-
-pub returns-then-slot-end-2-clause-count : goal.returns-then-slot-end-2-clause-count
-returns-then-slot-end-2-clause-count c = subst (λ l. c.loop-count.count + 1 ≡ length (first_ready c.args.sources.now l (length c.args.buffer.now))) c.leave_unused.ensures.list (already_last c).0
-
-pub returns-then-slot-end-2-clause-interests : goal.returns-then-slot-end-2-clause-interests
-returns-then-slot-end-2-clause-interests c = subst (λ l. held c.loop-count.interests.slots ≡ first_ready_last c.args.sources.now l (length c.args.buffer.now)) c.leave_unused.ensures.list (already_last c).1
-
-pub returns-then-slot-end-2-clause-buffer : goal.returns-then-slot-end-2-clause-buffer
-returns-then-slot-end-2-clause-buffer c =
-    subst (λ l. set c.loop-count.buffer c.loop-count.count c.entry_of.result ≡ map (entry_of c.args.sources.now) (first_ready c.args.sources.now l (length c.args.buffer.now)) ++ drop (c.loop-count.count + 1) c.args.buffer.now) c.leave_unused.ensures.list (already_last c).2
-
--- the buffer is full, or all were moved
-
-full : (c : goal.After-loop-count) → IsDone (is_ready c.args.sources.now) (entry_of c.args.sources.now) (picked c.loop-count.invariant)
-full c =
-    let le = c.loop-count.auto.count-end in
-    let over = c.loop-count-test.false in
-    let fits = c.min-room.ensures in
-    let enough = c.room.ensures.enough in
-    let same = ap length c.leave_unused.ensures.list in
-    elim (cases_lt c.room.result (length c.args.buffer.now)) [
-      | inl lt ↦ done_by_all c.loop-count.invariant (omega arith) (omega arith)
-      | inr ge ↦ done_by_room (is_ready c.args.sources.now) (entry_of c.args.sources.now) (picked c.loop-count.invariant) (omega arith)
-    ]
-
-all-counted : (c : goal.After-loop-count) → c.loop-count.count ≡ c.min-room.result
-all-counted c =
-    let le = c.loop-count.auto.count-end in
-    let over = c.loop-count-test.false in
-    omega arith
-
-pub returns-clause-count : goal.returns-clause-count
-returns-clause-count c = sym (all-counted c) ∙ subst (λ l. c.loop-count.count ≡ length (first_ready c.args.sources.now l (length c.args.buffer.now))) c.leave_unused.ensures.list (full c).0
-
-pub returns-clause-interests : goal.returns-clause-interests
-returns-clause-interests c = subst (λ l. held c.loop-count.interests.slots ≡ first_ready_last c.args.sources.now l (length c.args.buffer.now)) c.leave_unused.ensures.list (full c).1
-
-pub returns-clause-buffer : goal.returns-clause-buffer
-returns-clause-buffer c =
-    subst (λ n. c.loop-count.buffer ≡ map (entry_of c.args.sources.now) (first_ready c.args.sources.now (held c.args.interests.now.slots) (length c.args.buffer.now)) ++ drop n c.args.buffer.now) (all-counted c)
-    (subst (λ l. c.loop-count.buffer ≡ map (entry_of c.args.sources.now) (first_ready c.args.sources.now l (length c.args.buffer.now)) ++ drop c.loop-count.count c.args.buffer.now) c.leave_unused.ensures.list (full c).2)
+pub returns-then-are_ready_from-clause-buffer : goal.returns-then-are_ready_from-clause-buffer
+returns-then-are_ready_from-clause-buffer c =
+    (done_in_place (stand-last c) (entry_of c.args.sources.now) c.args.buffer.now c.report_from.new.buffer (entries c) (few c)).2
+    ∙ ap (λ n. map (entry_of c.args.sources.now) (first_ready c.args.sources.now (held c.args.interests.now.slots) (length c.args.buffer.now)) ++ drop n c.args.buffer.now) (sym (count c))

@@ -1,11 +1,14 @@
-use Rattle.std.proofs.Common.{subst}
+use Rattle.std.proofs.Common.{sym, subst, max}
 use Rattle.std.specs.Prelude.{MatchOption}
 use Rattle.vmm_sys.specs.ReadySet.{IsFirstFrom, NoneFrom}
-use Rattle.vmm_sys.proofs.Marks.{found}
+use Rattle.vmm_sys.proofs.Marks.{first_from-lowest}
 use Rattle.vmm_sys.proofs.table.ready_set.ReadySet.first_from.Goals as goal
 
 pub returns : goal.returns
 returns c =
     let s = c.self.inside in
-    subst (λ ms. MatchOption c.first_in_word.result (NoneFrom ms c.args.number) (λ n. IsFirstFrom ms c.args.number n)) c.self.view_is
-    (found s.words s.numbers c.self.invariant.of_numbers c.args.number c.in_ok-word.word c.first_in_word.result c.in_default.ensures c.in_ok-word.ensures c.first_in_word.ensures)
+    let n = c.args.number in
+    let found = c.search.result in
+    let from = subst (λ k. MatchOption found (NoneFrom c.args.self.now k) (λ f. IsFirstFrom c.args.self.now k f)) c.max.ensures c.search.ensures in
+    let here = subst (λ ms. MatchOption found (NoneFrom ms (max n s.lowest)) (λ f. IsFirstFrom ms (max n s.lowest) f)) (sym c.self.view_is) from in
+    subst (λ ms. MatchOption found (NoneFrom ms n) (λ f. IsFirstFrom ms n f)) c.self.view_is (first_from-lowest s.numbers s.lowest n c.self.invariant.1 found here)

@@ -1,0 +1,6 @@
+use Rattle.std.specs.Prelude.{ℕ, ◌<◌, ◌≤◌}
+use Rattle.vmm_sys.specs.ReadySet.{IsMarked}
+use Rattle.vmm_sys.proofs.table.interests.Interests.are_ready_from.Given as goal
+
+abbrev pub invariant-loop-s : goal.invariant-loop-s
+invariant-loop-s l = (s : ℕ) → l.initial.slot ≤ s → s < l.s → IsMarked l.self.marks s
