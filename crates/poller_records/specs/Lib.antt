@@ -1,0 +1,3 @@
+pub mod BadLine
+pub mod Held
+pub mod Lines

@@ -1,0 +1,20 @@
+//! Records of a poller's calls as text, a line an entry.
+//!
+//! ```text
+//! add FD SET WORD ok           a call of ctl; also modify, delete
+//! add FD SET WORD error N      the same, refused with error N
+//! wait MS ROOM ok COUNT        a call of wait
+//! wait MS ROOM error N         the same, refused with error N
+//! event SET WORD               an event that the wait above reported
+//! ```
+//!
+//! One space stands between two fields, and each line ends with a `\n`. Numbers are decimal, a set as the number of its
+//! bits. Each is written in one way: without leading zeros, and with a `-` only in front of a number below 0.
+#![tactic(auto)]
+
+mod answers;
+mod entries;
+pub mod fault;
+pub mod laws;
+mod numbers;
+pub mod text;
