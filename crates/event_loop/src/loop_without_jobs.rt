@@ -60,6 +60,13 @@ impl<S: MutEventSubscriber, P: EventPoller> EventLoop<S, P> {
         Ok(EventLoop { registry })
     }
 
+    /// The poller, to read what it keeps, as the record of its calls. Ours, the Rust crate has none.
+    pub fn poller(&self) -> &P
+        ensures { result.now ≡ (seen_of self.now).poller }
+    {
+        self.registry.poller()
+    }
+
     /// [`run_with_timeout`](EventLoop::run_with_timeout) without a limit.
     pub fn run(&mut self) -> Result<usize>
         ensures { IsLoopIteration S.begins S.serves no_job P.controls P.waits (seen_of self.old) (negsuc 0) result (seen_of self.new) }

@@ -240,6 +240,13 @@ impl<S: MutEventSubscriber, P: EventPoller> Registry<S, P> {
         }
     }
 
+    /// The poller, to read what it keeps.
+    pub fn poller(&self) -> &P
+        ensures { result.now ≡ (loop_state self.now).poller }
+    {
+        &self.ops.epoll.poller
+    }
+
     /// Takes a subscriber in under the next id.
     pub(crate) fn join(&mut self, subscriber: S) -> Result<SubscriberId>
     where

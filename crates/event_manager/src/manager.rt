@@ -75,6 +75,13 @@ impl<S: MutEventSubscriber, J: Job<S>, N: Naming, P: EventPoller> EventManager<S
         Ok(EventManager { registry, channel })
     }
 
+    /// The poller, to read what it keeps, as the record of its calls. Ours, the Rust crate has none.
+    pub fn poller(&self) -> &P
+        ensures { result.now ≡ (state_of self.now).poller }
+    {
+        self.registry.poller()
+    }
+
     /// [`run_with_timeout`](EventManager::run_with_timeout) without a limit.
     pub fn run<R: Wait + Clock>(&mut self, rt: &R) -> Result<usize>
         ensures { IsLoopIteration S.begins S.serves J.may P.controls P.waits (state_of self.old) (negsuc 0) result (state_of self.new) }
