@@ -1,4 +1,4 @@
-//! Subscribers of each form that docs/DESIGN.md shows: none has a line of proof by hand.
+//! Subscribers of each form that docs/GUIDE.md shows: none has a line of proof by hand.
 
 use event_manager::{
     EventOps, EventPoller, EventSet, Events, MutEventSubscriber, Request, StepInput, StepSubscriber,
