@@ -10,6 +10,8 @@ use std::rt::Env;
 pub enum Family {
     /// One delivered event.
     Deliver,
+    /// An event that is recorded.
+    Record,
     /// A remove and an add in a batch of one.
     One,
     /// A remove and an add in a batch of 256.
@@ -31,6 +33,7 @@ impl Family {
     fn word(&self) -> &'static str {
         match self {
             Family::Deliver => "deliver",
+            Family::Record => "record",
             Family::One => "one",
             Family::Batch => "batch",
             Family::Leave => "leave",
@@ -51,8 +54,9 @@ impl Family {
 }
 
 /// The families, in the order in which they are measured.
-const FAMILIES: [Family; 8] = [
+const FAMILIES: [Family; 9] = [
     Family::Deliver,
+    Family::Record,
     Family::One,
     Family::Batch,
     Family::Leave,

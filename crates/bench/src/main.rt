@@ -14,6 +14,7 @@ pub mod fixed;
 pub mod jobs;
 pub mod over_fixed;
 pub mod progress;
+pub mod record;
 pub mod subscribers;
 pub mod table_calls;
 pub mod timing;
@@ -28,6 +29,7 @@ use std::rt::Env;
 fn measure_all<R: Host>(bench: &Bench<R>) -> Result<(), Fault> {
     bench.print_heading()?;
     deliver::measure_deliveries(bench)?;
+    record::measure_records(bench)?;
     toggle::measure_toggles(bench)?;
     churn::measure_joins(bench)?;
     table_calls::measure_tables(bench)?;
