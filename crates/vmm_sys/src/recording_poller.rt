@@ -1,12 +1,13 @@
 //! A poller with a record of its calls.
 
-ghost use Rattle.std.specs.Prelude.{◌≡◌, ◌+◌, ◌≤◌, true, [], ◌∷◌, ◌++◌, map, length, vec_len, vec_capacity, IfOk, IsOkUnless};
+ghost use Rattle.std.specs.Prelude.{◌≡◌, ◌+◌, ◌≤◌, true, [], ◌∷◌, ◌++◌, map, length, vec_len, vec_capacity, IfOk, IfSome, IsOkUnless};
 ghost use Rattle.vmm_sys.specs.declared.record.RecordEntry.TheVariants.{Reported};
 ghost use Rattle.vmm_sys.specs.Poller.{reported};
 ghost use Rattle.vmm_sys.specs.Recording.{recorded, with_poller, recording_code, MayCtl, MayWait};
 
 use crate::epoll::{ControlOperation, EpollEvent, RawFd};
 use crate::errno::Errno;
+use crate::event_set::EventSet;
 use crate::poller::Poller;
 use crate::record::RecordEntry;
 use std::alloc::Global;
@@ -35,18 +36,19 @@ impl<P> Model for RecordingPoller<P> {
 }
 
 impl<P: Poller> RecordingPoller<P> {
-    /// Nothing was recorded, and there is room for `most` entries. `ENOMEM`: memory was refused; the poller is dropped.
+    /// Nothing was recorded, and there is room for `most` entries, which is written once, so that the system gives it now
+    /// and not in a call. `ENOMEM`: memory was refused; the poller is dropped.
     pub fn new(poller: P, alloc: Global, most: usize) -> Result<Self, Errno>
         ensures errors { IsOkUnless result Errno.ENOMEM }
         ensures made { IfOk result (λ r. r ≡ record { poller = poller; entries = []; most = most; complete = true }) }
     {
-        match Vec::with_capacity(alloc, most) {
-            Ok(entries) => Ok(RecordingPoller {
+        match written_room(alloc, most) {
+            Some(entries) => Ok(RecordingPoller {
                 poller,
                 entries,
                 complete: true,
             }),
-            Err(_) => Err(Errno::ENOMEM),
+            None => Err(Errno::ENOMEM),
         }
     }
 
@@ -119,6 +121,22 @@ impl<P: Poller> Poller for RecordingPoller<P> {
         self.keep(call, report_in(answer, buffer));
         answer
     }
+}
+
+// Room for so many entries, each of which was written once. `None` where memory is refused.
+fn written_room(alloc: Global, most: usize) -> Option<Vec<RecordEntry>>
+    ensures empty { IfSome result (λ entries. entries.items ≡ []) }
+    ensures room { IfSome result (λ entries. vec_capacity entries ≡ most) }
+{
+    let Ok(mut entries) = Vec::with_capacity(alloc, most) else {
+        return None;
+    };
+    let blank = RecordEntry::Reported(EpollEvent::new(EventSet::empty(), 0));
+    for _entry in 0..most {
+        entries.push_reserved(blank);
+    }
+    entries.truncate(0);
+    Some(entries)
 }
 
 // The events that a wait with this answer reported in the buffer.
