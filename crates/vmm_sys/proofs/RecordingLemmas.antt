@@ -10,10 +10,12 @@ use Rattle.vmm_sys.specs.Record.{entries_of_ctl, entries_of_wait}
 use Rattle.vmm_sys.specs.Recording.{Recording, recorded, with_poller, recording_code, MayCtl, MayWait}
 
 module _ {P : Type 0} (meaning : P → Gv) where
+  -- what a recording poller means
   abbrev pub seen : Recording P → Gv
   seen s = recording_code.code (with_poller s (meaning s.poller))
 
   module _ (poller : P) {r before after : Recording P} (is : r ≡ before) where
+    -- `is` and the equations say what was read of the fields and the arguments
     pub ctl-recorded : (may_ctl : CtlRelation) (op : ControlOperation) {fd z : ℤ} (event : EpollEvent) (answer : Result (Unit {0}) Errno) → z ≡ fd
         → may_ctl (meaning r.poller) op z event answer (meaning poller)
         → after ≡ recorded (with_poller r poller) (entries_of_ctl op z event answer)
@@ -28,7 +30,14 @@ module _ {P : Type 0} (meaning : P → Gv) where
         → after ≡ recorded (with_poller r poller) (entries_of_wait z room answer report)
         → MayWait may_wait (seen before) ms room answer events (seen after)
     wait-recorded may_wait {ms} {z} room answer {events} same all h e =
-        let call : MayWait may_wait (seen r) z room answer events (seen after) =
-        (with_poller r (meaning r.poller), meaning poller, refl, h, ap seen (subst (λ l. after ≡ recorded (with_poller r poller) (entries_of_wait z room answer l)) all e)) in
-        let at_ms : MayWait may_wait (seen r) ms room answer events (seen after) = subst (λ n. MayWait may_wait (seen r) n room answer events (seen after)) same call in
+        let call : MayWait may_wait (seen r) z room answer events (seen after) = (
+          with_poller r (meaning r.poller),
+          meaning poller,
+          refl,
+          h,
+          ap seen
+              (subst (λ l. after ≡ recorded (with_poller r poller) (entries_of_wait z room answer l)) all e),
+        ) in
+        let at_ms : MayWait may_wait (seen r) ms room answer events (seen after) =
+        subst (λ n. MayWait may_wait (seen r) n room answer events (seen after)) same call in
         subst (λ s. MayWait may_wait (seen s) ms room answer events (seen after)) is at_ms

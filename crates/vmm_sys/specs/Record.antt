@@ -28,20 +28,23 @@ abbrev pub is_reported : RecordEntry → Bool
 is_reported (Reported event) = true
 is_reported _ = false
 
--- what an entry of each kind holds
+-- what entries of the three kinds hold
 abbrev Parts : Type 0
 Parts = (ControlOperation × (ℤ × (EpollEvent × Result (Unit {0}) Errno))) ⊎ ((ℤ × (ℕ × Result ℕ Errno)) ⊎ EpollEvent)
 
+-- what an entry holds
 abbrev parts : RecordEntry → Parts
 parts (Control op fd event answer) = inl (op, (fd, (event, answer)))
 parts (Wait ms room answer) = inr (inl (ms, (room, answer)))
 parts (Reported event) = inr (inr event)
 
+-- the entry that holds it
 abbrev entry : Parts → RecordEntry
 entry (inl p) = Control p.0 p.1.0 p.1.1.0 p.1.1.1
 entry (inr (inl p)) = Wait p.0 p.1.0 p.1.1
 entry (inr (inr event)) = Reported event
 
+-- what an entry holds says the entry
 pub entry-parts : (e : RecordEntry) → entry (parts e) ≡ e
 entry-parts (Control op fd event answer) = refl
 entry-parts (Wait ms room answer) = refl

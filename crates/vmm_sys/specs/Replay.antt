@@ -61,4 +61,5 @@ MayCtl before op fd event answer after = (s t : Replay) × (before ≡ replay_co
 
 -- between the codes of its states
 abbrev pub MayWait : WaitRelation
-MayWait before ms room answer events after = (s t : Replay) × (before ≡ replay_code.code s) × (after ≡ replay_code.code t) × AnswersWait s ms room answer events t
+MayWait before ms room answer events after = (s t : Replay) × (before ≡ replay_code.code s) × (after ≡ replay_code.code t)
+    × AnswersWait s ms room answer events t

@@ -13,5 +13,6 @@ returns-then-eq-2-clause-found c =
     let op : c.in-Some-Control.recorded_op ≡ c.args.op = same_true the_type (search rules) _ _ (sym c.if-eq.ensures) in
     let fd : c.in-Some-Control.recorded_fd ≡ c.args.fd = c.if-is_number.ensures.0 refl ∙ to_z-of_z w32 c.args.fd c.ranges.fd in
     let event : c.in-Some-Control.recorded_event ≡ c.args.event = same-event _ _ c.if-eq-2.ensures in
-    let at : c.args.ahead.now ≡ Control c.args.op c.args.fd c.args.event c.in-Some-Control.answer ∷ drop 1 c.args.ahead.now = cc (first, c.in-Some-Control.field-0-is) in
+    let at : c.args.ahead.now ≡ Control c.args.op c.args.fd c.args.event c.in-Some-Control.answer ∷ drop 1 c.args.ahead.now =
+    cc (first, c.in-Some-Control.field-0-is) in
     (drop 1 c.args.ahead.now, at)

@@ -6,4 +6,5 @@ use Rattle.vmm_sys.proofs.recording_poller.RecordingPollerPoller.ctl.Goals as go
 pub returns : goal.returns
 returns g c =
     let fd = to_z-of_z w32 c.args.fd c.ranges.fd in
-    ctl-recorded g.P.Poller.meaning c.ctl-answer.new.self c.self.view_is g.P.Poller.may_ctl c.args.op c.args.event c.ctl-answer.result fd c.ctl-answer.ensures c.keep.ensures
+    ctl-recorded g.P.Poller.meaning c.ctl-answer.new.self c.self.view_is g.P.Poller.may_ctl c.args.op c.args.event c.ctl-answer.result fd
+    c.ctl-answer.ensures c.keep.ensures

@@ -6,4 +6,5 @@ use Rattle.vmm_sys.proofs.recording_poller.RecordingPollerPoller.wait.Goals as g
 pub returns-clause-answer : goal.returns-clause-answer
 returns-clause-answer g c =
     let ms = to_z-of_z w32 c.args.ms c.ranges.ms in
-    wait-recorded g.P.Poller.meaning c.wait-answer.new.self c.self.view_is g.P.Poller.may_wait _ c.wait-answer.result ms c.report_in.ensures c.wait-answer.ensures.answer c.keep.ensures
+    wait-recorded g.P.Poller.meaning c.wait-answer.new.self c.self.view_is g.P.Poller.may_wait _ c.wait-answer.result ms c.report_in.ensures
+    c.wait-answer.ensures.answer c.keep.ensures
