@@ -49,7 +49,7 @@ fn measure_waits<P: Poller, R: Host>(
     })
 }
 
-/// Measures a reported event of the fixed poller, alone and recorded into fresh memory. `Answer` where one was left out.
+/// Measures a reported event of the fixed poller, alone and recorded into a record of its own. `Answer` where one was left out.
 pub fn measure_records<R: Host>(bench: &Bench<R>) -> Result<(), Fault> {
     if !bench.wanted.has_family(Family::Record) {
         return Ok(());
