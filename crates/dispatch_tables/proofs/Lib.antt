@@ -1,5 +1,6 @@
 pub mod NumberTests
 pub mod TimesListed
+pub mod WatchListLemmas
 pub mod PlaceLemmas
 pub mod VacantPlaces
 pub mod OwnerMaps
@@ -11,5 +12,3 @@ pub mod Owning
 pub mod ClassEntries
 pub mod DispatchOrders
 pub mod Ascending
-pub mod SortedLists
-pub mod ListChanges

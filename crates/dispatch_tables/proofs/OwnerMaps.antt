@@ -100,10 +100,10 @@ ownership_is low high q =
     ∙ ap (λ o. option_or (ownership_at low q) o) (find_high q high)
 
 -- a low descriptor's owner is the vector's, another's is the map's
-pub low_owner : (low : List (Option Owner)) (high : List (ℕ × Owner)) (q : ℕ) (o : Option Owner) → AreApart low high → q < 65536 → o ≡ owner_at low q → IsOwnerAt (owners_in low high) q o
+pub low_owner : (low : List (Option Owner)) (high : List (ℕ × Owner)) (q : ℕ) (o : Option Owner) → AreApart low high → q < 1048576 → o ≡ owner_at low q → IsOwnerAt (owners_in low high) q o
 low_owner low high q o apart below is = ap placeless is ∙ sym (ownership_is low high q ∙ ap (λ p. option_or (ownership_at low q) (placeless p)) (apart.none_low q below) ∙ first_alone (ownership_at low q))
 
-pub high_owner : (low : List (Option Owner)) (high : List (ℕ × Owner)) (q : ℕ) (o : Option Owner) → AreApart low high → 65536 ≤ q → o ≡ owner_in high q → IsOwnerAt (owners_in low high) q o
+pub high_owner : (low : List (Option Owner)) (high : List (ℕ × Owner)) (q : ℕ) (o : Option Owner) → AreApart low high → 1048576 ≤ q → o ≡ owner_in high q → IsOwnerAt (owners_in low high) q o
 high_owner low high q o apart above is = ap placeless is ∙ sym (ownership_is low high q ∙ ap (λ p. option_or (placeless p) (ownership_in high q)) (none_past_end low q (omega (arith, apart.low_alone, above))))
 
 -- another owner at one descriptor, in the one or the other
@@ -111,10 +111,10 @@ module _ (low lows : List (Option Owner)) (high highs : List (ℕ × Owner)) (fd
   tests_alike : (q : ℕ) → (fd == q) ≡ eq_by_cmp nat_cmp q fd
   tests_alike q = flipped fd q ∙ sym (same_tests q fd)
 
-  none_high : fd < 65536 → (q : ℕ) → (fd == q) ≡ true → ownership_in high q ≡ None
+  none_high : fd < 1048576 → (q : ℕ) → (fd == q) ≡ true → ownership_in high q ≡ None
   none_high below q e = ap placeless (apart.none_low q (grind (arith, nat_tests, below, e)))
 
-  none_in_low : 65536 ≤ fd → (q : ℕ) → (fd == q) ≡ true → ownership_at low q ≡ None
+  none_in_low : 1048576 ≤ fd → (q : ℕ) → (fd == q) ≡ true → ownership_at low q ≡ None
   none_in_low above q e = ap placeless (none_past_end low q (grind (arith, nat_tests, apart.low_alone, above, e)))
 
   low_has : (owner : Option Owner) → HasOwnerAt low fd owner lows → (q : ℕ) → ownership_at lows q ≡ cond (fd == q) (placeless owner) (ownership_at low q)
@@ -128,7 +128,7 @@ module _ (low lows : List (Option Owner)) (high highs : List (ℕ × Owner)) (fd
       ∙ ap (λ b. cond b (Some (ownership_of owner)) (option_or (ownership_at low q) (ownership_in high q))) (tests_alike q)
       ∙ sym (get-insert nat_cmp_total (owners_in low high) fd (ownership_of owner) q ∙ ap (λ o. cond (eq_by_cmp nat_cmp q fd) (Some (ownership_of owner)) o) (ownership_is low high q)))
 
-  pub owner_taken_low : fd < 65536 → HasOwnerAt low fd None lows → owners_in lows high ≡ remove (owners_in low high) fd
+  pub owner_taken_low : fd < 1048576 → HasOwnerAt low fd None lows → owners_in lows high ≡ remove (owners_in low high) fd
   owner_taken_low below has = same_map nat_cmp_total nat_cmp-IsAntisymmetric _ _ (λ q.
       ownership_is lows high q
       ∙ ap (λ o. option_or o (ownership_in high q)) (low_has None has q)
@@ -136,7 +136,7 @@ module _ (low lows : List (Option Owner)) (high highs : List (ℕ × Owner)) (fd
       ∙ ap (λ b. cond b None (option_or (ownership_at low q) (ownership_in high q))) (tests_alike q)
       ∙ sym (get-remove nat_cmp_total (owners_in low high) fd q ∙ ap (λ o. cond (eq_by_cmp nat_cmp q fd) None o) (ownership_is low high q)))
 
-  module _ (new : Option Owner) (above : 65536 ≤ fd) (has : (q : ℕ) → owner_in highs q ≡ cond (fd == q) new (owner_in high q)) where
+  module _ (new : Option Owner) (above : 1048576 ≤ fd) (has : (q : ℕ) → owner_in highs q ≡ cond (fd == q) new (owner_in high q)) where
     changed_high : (q : ℕ) → get (owners_in low highs) q ≡ cond (eq_by_cmp nat_cmp q fd) (placeless new) (get (owners_in low high) q)
     changed_high q =
         ownership_is low highs q
@@ -153,7 +153,7 @@ module _ (low lows : List (Option Owner)) (high highs : List (ℕ × Owner)) (fd
     owner_taken_high is = same_map nat_cmp_total nat_cmp-IsAntisymmetric _ _ (λ q.
         changed_high q ∙ ap (λ o. cond (eq_by_cmp nat_cmp q fd) (placeless o) (get (owners_in low high) q)) is ∙ sym (get-remove nat_cmp_total (owners_in low high) fd q))
 
-    other_below : (q : ℕ) → q < 65536 → (fd == q) ≡ false
+    other_below : (q : ℕ) → q < 1048576 → (fd == q) ≡ false
     other_below q below = grind (arith, nat_tests, above, below)
 
     pub still_apart : AreApart low highs

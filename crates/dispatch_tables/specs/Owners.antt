@@ -42,8 +42,8 @@ AreCounted owners owned raised = (owned ≡ finite.len owners) × (raised ≡ fi
 
 -- the vector has low descriptors alone, and the map none
 pub record AreApart (low : List (Option Owner)) (high : List (ℕ × Owner)) : Type 0 where
-  pub low_alone : length low ≤ 65536
-  pub none_low : (fd : ℕ) → fd < 65536 → owner_in high fd ≡ None
+  pub low_alone : length low ≤ 1048576
+  pub none_low : (fd : ℕ) → fd < 1048576 → owner_in high fd ≡ None
 
 -- another owner, or none, at one descriptor
 abbrev pub HasOwnerAt : List (Option Owner) → ℕ → Option Owner → List (Option Owner) → Type 0

@@ -12,7 +12,7 @@ use std::collections::HashMap;
 use std::marker::Model;
 
 /// Descriptors below this number are low: their owners stand in a vector, by descriptor.
-const LOW_DESCRIPTORS: u32 = 65536;
+const LOW_DESCRIPTORS: u32 = 1048576;
 
 /// Who owns a descriptor: the id of a subscriber, the place where the registry was holding it when it added the
 /// descriptor, and the priority that it then gave.
@@ -109,8 +109,8 @@ fn put_at(
     fd: usize,
     owner: Owner,
 ) -> std::result::Result<(), AllocError>
-    requires { fd < 65536 }
-    ensures len { length low.old.items ≤ 65536 → length low.new.items ≤ 65536 }
+    requires { fd < 1048576 }
+    ensures len { length low.old.items ≤ 1048576 → length low.new.items ≤ 1048576 }
     ensures ok { OnOk result (HasOwnerAt low.old.items fd (Some owner) low.new.items) }
     ensures err { OnErr result (low.new.items ≡ low.old.items) }
 {
