@@ -1,13 +1,13 @@
 -- The owners in a vector and a map, as one finite map.
-use Rattle.std.proofs.Common.{◌≡◌, ℕ, zero, suc, ◌+◌, ◌==◌, ◌<◌, ◌≤◌, refl, sym, ap, ◌∙◌, List, [], ◌∷◌, ◌++◌, Bool, true, false, cond, Option, Some, None, option_map, arith, length, nat_cmp}
+use Rattle.std.proofs.Common.{◌≡◌, ℕ, zero, suc, ◌+◌, ◌==◌, ◌<◌, ◌≤◌, refl, sym, ap, ◌∙◌, List, [], ◌∷◌, ◌++◌, Bool, true, false, cond, Option, Some, None, option_map, arith, length, nat_cmp, inl, inr}
 use Rattle.std.specs.Option.{option_or}
-use Rattle.std.proofs.lemmas.Bool.Decides.{nat_tests}
+use Rattle.std.proofs.lemmas.Bool.Decides.{nat_tests, eqb_tells}
 use Rattle.std.specs.Ordering.{eq_by_cmp}
 use Rattle.std.specs.Cmp.{nat_cmp_total}
 use Rattle.std.specs.FinMap.{get, insert, remove, find, get-from_entries, get-insert, get-remove, same_map, nat_cmp-IsAntisymmetric}
 use Rattle.std.specs.Map.{lookup}
 use Rattle.dispatch_tables.specs.Ownership.{Ownership}
-use Rattle.dispatch_tables.specs.Owners.{ownership_of, owner_at, owner_in, low_entries, high_entries, owners_in, AreApart, HasOwnerAt, IsOwnerAt}
+use Rattle.dispatch_tables.specs.Owners.{ownership_of, owner_at, owner_in, low_entries, high_entries, owners_in, AreApart, HasOwnerAt, HaveSameOwners, IsOwnerAt}
 use Rattle.dispatch_tables.specs.declared.owners.Owner.{Owner}
 use Rattle.dispatch_tables.proofs.NumberTests.{same_tests}
 use Rattle.dispatch_tables.proofs.TimesListed.{flipped}
@@ -161,3 +161,25 @@ module _ (low lows : List (Option Owner)) (high highs : List (ℕ × Owner)) (fd
       low_alone = apart.low_alone;
       none_low = λ q below. has q ∙ ap (λ b. cond b new (owner_in high q)) (other_below q below) ∙ apart.none_low q below;
     }
+
+  -- the same owners, wherever they are looked for
+  pub owners_noted_low : HaveSameOwners (owner_at low) (owner_at lows) → owners_in lows high ≡ owners_in low high
+  owners_noted_low same = same_map nat_cmp_total nat_cmp-IsAntisymmetric _ _ (λ q. ownership_is lows high q ∙ ap (λ o. option_or o (ownership_in high q)) (same q) ∙ sym (ownership_is low high q))
+
+  module _ (same : HaveSameOwners (owner_in high) (owner_in highs)) where
+    pub owners_noted_high : owners_in low highs ≡ owners_in low high
+    owners_noted_high = same_map nat_cmp_total nat_cmp-IsAntisymmetric _ _ (λ q. ownership_is low highs q ∙ ap (λ o. option_or (ownership_at low q) o) (same q) ∙ sym (ownership_is low high q))
+
+    none_from : (o : Option Owner) → placeless o ≡ None → o ≡ None
+    none_from None e = refl
+    none_from (Some owner) e = cc
+
+    pub noted_apart : AreApart low highs
+    noted_apart = record { low_alone = apart.low_alone; none_low = λ q below. none_from (owner_in highs q) (same q ∙ ap placeless (apart.none_low q below)) }
+
+-- one owner of the map is looked for elsewhere
+pub noted_in : (high highs : List (ℕ × Owner)) (fd : ℕ) (was owner : Owner) → Some was ≡ owner_in high fd → ownership_of owner ≡ ownership_of was → ((q : ℕ) → owner_in highs q ≡ cond (fd == q) (Some owner) (owner_in high q)) → HaveSameOwners (owner_in high) (owner_in highs)
+noted_in high highs fd was owner held same has q = ap placeless (has q) ∙ placeless_cond (fd == q) (Some owner) (owner_in high q) ∙ elim (eqb_tells fd q) [
+  | inl p ↦ ap (λ b. cond b (Some (ownership_of owner)) (ownership_in high q)) p.0 ∙ ap Some same ∙ ap placeless held ∙ ap (ownership_in high) p.1
+  | inr p ↦ ap (λ b. cond b (Some (ownership_of owner)) (ownership_in high q)) p.0
+]

@@ -1,10 +1,10 @@
 -- Lists of which one changes, and how often a descriptor stands in them then.
-use Rattle.std.proofs.Common.{◌≡◌, ◌≢◌, ℕ, zero, suc, ◌+◌, ◌==◌, ◌<◌, ◌≤◌, refl, sym, ap, subst, ◌∙◌, List, [], ◌∷◌, Bool, true, false, cond, inl, inr, arith, length, get_or, set, All, AllPairs}
-use Rattle.std.proofs.lemmas.Bool.Decides.{nat_tests, eqb_tells}
+use Rattle.std.proofs.Common.{◌≡◌, ◌≢◌, ℕ, zero, suc, ◌+◌, ◌==◌, ◌<◌, refl, sym, ap, subst, ◌∙◌, List, [], ◌∷◌, Bool, true, false, cond, inl, inr, arith, length, get_or, set, All}
+use Rattle.std.proofs.lemmas.Bool.Decides.{eqb_tells}
 use Rattle.std.proofs.lemmas.Grind.{get_or-set_at}
 use Rattle.std.proofs.lemmas.List.{get_or_default, get_or-set_other, length-set}
-use Rattle.std.proofs.lemmas.List.Sums.{sum_by-cons, sum_by-set, sum_by-le}
-use Rattle.dispatch_tables.specs.WatchLists.{times_in, times_among, AreApart, AreUpTo, IsListOf, LacksList, IsOneMore, HasChangedAt}
+use Rattle.std.proofs.lemmas.List.Sums.{sum_by-cons, sum_by-set}
+use Rattle.dispatch_tables.specs.WatchLists.{times_in, times_among, AreApart, AreUpTo, IsListOf, LacksList}
 use Rattle.dispatch_tables.specs.declared.watch_lists.WatchList.{WatchList}
 use Rattle.dispatch_tables.proofs.TimesListed.{flipped}
 

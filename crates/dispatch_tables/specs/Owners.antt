@@ -5,7 +5,7 @@ use Rattle.std.specs.Map.{lookup}
 use Rattle.dispatch_tables.specs.Ownership.{Ownership, OwnerMap, class_in}
 use Rattle.dispatch_tables.specs.declared.owners.Owner.{Owner}
 
--- an owner without its place
+-- an owner without where it is looked for
 abbrev pub ownership_of : Owner → Ownership
 ownership_of owner = record { id = owner.id; priority = owner.priority }
 
@@ -48,3 +48,7 @@ pub record AreApart (low : List (Option Owner)) (high : List (ℕ × Owner)) : T
 -- another owner, or none, at one descriptor
 abbrev pub HasOwnerAt : List (Option Owner) → ℕ → Option Owner → List (Option Owner) → Type 0
 HasOwnerAt before at owner after = (fd : ℕ) → owner_at after fd ≡ cond (at == fd) owner (owner_at before fd)
+
+-- each descriptor has the same owner, wherever it is looked for
+abbrev pub HaveSameOwners : (ℕ → Option Owner) → (ℕ → Option Owner) → Type 0
+HaveSameOwners before after = (fd : ℕ) → option_map ownership_of (after fd) ≡ option_map ownership_of (before fd)

@@ -4,7 +4,7 @@ ghost use Rattle.std.specs.Prelude.{◌≡◌, ◌<◌, ◌≤◌, length, None,
 ghost use Rattle.std.specs.FinMap as map;
 ghost use Rattle.dispatch_tables.specs.Priority.{number_of};
 ghost use Rattle.dispatch_tables.specs.Ownership.{class_in};
-ghost use Rattle.dispatch_tables.specs.Owners.{ownership_of, owner_at, HasOwnerAt, IsOwnerAt};
+ghost use Rattle.dispatch_tables.specs.Owners.{ownership_of, owner_at, owner_in, HasOwnerAt, HaveSameOwners, IsOwnerAt};
 
 use crate::priority::Priority;
 use std::alloc::{AllocError, Global};
@@ -15,11 +15,12 @@ use std::marker::Model;
 const LOW_DESCRIPTORS: u32 = 1048576;
 
 /// Who owns a descriptor: the id of a subscriber, the place where the registry was holding it when it added the
-/// descriptor, and the priority that it then gave.
+/// descriptor, and the priority that it then gave; and where the descriptor is looked for in its watch list first.
 #[derive(Clone, Copy)]
 pub struct Owner {
     pub id: u64,
     pub place: usize,
+    pub position: usize,
     pub priority: Priority,
 }
 
@@ -100,6 +101,38 @@ impl Owners {
             return take_at(&mut self.low, fd as usize);
         }
         self.high.remove(&fd)
+    }
+
+    /// Notes where the descriptor stands in its owner's watch list now. Takes no memory.
+    pub fn set_position(&mut self, fd: u32, position: usize)
+        ensures { self.new ≡ self.old }
+    {
+        if fd < LOW_DESCRIPTORS {
+            set_position_at(&mut self.low, fd as usize, position);
+            return;
+        }
+        set_position_in(&mut self.high, fd, position);
+    }
+}
+
+/// Notes another position beside the owner at a descriptor, if it has one.
+fn set_position_at(low: &mut Vec<Option<Owner>>, fd: usize, position: usize)
+    ensures len { length low.new.items ≡ length low.old.items }
+    ensures same { HaveSameOwners (owner_at low.old.items) (owner_at low.new.items) }
+{
+    if fd < low.len() {
+        if let Some(owner) = &mut low[fd] {
+            owner.position = position;
+        }
+    }
+}
+
+/// The same of an owner in the map.
+fn set_position_in(high: &mut HashMap<u32, Owner>, fd: u32, position: usize)
+    ensures { HaveSameOwners (owner_in high.old.entries) (owner_in high.new.entries) }
+{
+    if let Some(owner) = high.get_mut(&fd) {
+        owner.position = position;
     }
 }
 

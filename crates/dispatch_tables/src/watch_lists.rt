@@ -164,11 +164,7 @@ fn make_list(
 }
 
 /// Puts a descriptor behind the others of the list at the place, and answers its position.
-fn push_at(
-    lists: &mut Vec<WatchList>,
-    place: usize,
-    fd: u32,
-) -> Result<usize, AllocError>
+fn push_at(lists: &mut Vec<WatchList>, place: usize, fd: u32) -> Result<usize, AllocError>
     requires { place < length lists.old.items }
     ensures ok { OnOk result (HasChangedAt place (λ before after. IsOneMore before fd after) lists.old.items lists.new.items) }
     ensures err { OnErr result (HasChangedAt place (λ before after. after ≡ before) lists.old.items lists.new.items) }
@@ -180,12 +176,7 @@ fn push_at(
 }
 
 /// Takes a descriptor out of the list at the place, and answers the one that took its position.
-fn take_at(
-    lists: &mut Vec<WatchList>,
-    place: usize,
-    fd: u32,
-    position: usize,
-) -> Option<Moved>
+fn take_at(lists: &mut Vec<WatchList>, place: usize, fd: u32, position: usize) -> Option<Moved>
     requires within { place < length lists.old.items }
     requires listed { (d : WatchList) → 0 < times_in (slice_index_or lists.old.items place d).fds.items fd }
     ensures { HasChangedAt place (λ before after. IsOneMore after fd before) lists.old.items lists.new.items }

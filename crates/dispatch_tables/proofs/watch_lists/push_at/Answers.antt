@@ -3,7 +3,6 @@ use Rattle.std.proofs.lemmas.List.Sums.{sum_by_push}
 use Rattle.dispatch_tables.specs.WatchLists.{times_in, HasChangedAt}
 use Rattle.dispatch_tables.specs.declared.watch_lists.WatchList.{WatchList}
 use Rattle.dispatch_tables.proofs.WatchListLemmas.{read_list}
-use Rattle.dispatch_tables.proofs.TimesListed.{flipped}
 use Rattle.dispatch_tables.proofs.watch_lists.push_at.Goals as goal
 
 pub returns-in_err-push-clause-err : goal.returns-in_err-push-clause-err
@@ -12,7 +11,7 @@ returns-in_err-push-clause-err c =
     let after : WatchList = record { id = now.id; fds = c.push.new.self } in
     let was = read_list c.args.lists.now.items c.args.place now after c.requires c.index_mut.ensures.value in
     let same : HasChangedAt c.args.place (λ before after. after ≡ before) c.args.lists.now.items (set c.args.lists.now.items c.args.place after) =
-        (after, refl, ap (λ (l : WatchList). l.id) (sym was), c.in_err-push.ensures.items ∙ ap (λ (l : WatchList). l.fds.items) (sym was)) in
+    (after, refl, ap (λ (l : WatchList). l.id) (sym was), c.in_err-push.ensures.items ∙ ap (λ (l : WatchList). l.fds.items) (sym was)) in
     search (rules, same)
 
 pub returns-clause-ok : goal.returns-clause-ok

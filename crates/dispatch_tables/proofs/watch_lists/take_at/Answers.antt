@@ -1,4 +1,4 @@
-use Rattle.std.proofs.Common.{refl, sym, ap, subst, ◌<◌, ◌∙◌}
+use Rattle.std.proofs.Common.{refl, sym, ap, ◌∙◌}
 use Rattle.dispatch_tables.specs.WatchLists.{times_in}
 use Rattle.dispatch_tables.specs.declared.watch_lists.WatchList.{WatchList}
 use Rattle.dispatch_tables.proofs.WatchListLemmas.{read_list}

@@ -1,4 +1,4 @@
-use Rattle.std.proofs.Common.{arith, subst, ◌<◌, sym, ◌∙◌}
+use Rattle.std.proofs.Common.{arith}
 use Rattle.dispatch_tables.proofs.WatchListLemmas.{only_list, none_listed}
 use Rattle.dispatch_tables.proofs.watch_lists.WatchLists.remove.Goals as goal
 
