@@ -15,7 +15,7 @@ use Rattle.event_loop.specs.declared.events.Request.{Request}
 use Rattle.event_loop.specs.declared.events.Request.TheVariants.{Add, AddWithPriority, Modify, Remove}
 use Rattle.dispatch_tables.specs.declared.priority.Priority.TheVariants.{Lowest}
 use Rattle.event_loop.specs.declared.epoll.EpollWrapper.{EpollWrapper}
-use Rattle.event_loop.specs.declared.events.EventOps.{EventOps}
+use Rattle.event_loop.specs.declared.ops.EventOps.{EventOps}
 
 eq_symm : (a b : ℕ) → (a == b) ≡ (b == a)
 eq_symm a b = grind (arith, nat_tests)

@@ -5,7 +5,7 @@ use Rattle.std.proofs.lemmas.List.{map-append, take_more, take_all}
 use Rattle.event_loop.specs.Exchange.{Exchanges, Answer, requests_of, answers_of, first_refusal}
 use Rattle.event_loop.specs.PollerCall.{PollerCall, Controls, Waits}
 use Rattle.event_loop.specs.Requests.{AreMadeThrough}
-use Rattle.event_loop.specs.declared.events.EventOps.{EventOps}
+use Rattle.event_loop.specs.declared.ops.EventOps.{EventOps}
 use Rattle.event_loop.specs.declared.events.Request.{Request}
 use Rattle.event_loop.proofs.ExchangeLemmas.{none_made, exchanges_join}
 

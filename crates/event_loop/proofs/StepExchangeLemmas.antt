@@ -11,7 +11,7 @@ use Rattle.event_loop.specs.declared.events.Request.{Request}
 use Rattle.event_loop.specs.declared.boxed_subscriber.StepSubscriber.{Ghosts}
 use Rattle.event_loop.specs.declared.boxed_subscriber.StepInput.{StepInput}
 use Rattle.event_loop.specs.declared.boxed_subscriber.StepInput.TheVariants.{Answer}
-use Rattle.event_loop.specs.declared.events.EventOps.{EventOps}
+use Rattle.event_loop.specs.declared.ops.EventOps.{EventOps}
 use Rattle.event_loop.proofs.ExchangeLemmas.{exchanges_join, none_made}
 
 reaches_more : {V : Type 0} (requests : V → StepInput → Option Request → V → Type 0) (v : V) (first : StepInput) (exchanges : Exchanges) (request : Request) (m : V) (answer : RequestAnswer) (wanted : Option Request) (w : V)

@@ -10,7 +10,7 @@ use Rattle.event_loop.specs.Dispatch.{Position}
 use Rattle.event_loop.specs.Iteration.{IsAfterWait, calls_of_positions}
 use Rattle.event_loop.specs.LoopState.{LoopState, IsDispatchedAfter, IsLoopIteration}
 use Rattle.event_loop.specs.Subscribers.{IsBatch, count_of}
-use Rattle.event_loop.specs.declared.subscribers.Batch.{Batch}
+use Rattle.event_loop.specs.declared.registry.Batch.{Batch}
 use Rattle.event_loop.specs.declared.error.Error.{Error}
 
 module _ {S J R : Type 0} (begins : S → Exchanges → S → Type 0) (serves : S → Event → Exchanges → S → Type 0) (may : J → List (Step S) → R → Type 0) where

@@ -6,7 +6,7 @@ use Rattle.event_loop.specs.RegistrationState.{registrations_of, cancel_removed}
 use Rattle.event_loop.specs.PollerCall.{Controls, Waits, Leads}
 use Rattle.event_loop.specs.LoopState.{LoopState}
 use Rattle.event_loop.specs.declared.epoll.EpollWrapper.{EpollWrapper}
-use Rattle.event_loop.specs.declared.events.EventOps.{EventOps}
+use Rattle.event_loop.specs.declared.ops.EventOps.{EventOps}
 
 module _ {P : Type 0} (controls : Controls P) (waits : Waits P) where
   -- the exchanges of id i take the registrations and the poller from the state before to the state after

@@ -15,8 +15,8 @@ use Rattle.event_loop.specs.LoopState.{LoopState, IsDispatchedAfter, new_loop}
 use Rattle.event_loop.specs.declared.error.Error.{Error}
 use Rattle.event_loop.specs.declared.error.Error.TheVariants.{OutOfMemory, Epoll}
 use Rattle.vmm_sys.specs.declared.epoll.ControlOperation.TheVariants as operation
-use Rattle.event_loop.specs.declared.subscribers.Batch.{Batch}
-use Rattle.event_loop.specs.declared.subscribers.Registry.{Registry}
+use Rattle.event_loop.specs.declared.registry.Batch.{Batch}
+use Rattle.event_loop.specs.declared.registry.Registry.{Registry}
 
 -- with nothing pending
 abbrev pub idle : {S : Type 0} → model.Registry S → model.Registry S

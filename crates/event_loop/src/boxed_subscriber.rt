@@ -7,8 +7,9 @@ ghost use Rattle.event_loop.specs.Requests.{AreMadeThrough};
 ghost use Rattle.event_loop.specs.StepExchanges.{HoldsNow, Reaches, LeavesFewer};
 ghost use Rattle.event_loop.specs.declared.boxed_subscriber.StepInput.TheVariants as input;
 
-use crate::Result;
-use crate::events::{EventOps, Events, Request};
+use crate::error::Result;
+use crate::events::{Events, Request};
+use crate::ops::EventOps;
 use crate::poller::EventPoller;
 use crate::subscribers::MutEventSubscriber;
 

@@ -12,9 +12,9 @@ ghost use Rattle.event_loop.specs.RegistrationState.{registrations_of, cancel_on
 ghost use Rattle.event_loop.specs.Releasing.{AreWithout, HasReleased};
 ghost use Rattle.vmm_sys.specs.declared.errno.Errno.{Errno};
 
+use crate::error::{Error, Result};
 use crate::events::Events;
 use crate::poller::EventPoller;
-use crate::{Error, Result};
 use dispatch_tables::cancelled::{cancelled_at, enter};
 use dispatch_tables::descriptor::fd_of;
 use dispatch_tables::dispatch_order::{ClassedEntry, order_by_class};

@@ -6,11 +6,12 @@ ghost use Rattle.event_loop.specs.LoopState.{IsLoopIteration, new_loop, no_descr
 ghost use Rattle.event_loop.specs.Requests.{StandsFor, with_ops};
 ghost use Rattle.event_loop.specs.EventLoop.{seen_of, IsCapacityRefused};
 
-use crate::events::EventOps;
+use crate::error::{Error, Result};
+use crate::ops::EventOps;
 use crate::poller::{BoxedPoller, EventPoller};
+use crate::registry::Registry;
 use crate::subscriber_ops::SubscriberOps;
-use crate::subscribers::{MutEventSubscriber, Registry, SubscriberId};
-use crate::{Error, Result};
+use crate::subscribers::{MutEventSubscriber, SubscriberId};
 use std::alloc::Global;
 
 /// The largest capacity of a loop: 2147483647 bytes in entries of 12 bytes each, rounded down. A loop of it asks for

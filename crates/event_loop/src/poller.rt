@@ -5,7 +5,7 @@ ghost use Rattle.event_loop.specs.ReadyList.{report_of};
 ghost use Rattle.event_loop.specs.PollerRelations as boxed;
 ghost use Rattle.event_loop.specs.PollerRelations.{packed, WaitsBy};
 
-use crate::Events;
+use crate::events::Events;
 use vmm_sys::epoll::{ControlOperation, EpollEvent};
 use vmm_sys::errno::Errno;
 use vmm_sys::poller::Poller;

@@ -4,14 +4,13 @@ ghost use Rattle.std.specs.Prelude.{◌≡◌, IfErr, IfOk};
 ghost use Rattle.std.specs.Borrow.{sem, LendsSoOk};
 ghost use Rattle.event_loop.specs.Registry.{Step, HasId, LacksId};
 ghost use Rattle.event_loop.specs.Requests.{StandsFor, with_ops};
-ghost use Rattle.event_loop.specs.contracts.events.EventOps.{the_row as ops_row};
+ghost use Rattle.event_loop.specs.contracts.ops.EventOps.{the_row as ops_row};
 ghost use Rattle.event_loop.specs.LoopState.{HasStepped, IsJoin, IsLeave, with_value};
-ghost use Rattle.event_loop.specs.Subscribers.{loop_state};
 
-use crate::events::EventOps;
+use crate::error::{Error, Result};
+use crate::ops::EventOps;
 use crate::poller::EventPoller;
-use crate::subscribers::{MutEventSubscriber, Registry, SubscriberId};
-use crate::{Error, Result};
+use crate::subscribers::{MutEventSubscriber, SubscriberId};
 
 /// What is done to subscribers from outside a batch.
 ///
@@ -75,48 +74,4 @@ pub trait SubscriberOps {
         ensures found { IfOk result (λ ops. StandsFor ops.now id (seen self.old)) }
         ensures held { IfOk result (λ ops. (value : Self.Subscriber) × HasId (seen self.old).registry id value) }
         ensures lost { IfErr result (λ e. (e ≡ Error.InvalidId) × LacksId (seen self.old).registry id) };
-}
-
-impl<S: MutEventSubscriber + Drop, P: EventPoller> SubscriberOps for Registry<S, P> {
-    type Subscriber = S;
-
-    type Poller = P;
-
-    ghost seen = { λ r. loop_state r };
-
-    fn add_subscriber(&mut self, subscriber: S) -> Result<SubscriberId> {
-        self.join(subscriber)
-    }
-
-    fn next_id(&self) -> SubscriberId {
-        SubscriberId { number: self.next }
-    }
-
-    fn remove_subscriber(&mut self, id: SubscriberId) -> Result<S> {
-        self.leave(id.number())
-    }
-
-    fn subscriber(&self, id: SubscriberId) -> Result<&S> {
-        match self.subscribers.get(id.number()) {
-            Some(subscriber) => Ok(subscriber),
-            None => Err(Error::InvalidId),
-        }
-    }
-
-    fn subscriber_mut(&mut self, id: SubscriberId) -> Result<&mut S> {
-        match self.subscribers.get_mut(id.number()) {
-            Some(subscriber) => Ok(subscriber),
-            None => Err(Error::InvalidId),
-        }
-    }
-
-    fn event_ops(&mut self, id: SubscriberId) -> Result<&mut EventOps<P>> {
-        let id = id.number();
-        if let Some(place) = self.subscribers.place_of(id) {
-            self.ops.id = id;
-            self.ops.place = place;
-            return Ok(&mut self.ops);
-        }
-        Err(Error::InvalidId)
-    }
 }

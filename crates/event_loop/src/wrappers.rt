@@ -4,7 +4,8 @@ ghost use Rattle.std.specs.Prelude.{◌≡◌, [], ◌⊎◌};
 ghost use Rattle.std.specs.Arc.{arc_value};
 ghost use Rattle.event_loop.specs.EitherSubscriber.{either_begins, either_serves};
 
-use crate::events::{EventOps, Events};
+use crate::events::Events;
+use crate::ops::EventOps;
 use crate::poller::EventPoller;
 use crate::subscribers::{EventSubscriber, MutEventSubscriber};
 use std::cell::RefCell;

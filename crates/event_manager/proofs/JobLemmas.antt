@@ -12,7 +12,7 @@ use Rattle.event_loop.specs.Iteration.{IsAfterWait, is_reported, calls_of_steps,
 use Rattle.event_loop.specs.LoopState.{LoopState, HasStepped, IsDispatchedAfter, IsLoopIteration}
 use Rattle.event_manager.specs.JobRuns.{HasRun, JobsAreRun}
 use Rattle.event_loop.specs.Subscribers.{IsBatch, Notices}
-use Rattle.event_loop.specs.declared.subscribers.Batch.{Batch}
+use Rattle.event_loop.specs.declared.registry.Batch.{Batch}
 use Rattle.event_loop.proofs.ExchangeLemmas.{leads_join}
 
 -- a step of the registry is the manager's, whatever it has taken

@@ -6,7 +6,7 @@ use Rattle.event_loop.specs.RegistrationState.{registrations_of}
 use Rattle.event_loop.specs.Registry.{HasId, Requested}
 use Rattle.event_loop.specs.LoopState.{LoopState, HasStepped}
 use Rattle.event_loop.specs.Requests.{AreMadeThrough, StandsFor, with_ops}
-use Rattle.event_loop.specs.declared.events.EventOps.{EventOps}
+use Rattle.event_loop.specs.declared.ops.EventOps.{EventOps}
 use Rattle.event_loop.proofs.ExchangeLemmas.{idle_fits}
 
 module _ {S P : Type 0} {begins : S → Exchanges → S → Type 0} {controls : Controls P} {waits : Waits P} where

@@ -4,11 +4,10 @@ ghost use Rattle.std.specs.Prelude.{◌≡◌, Some, unsigned_abs};
 ghost use Rattle.event_loop.specs.CounterEvents.{new_counter, one_more, counter_text, event_on};
 ghost use Rattle.event_loop.specs.declared.utilities.subscribers.counter.Counter.{Counter};
 
-use crate::EventSet;
 use crate::events::Events;
 use std::fmt;
 use std::sync::Wait;
-use vmm_sys::epoll::{AsRawFd, RawFd};
+use vmm_sys::epoll::{AsRawFd, EventSet, RawFd};
 use vmm_sys::eventfd::EventFd;
 
 /// An `EventFd`, and how many events it had. It prints as `(event_fd = F, counter = N)`, F being its descriptor.

@@ -7,8 +7,9 @@ ghost use Rattle.event_loop.specs.CounterSubscribers.{counter_begins, counter_se
 use super::counter::Counter;
 use super::event_kind::EventKind;
 use super::observations::Observations;
-use crate::Error;
-use crate::events::{EventOps, Events};
+use crate::error::Error;
+use crate::events::Events;
+use crate::ops::EventOps;
 use crate::poller::EventPoller;
 use crate::subscribers::MutEventSubscriber;
 use std::ops::{Deref, DerefMut};

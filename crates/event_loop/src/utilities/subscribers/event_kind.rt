@@ -3,8 +3,8 @@
 ghost use Rattle.std.specs.Prelude.{◌≡◌};
 ghost use Rattle.event_loop.specs.CounterEvents.{kind_of};
 
-use crate::EventSet;
 use crate::events::Events;
+use vmm_sys::epoll::EventSet;
 
 /// What an event is, by exactly its set.
 #[derive(Clone, Copy, PartialEq, Eq, Debug)]

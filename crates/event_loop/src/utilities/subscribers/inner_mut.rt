@@ -4,13 +4,14 @@ ghost use Rattle.std.specs.Prelude.{◌≡◌};
 ghost use Rattle.event_loop.specs.SharedCounterSubscribers.{shared_begins, shared_serves};
 
 use super::event_kind::EventKind;
-use crate::events::{EventOps, Events};
+use crate::error::{Error, Result};
+use crate::events::Events;
+use crate::ops::EventOps;
 use crate::poller::EventPoller;
 use crate::subscribers::EventSubscriber;
-use crate::{Error, EventSet, Result};
 use std::sync::atomic::{AtomicBool, AtomicU64, Ordering};
 use std::sync::{OnceLock, Wait};
-use vmm_sys::epoll::AsRawFd;
+use vmm_sys::epoll::{AsRawFd, EventSet};
 use vmm_sys::eventfd::EventFd;
 
 /// Counts the `IN` events of one `EventFd` in atomics, so that others may look at it while a registry holds it, as in an

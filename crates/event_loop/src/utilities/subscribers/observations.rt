@@ -3,7 +3,7 @@
 ghost use Rattle.std.specs.Prelude.{◌≡◌};
 ghost use Rattle.event_loop.specs.CounterEvents.{nothing_observed, with_error, with_spurious, with_hang_up, with_fault};
 
-use crate::{Error, Result};
+use crate::error::{Error, Result};
 
 /// What was observed beside the events that count.
 #[derive(Clone, Copy)]

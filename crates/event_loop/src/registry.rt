@@ -1,0 +1,251 @@
+//! The registry: the subscribers by id, over their registrations.
+
+ghost use Rattle.std.specs.Prelude.{◌≡◌, [], map, IfErr, IfOk, MatchOption};
+ghost use Rattle.std.specs.FinMap as finite;
+ghost use Rattle.event_loop.specs.Registry.{Step};
+ghost use Rattle.event_loop.specs.RegistrationState.{all_pending};
+ghost use Rattle.event_loop.specs.LoopState.{HasStepped, IsJoin, IsLeave, new_loop, no_descriptor};
+ghost use Rattle.event_loop.specs.Subscribers.{TakesPosition, IsDispatched, IsBatch, IsNew, loop_state};
+
+use crate::epoll::{EpollWrapper, Registrations};
+use crate::error::{Error, Result};
+use crate::events::Events;
+use crate::ops::EventOps;
+use crate::poller::{BoxedPoller, EventPoller};
+use crate::subscriber_ops::SubscriberOps;
+use crate::subscribers::{MutEventSubscriber, SubscriberId};
+use dispatch_tables::places::SubscriberPlaces;
+use std::alloc::Global;
+use vmm_sys::epoll::ControlOperation;
+use vmm_sys::errno::Errno;
+
+/// A number that no descriptor has.
+const NO_DESCRIPTOR: u32 = 2147483648;
+
+/// How many events a wait reported, and whether one of them was on the endpoint's descriptor.
+#[derive(Clone, Copy)]
+pub struct Batch {
+    /// How many events were reported.
+    pub count: usize,
+    /// Whether one of them was on the endpoint's descriptor.
+    pub endpoint_ready: bool,
+}
+
+/// The subscribers by id, and their registrations.
+#[derive(Drop)]
+pub struct Registry<S, P = BoxedPoller> {
+    pub(crate) subscribers: SubscriberPlaces<S>,
+    pub(crate) next: u64,
+    pub(crate) ops: EventOps<P>,
+}
+
+impl<S: MutEventSubscriber, P: EventPoller> Registry<S, P> {
+    /// No subscriber, with room for a batch of `capacity` events. The poller is asked to add the descriptor of `endpoint`,
+    /// which no subscriber can own: its events are only told of.
+    ///
+    /// Refused, in this order, and the poller doesn't come back: `OutOfMemory`; `Epoll` with the number that the poller
+    /// answers.
+    pub fn new(alloc: Global, poller: P, endpoint: Events, capacity: usize) -> Result<Self>
+    where
+        P: Drop,
+        ensures { IsNew P.controls poller endpoint capacity result }
+    {
+        let registrations = Registrations::new(alloc, endpoint.number(), capacity)?;
+        let mut epoll = EpollWrapper {
+            registrations,
+            poller,
+        };
+        match epoll.ctl(ControlOperation::Add, endpoint) {
+            Ok(()) => Ok(Registry::over(alloc, epoll)),
+            Err(errno) => Err(Error::Epoll(errno)),
+        }
+    }
+
+    /// No subscriber and no endpoint, with room for a batch of `capacity` events. The poller is asked for nothing.
+    pub(crate) fn without_endpoint(alloc: Global, poller: P, capacity: usize) -> Result<Self>
+    where
+        P: Drop,
+        ensures made { IfOk result (λ made. loop_state made ≡ new_loop no_descriptor poller capacity) }
+        ensures refusals { IfErr result (λ error. error ≡ Error.OutOfMemory) }
+    {
+        let registrations = Registrations::new(alloc, NO_DESCRIPTOR, capacity)?;
+        let epoll = EpollWrapper {
+            registrations,
+            poller,
+        };
+        Ok(Registry::over(alloc, epoll))
+    }
+
+    /// No subscriber, over these registrations and this poller.
+    fn over(alloc: Global, epoll: EpollWrapper<P>) -> Self
+        ensures { (result.subscribers ≡ finite.empty) × (result.next ≡ 1) × (result.ops.epoll ≡ epoll) }
+    {
+        Registry {
+            subscribers: SubscriberPlaces::new(alloc),
+            next: 1,
+            ops: EventOps {
+                epoll,
+                id: 0,
+                place: 0,
+            },
+        }
+    }
+
+    /// Takes one position of the batch: hands its event to the owner of its descriptor, where there is one and the
+    /// event isn't cancelled. Answers whether the event was on the endpoint's descriptor; `None` where no position is
+    /// left.
+    fn dispatch_next(&mut self) -> Option<bool>
+        ensures { MatchOption result
+            ((self.new ≡ self.old) × (self.old.ops.epoll.registrations.ready ≡ []))
+            (λ is_endpoint. TakesPosition S.serves P.controls P.waits self.old is_endpoint self.new) }
+    {
+        let Some(ready_entry) = self.ops.epoll.registrations.next_ready() else {
+            return None;
+        };
+        if ready_entry.cancelled {
+            return Some(ready_entry.is_endpoint);
+        }
+        let Some(owner) = self.ops.epoll.registrations.owner(&ready_entry.entry) else {
+            return Some(ready_entry.is_endpoint);
+        };
+        let Some(subscriber) = self.subscribers.get_mut_at(owner.place, owner.id) else {
+            return Some(ready_entry.is_endpoint);
+        };
+        self.ops.id = owner.id;
+        self.ops.place = owner.place;
+        subscriber.process(Events::of_entry(&ready_entry.entry), &mut self.ops);
+        Some(ready_entry.is_endpoint)
+    }
+
+    /// Dispatches the batch. Answers whether an event of it was on the endpoint's descriptor.
+    fn dispatch(&mut self) -> bool
+        requires { self.old.ops.epoll.registrations.ready ≡ all_pending (map (λ p. p.0) self.old.ops.epoll.registrations.ready) }
+        ensures { IsDispatched S.serves P.controls P.waits self.old self.new (map (λ p. p.0) self.old.ops.epoll.registrations.ready) result }
+    {
+        let mut endpoint_ready = false;
+        while let Some(is_endpoint) = self.dispatch_next() {
+            endpoint_ready = endpoint_ready | is_endpoint;
+        }
+        endpoint_ready
+    }
+
+    /// Waits once, for at most `ms` milliseconds (negative: without a limit), and dispatches what is reported, by priority
+    /// and then in the order of the report.
+    ///
+    /// An interrupted wait (`EINTR`) has no event; one that is refused with another number is `Epoll` with it. Then nobody
+    /// is called and nothing changes but the poller. Takes no memory.
+    pub fn run_with_timeout(&mut self, ms: i32) -> Result<Batch>
+        ensures { IsBatch S.serves P.controls P.waits (loop_state self.old) ms result (loop_state self.new) }
+    {
+        match self
+            .ops
+            .epoll
+            .registrations
+            .wait(&mut self.ops.epoll.poller, ms)
+        {
+            Ok(count) => {
+                let endpoint_ready = self.dispatch();
+                Ok(Batch {
+                    count,
+                    endpoint_ready,
+                })
+            }
+            Err(e) => {
+                if e == Errno::EINTR {
+                    return Ok(Batch {
+                        count: 0,
+                        endpoint_ready: false,
+                    });
+                }
+                Err(Error::Epoll(e))
+            }
+        }
+    }
+
+    /// The poller, to read what it keeps.
+    pub fn poller(&self) -> &P
+        ensures { result.now ≡ (loop_state self.now).poller }
+    {
+        &self.ops.epoll.poller
+    }
+
+    /// Takes a subscriber in under the next id.
+    pub(crate) fn join(&mut self, subscriber: S) -> Result<SubscriberId>
+    where
+        S: Drop,
+        ensures { (step : Step S) × IsJoin subscriber result step
+            × HasStepped S.begins P.controls P.waits (loop_state self.old) step (loop_state self.new) }
+    {
+        if self.next == u64::MAX {
+            return Err(Error::IdsUsedUp);
+        }
+        let id = self.next;
+        let place = self.subscribers.insert(id, subscriber)?;
+        let Some(held) = self.subscribers.get_mut_at(place, id) else {
+            unreachable!()
+        };
+        self.ops.id = id;
+        self.ops.place = place;
+        held.init(&mut self.ops);
+        self.next += 1;
+        Ok(SubscriberId { number: id })
+    }
+
+    /// Lets the subscriber of the id go, with all its descriptors. Takes no memory.
+    pub(crate) fn leave(&mut self, id: u64) -> Result<S>
+        ensures { (step : Step S) × IsLeave id result step
+            × HasStepped S.begins P.controls P.waits (loop_state self.old) step (loop_state self.new) }
+    {
+        match self.subscribers.remove(id) {
+            Some(subscriber) => {
+                self.ops.epoll.release(id);
+                Ok(subscriber)
+            }
+            None => Err(Error::InvalidId),
+        }
+    }
+}
+
+impl<S: MutEventSubscriber + Drop, P: EventPoller> SubscriberOps for Registry<S, P> {
+    type Subscriber = S;
+
+    type Poller = P;
+
+    ghost seen = { λ r. loop_state r };
+
+    fn add_subscriber(&mut self, subscriber: S) -> Result<SubscriberId> {
+        self.join(subscriber)
+    }
+
+    fn next_id(&self) -> SubscriberId {
+        SubscriberId { number: self.next }
+    }
+
+    fn remove_subscriber(&mut self, id: SubscriberId) -> Result<S> {
+        self.leave(id.number())
+    }
+
+    fn subscriber(&self, id: SubscriberId) -> Result<&S> {
+        match self.subscribers.get(id.number()) {
+            Some(subscriber) => Ok(subscriber),
+            None => Err(Error::InvalidId),
+        }
+    }
+
+    fn subscriber_mut(&mut self, id: SubscriberId) -> Result<&mut S> {
+        match self.subscribers.get_mut(id.number()) {
+            Some(subscriber) => Ok(subscriber),
+            None => Err(Error::InvalidId),
+        }
+    }
+
+    fn event_ops(&mut self, id: SubscriberId) -> Result<&mut EventOps<P>> {
+        let id = id.number();
+        if let Some(place) = self.subscribers.place_of(id) {
+            self.ops.id = id;
+            self.ops.place = place;
+            return Ok(&mut self.ops);
+        }
+        Err(Error::InvalidId)
+    }
+}
