@@ -1,5 +1,6 @@
 pub mod Buffer
 pub mod Consistent
+pub mod OwnersBelow
 pub mod DispatchSoFar
 pub mod ExchangeLemmas
 pub mod Positions

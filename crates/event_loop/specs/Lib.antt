@@ -19,6 +19,7 @@ pub mod PollerCall
 pub mod ReadyList
 pub mod RegistrationState
 pub mod Registrations
+pub mod RegistrationParts
 pub mod Registry
 pub mod Releasing
 pub mod Requests

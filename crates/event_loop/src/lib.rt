@@ -5,6 +5,7 @@
 //! of a manager gets.
 #![tactic(auto)]
 
+mod batch;
 mod boxed_subscriber;
 mod epoll;
 mod error;
@@ -12,6 +13,7 @@ mod events;
 mod loop_without_jobs;
 mod ops;
 mod poller;
+mod registrations;
 mod registry;
 mod subscriber_ops;
 mod subscribers;

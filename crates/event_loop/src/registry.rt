@@ -7,7 +7,7 @@ ghost use Rattle.event_loop.specs.RegistrationState.{all_pending};
 ghost use Rattle.event_loop.specs.LoopState.{HasStepped, IsJoin, IsLeave, new_loop, no_descriptor};
 ghost use Rattle.event_loop.specs.Subscribers.{TakesPosition, IsDispatched, IsBatch, IsNew, loop_state};
 
-use crate::epoll::{EpollWrapper, Registrations};
+use crate::epoll::{EpollWrapper, RegistrationState};
 use crate::error::{Error, Result};
 use crate::events::Events;
 use crate::ops::EventOps;
@@ -50,7 +50,7 @@ impl<S: MutEventSubscriber, P: EventPoller> Registry<S, P> {
         P: Drop,
         ensures { IsNew P.controls poller endpoint capacity result }
     {
-        let registrations = Registrations::new(alloc, endpoint.number(), capacity)?;
+        let registrations = RegistrationState::new(alloc, endpoint.number(), capacity)?;
         let mut epoll = EpollWrapper {
             registrations,
             poller,
@@ -68,7 +68,7 @@ impl<S: MutEventSubscriber, P: EventPoller> Registry<S, P> {
         ensures made { IfOk result (λ made. loop_state made ≡ new_loop no_descriptor poller capacity) }
         ensures refusals { IfErr result (λ error. error ≡ Error.OutOfMemory) }
     {
-        let registrations = Registrations::new(alloc, NO_DESCRIPTOR, capacity)?;
+        let registrations = RegistrationState::new(alloc, NO_DESCRIPTOR, capacity)?;
         let epoll = EpollWrapper {
             registrations,
             poller,

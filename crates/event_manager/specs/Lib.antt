@@ -16,6 +16,7 @@ pub use Rattle.event_loop.specs.LoopState
 pub use Rattle.event_loop.specs.Subscribers
 pub use Rattle.event_loop.specs.PollerCall
 pub use Rattle.event_loop.specs.ReadyList
+pub use Rattle.event_loop.specs.RegistrationParts
 pub use Rattle.event_loop.specs.RegistrationState
 pub use Rattle.event_loop.specs.Registrations
 pub use Rattle.event_loop.specs.Registry

@@ -1,7 +1,7 @@
 use Rattle.std.proofs.Common.{sym, subst, ◌∙◌, ◌-◌}
 use Rattle.dispatch_tables.specs.Owners.{ownership_of, IsOwnerAt, AreCounted}
 use Rattle.dispatch_tables.proofs.RaisedOwners.{owned_some, raised_some, lost_raised, lost_lowest, lost_none}
-use Rattle.event_loop.proofs.epoll.disown.Goals as goal
+use Rattle.event_loop.proofs.registrations.disown.Goals as goal
 
 pub overflow_sub-owned : goal.overflow_sub-owned
 overflow_sub-owned c =

@@ -1,7 +1,7 @@
 use Rattle.std.proofs.Common.{◌≤◌, take}
 use Rattle.dispatch_tables.specs.Owners.{AreCounted}
 use Rattle.event_loop.specs.Releasing.{AreWithout}
-use Rattle.event_loop.proofs.epoll.disown_all.Given as goal
+use Rattle.event_loop.proofs.registrations.disown_all.Given as goal
 
 abbrev pub invariant-loop-fd : goal.invariant-loop-fd
 invariant-loop-fd l = record {

@@ -3,14 +3,14 @@ use Rattle.std.proofs.lemmas.Int.{to_z-of_z}
 use Rattle.dispatch_tables.specs.Event.{event_of_entry}
 use Rattle.event_loop.specs.ReadyList.{ready_of}
 use Rattle.event_loop.proofs.Buffer.{ready_more}
-use Rattle.event_loop.proofs.epoll.Registrations.next_ready.Goals as goal
+use Rattle.event_loop.proofs.batch.ReadyList.next_ready.Goals as goal
 
-pub returns-else-self-2 : goal.returns-else-self-2
-returns-else-self-2 c =
+pub returns-else-self-2-clause-taken : goal.returns-else-self-2-clause-taken
+returns-else-self-2-clause-taken c =
     let b = c.self.inside in
     let inv = c.self.invariant in
     let e = c.index.result.now in
     let more = ready_more b.buffer.items b.cancelled.items b.at b.count e c.if-self.true (omega (arith, inv.1, b.buffer.ok.0)) c.index.ensures in
     let fits : SFits w32 c.fd.result = search rules in
     let answer = rw (to_z-of_z w32 c.fd.result fits, c.fd.ensures, c.deref.ensures.value) at c.cancelled_at.ensures.answer in
-    rw (← c.self.view_is) (_, more ∙ ap (λ m. (event_of_entry e, m) ∷ ready_of b.buffer.items b.cancelled.items (b.at + 1) b.count) (sym answer), refl, ap (λ fd. fd == b.endpoint) c.fd_of.ensures)
+    rw (← c.self.view_is) (_, more ∙ ap (λ m. (event_of_entry e, m) ∷ ready_of b.buffer.items b.cancelled.items (b.at + 1) b.count) (sym answer), refl, ap (λ fd. fd == c.args.endpoint) c.fd_of.ensures)

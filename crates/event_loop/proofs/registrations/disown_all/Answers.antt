@@ -1,7 +1,7 @@
 use Rattle.std.proofs.Common.{subst, arith, take, ◌+◌, sym}
 use Rattle.event_loop.specs.Releasing.{AreWithout}
 use Rattle.event_loop.proofs.Watching.{without_more}
-use Rattle.event_loop.proofs.epoll.disown_all.Goals as goal
+use Rattle.event_loop.proofs.registrations.disown_all.Goals as goal
 
 pub loop-fd-preserved : goal.loop-fd-preserved
 loop-fd-preserved c =

@@ -1,0 +1,202 @@
+//! Who owns which descriptor.
+
+ghost use Rattle.std.specs.Prelude.{◌≡◌, ◌≤◌, ◌<◌, ◌+◌, ◌^◌, length, take, vec_capacity, OnOk, IfErr, IfSome, IsTrue, ◌↔◌, All};
+ghost use Rattle.std.specs.Prelude as prelude;
+ghost use Rattle.std.specs.FinMap as map;
+ghost use Rattle.dispatch_tables.specs.ClassOrder.{IsOrdered};
+ghost use Rattle.dispatch_tables.specs.Event.{event_of_entry};
+ghost use Rattle.dispatch_tables.specs.Ownership.{class_in};
+ghost use Rattle.dispatch_tables.specs.Owners.{ownership_of, IsOwnerAt, AreCounted};
+ghost use Rattle.event_loop.specs.Exchange.{IsVacant};
+ghost use Rattle.event_loop.specs.RegistrationParts.{between_batches};
+ghost use Rattle.event_loop.specs.Registrations.{Owns, IsFree};
+ghost use Rattle.event_loop.specs.Registry.{AreOwnedBy, without_owner};
+ghost use Rattle.event_loop.specs.Releasing.{AreWithout};
+
+use crate::error::{Error, Result};
+use crate::events::Events;
+use dispatch_tables::descriptor::fd_of;
+use dispatch_tables::dispatch_order::{ClassedEntry, order_by_class};
+use dispatch_tables::owners::{Owner, Owners};
+use dispatch_tables::watch_lists::WatchLists;
+use std::alloc::Global;
+use std::marker::Model;
+use vmm_sys::epoll::EpollEvent;
+use vmm_sys::errno::Errno;
+
+/// Takes out the owner of one descriptor, if it has one, and counts the owned and the raised ones.
+fn disown(owners: &mut Owners, owned: &mut usize, raised: &mut usize, fd: u32)
+    requires { AreCounted owners.old owned.old raised.old }
+    ensures disowned { owners.new ≡ map.remove owners.old fd }
+    ensures counted { AreCounted owners.new owned.new raised.new }
+    ensures fewer { owned.new ≤ owned.old }
+{
+    if let Some(owner) = owners.remove(fd) {
+        *owned -= 1;
+        if owner.priority.is_raised() {
+            *raised -= 1;
+        }
+    }
+}
+
+/// Takes out the owners of the descriptors, and counts the owned and the raised ones.
+fn disown_all(owners: &mut Owners, owned: &mut usize, raised: &mut usize, fds: &[u32])
+    requires { AreCounted owners.old owned.old raised.old }
+    ensures disowned { AreWithout fds.now owners.old owners.new }
+    ensures counted { AreCounted owners.new owned.new raised.new }
+    ensures fewer { owned.new ≤ owned.old }
+{
+    for fd in fds {
+        disown(owners, owned, raised, *fd);
+    }
+}
+
+/// Who owns which descriptor, both ways, and the endpoint's descriptor.
+#[derive(Drop)]
+pub(crate) struct Registrations {
+    owners: Owners,
+    owned: usize,
+    raised: usize,
+    watched: WatchLists,
+    endpoint: u32,
+}
+
+impl Model for Registrations {
+    ghost use Rattle.event_loop.specs.RegistrationParts.{OwnerState, owner_state_code};
+    ghost use Rattle.event_loop.specs.Consistency.{AreConsistent};
+
+    ghost Value = { OwnerState };
+
+    ghost coded = { owner_state_code };
+
+    ghost view = { λ r. record { owners = r.owners; endpoint = r.endpoint } };
+
+    ghost invariant = { λ r. AreConsistent r.owners r.owned r.raised r.watched };
+}
+
+impl Registrations {
+    /// No registration.
+    pub(crate) fn new(alloc: Global, endpoint: u32) -> Self
+        ensures { result ≡ record { owners = map.empty; endpoint = endpoint } }
+    {
+        Registrations {
+            owners: Owners::new(alloc),
+            owned: 0,
+            raised: 0,
+            watched: WatchLists::new(alloc),
+            endpoint,
+        }
+    }
+
+    /// How many descriptors have an owner.
+    pub(crate) fn owned(&self) -> usize
+        ensures { result ≡ map.len self.now.owners }
+    {
+        self.owned
+    }
+
+    /// The endpoint's descriptor.
+    pub(crate) fn endpoint(&self) -> u32
+        ensures { result ≡ self.now.endpoint }
+    {
+        self.endpoint
+    }
+
+    /// Whether the descriptor may be added, as far as the registrations say.
+    pub(crate) fn check_vacant(&self, events: Events) -> Result<()>
+        ensures { IsVacant (between_batches self.now) events result }
+    {
+        let fd = events.number();
+        if self.owners.get(fd).is_some() {
+            return Err(Error::FdAlreadyRegistered);
+        }
+        if fd == self.endpoint {
+            return Err(Error::Epoll(Errno::EEXIST));
+        }
+        Ok(())
+    }
+
+    /// Whether the id owns the descriptor.
+    pub(crate) fn is_owner(&self, id: u64, events: Events) -> bool
+        ensures { IsTrue result ↔ Owns id (between_batches self.now) events.fd }
+    {
+        match self.owners.get(events.number()) {
+            Some(owner) => owner.id == id,
+            None => false,
+        }
+    }
+
+    /// Enters the owner of the descriptor, and the descriptor in the watch list of the owner's id. Where memory is refused,
+    /// all stays as it was.
+    pub(crate) fn register(&mut self, events: Events, owner: Owner) -> Result<()>
+        requires { IsFree (between_batches self.old) events.fd }
+        ensures ok { OnOk result (self.new ≡ record self.old { owners = map.insert self.old.owners events.fd (ownership_of owner) }) }
+        ensures err { IfErr result (λ e. (e ≡ Error.OutOfMemory) × (self.new ≡ self.old)) }
+        ensures more { map.len self.new.owners ≤ map.len self.old.owners + 1 }
+    {
+        let fd = events.number();
+        self.owners.insert(fd, owner)?;
+        match self.watched.insert(owner.id, fd) {
+            Ok(()) => {
+                self.owned += 1;
+                if owner.priority.is_raised() {
+                    self.raised += 1;
+                }
+                Ok(())
+            }
+            Err(_) => {
+                let _ = self.owners.remove(fd);
+                Err(Error::OutOfMemory)
+            }
+        }
+    }
+
+    /// Frees a descriptor of the id's. Takes no memory.
+    pub(crate) fn unregister(&mut self, events: Events, id: u64)
+        requires { Owns id (between_batches self.old) events.fd }
+        ensures freed { self.new ≡ record self.old { owners = map.remove self.old.owners events.fd } }
+        ensures fewer { map.len self.new.owners < map.len self.old.owners }
+    {
+        let fd = events.number();
+        self.watched.remove(id, fd);
+        disown(&mut self.owners, &mut self.owned, &mut self.raised, fd);
+    }
+
+    /// Frees all descriptors of the id, and answers them in ascending order. Takes no memory.
+    pub(crate) fn take_watched(&mut self, id: u64) -> Vec<u32>
+        ensures owned { AreOwnedBy id (between_batches self.old) result.items }
+        ensures are_descriptors { All (λ fd. fd < 2 ^ 31) result.items }
+        ensures freed { self.new ≡ record self.old { owners = without_owner id self.old.owners } }
+        ensures fewer { map.len self.new.owners ≤ map.len self.old.owners }
+    {
+        let fds = self.watched.take(id);
+        disown_all(&mut self.owners, &mut self.owned, &mut self.raised, &fds);
+        fds
+    }
+
+    /// The owner of the descriptor of an entry.
+    pub(crate) fn owner(&self, entry: &EpollEvent) -> Option<Owner>
+        ensures value { IsOwnerAt self.now.owners (event_of_entry entry.now).fd result }
+        ensures is_descriptor { IfSome result (λ _. (event_of_entry entry.now).fd < 2 ^ 31) }
+    {
+        self.owners.get(fd_of(entry))
+    }
+
+    /// Puts the first `count` entries of a report in the order of dispatch, by the priorities that their descriptors have
+    /// now. The list of classed entries has room for them.
+    pub(crate) fn order(
+        &self,
+        report: &mut [EpollEvent],
+        count: usize,
+        classed: &mut Vec<ClassedEntry>,
+    )
+        requires within { count ≤ length report.old }
+        requires room { count ≤ vec_capacity classed.old }
+        ensures ordered { IsOrdered (λ fd. class_in self.now.owners fd) (prelude.map event_of_entry (take count report.old)) (prelude.map event_of_entry (take count report.new)) }
+        ensures capacity { vec_capacity classed.old ≤ vec_capacity classed.new }
+    {
+        if self.raised > 0 {
+            order_by_class(&self.owners, report, count, classed);
+        }
+    }
+}
