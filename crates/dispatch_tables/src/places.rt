@@ -1,6 +1,6 @@
 //! The places of the subscribers: a delivery finds its subscriber at its place, without a search.
 
-ghost use Rattle.std.specs.Prelude.{◌≡◌, ◌↔◌, IsTrue, IfNone, IfSome, IfOk, OnSome, OnOk, OnErr, MatchOption, Some, None, is_some, IsSome, nat_eq};
+ghost use Rattle.std.specs.Prelude.{◌≡◌, ◌↔◌, IsTrue, IfNone, IfSome, IfOk, OnSome, OnOk, OnErr, MatchOption, Some, None, is_some, IsSome, nat_eq, option_map};
 ghost use Rattle.std.specs.Option.{option_copied, option_copied_mut};
 ghost use Rattle.std.specs.Borrow.{Lends, LendsIf, sem};
 ghost use Rattle.std.specs.FinMap as map;
@@ -180,9 +180,9 @@ impl<S> SubscriberPlaces<S> {
         Ok(place)
     }
 
-    /// Takes the subscriber of the id out, and leaves its place to one that comes later. Takes no memory.
-    pub fn remove(&mut self, id: u64) -> Option<S>
-        ensures value { result ≡ map.get self.old id }
+    /// Takes the subscriber of the id out, and leaves its place to one that comes later; answers both. Takes no memory.
+    pub fn remove(&mut self, id: u64) -> Option<(usize, S)>
+        ensures value { option_map (λ left. left.1) result ≡ map.get self.old id }
         ensures removed { OnSome result (self.new ≡ map.remove self.old id) }
         ensures absent { IfNone result (self.new ≡ self.old) }
     {
@@ -192,10 +192,15 @@ impl<S> SubscriberPlaces<S> {
         match mem::replace(&mut self.places[place], Place::Vacant(self.first_vacant)) {
             Place::Held(_, subscriber) => {
                 self.first_vacant = Some(place);
-                Some(subscriber)
+                Some((place, subscriber))
             }
             Place::Vacant(_) => unreachable!(),
         }
+    }
+
+    /// The place that the next newcomer gets.
+    pub fn next_place(&self) -> usize {
+        self.first_vacant.unwrap_or(self.places.len())
     }
 
     /// The place of the id.

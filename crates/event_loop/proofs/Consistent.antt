@@ -7,7 +7,7 @@ use Rattle.event_loop.specs.Registry.{is_id}
 use Rattle.event_loop.specs.Releasing.{AreWithout}
 use Rattle.dispatch_tables.specs.Ownership.{Ownership, OwnerMap, owner_id, owner_of}
 use Rattle.dispatch_tables.specs.Owners.{AreCounted}
-use Rattle.dispatch_tables.specs.WatchLists.{watch_list, times_in, AreSorted, HasOneMore, HasList, HasSameLists}
+use Rattle.dispatch_tables.specs.WatchLists.{times_in, times_watched, AreDistinct, HasOneMore, HasNone}
 use Rattle.event_loop.specs.ReadyList.{AreDescriptors}
 use Rattle.dispatch_tables.specs.declared.watch_lists.WatchLists.{WatchLists}
 use Rattle.dispatch_tables.proofs.Counting.{held_one, one_fewer}
@@ -17,34 +17,31 @@ use Rattle.dispatch_tables.proofs.RaisedOwners.{none_counted}
 use Rattle.event_loop.proofs.Watching.{watched_pushed, watched_removed, watched_same, watched_taken, descriptors_pushed, descriptors_removed, descriptors_taken}
 
 -- no registration
-pub consistent_new : (lists : WatchLists) → ((i : ℕ) → watch_list lists i ≡ []) → AreConsistent empty 0 0 lists
-consistent_new lists none = record {
+pub consistent_new : (lists : WatchLists) → ((i fd : ℕ) → times_watched lists i fd ≡ 0) → AreDistinct lists → AreConsistent empty 0 0 lists
+consistent_new lists none distinct = record {
   are_descriptors = λ q some. absurd (false≢true (subst (λ (o : Option Ownership). IsSome o) (get-empty nat_cmp q) some));
   counted = none_counted;
-  are_watched = λ i fd. ap (λ l. times_in l fd) (none i) ∙ ap (λ o. cond (is_id i (owner_id o)) 1 0) (sym (get-empty nat_cmp fd));
-  sorted = λ i. subst (λ l. (j k d : ℕ) → j ≤ k → k < length l → get_or l j d ≤ get_or l k d) (sym (none i)) (λ j k d l below. absurd (omega (arith, below)));
+  are_watched = λ i fd. none i fd ∙ ap (λ o. cond (is_id i (owner_id o)) 1 0) (sym (get-empty nat_cmp fd));
+  distinct = distinct;
 }
 
 module _ (owner owners : OwnerMap) (owned raised : ℕ) (watched lists : WatchLists) (holds : AreConsistent owner owned raised watched) where
   -- a free descriptor gets an owner
-  pub consistent_registered : (fd : ℕ) (one : Ownership) (n m : ℕ) → get owner fd ≡ None → fd < 2 ^ 31 → owners ≡ insert owner fd one → AreCounted (insert owner fd one) n m → AreSorted lists → HasOneMore watched one.id fd lists → AreConsistent owners n m lists
-  consistent_registered fd one n m free small is counted sorted has = record {
+  pub consistent_registered : (fd : ℕ) (one : Ownership) (n m : ℕ) → get owner fd ≡ None → fd < 2 ^ 31 → owners ≡ insert owner fd one → AreCounted (insert owner fd one) n m → AreDistinct lists → HasOneMore watched one.id fd lists → AreConsistent owners n m lists
+  consistent_registered fd one n m free small is counted distinct has = record {
     are_descriptors = subst AreDescriptors (sym is) (descriptors_pushed owner fd one holds.are_descriptors small);
     counted = subst (λ o. AreCounted o n m) (sym is) counted;
     are_watched = subst (λ o. AreWatched o lists) (sym is) (watched_pushed owner watched lists fd holds.are_watched one free has);
-    sorted = sorted;
+    distinct = distinct;
   }
 
-  -- an owner that was put in is taken out again
-  pub same_owners : (fd : ℕ) (one : Ownership) (again : OwnerMap) → get owner fd ≡ None → owners ≡ insert owner fd one → again ≡ remove owners fd → again ≡ owner
-  same_owners fd one again free is back = back ∙ ap (λ m. remove m fd) is ∙ remove_insert owner fd one free
-
-  pub consistent_restored : (again : OwnerMap) → again ≡ owner → AreSorted lists → HasSameLists watched lists → AreConsistent again owned raised lists
-  consistent_restored again is sorted same = subst (λ m. AreConsistent m owned raised lists) (sym is) record {
+  -- a descriptor that nobody owns was put into a list, and is taken out again
+  pub consistent_restored : (fd id : ℕ) (between : WatchLists) → AreDistinct lists → HasOneMore watched id fd between → HasOneMore lists id fd between → AreConsistent owner owned raised lists
+  consistent_restored fd id between distinct put taken = record {
     are_descriptors = holds.are_descriptors;
     counted = holds.counted;
-    are_watched = watched_same owner watched lists holds.are_watched same;
-    sorted = sorted;
+    are_watched = λ j q. omega (arith, put j q, taken j q) ∙ holds.are_watched j q;
+    distinct = distinct;
   }
 
   module _ (fd id : ℕ) (held : owner_of owner fd ≡ Some id) (is : owners ≡ remove owner fd) where
@@ -52,22 +49,22 @@ module _ (owner owners : OwnerMap) (owned raised : ℕ) (watched lists : WatchLi
     there = owned_is_some (get owner fd) id held
 
     -- a descriptor loses its owner
-    pub consistent_removed : (n m : ℕ) → AreCounted owners n m → AreSorted lists → HasOneMore lists id fd watched → AreConsistent owners n m lists
-    consistent_removed n m counted sorted has = record {
+    pub consistent_removed : (n m : ℕ) → AreCounted owners n m → AreDistinct lists → HasOneMore lists id fd watched → AreConsistent owners n m lists
+    consistent_removed n m counted distinct has = record {
       are_descriptors = subst AreDescriptors (sym is) (descriptors_removed owner fd holds.are_descriptors);
       counted = counted;
       are_watched = subst (λ o. AreWatched o lists) (sym is) (watched_removed owner watched lists fd holds.are_watched id held has);
-      sorted = sorted;
+      distinct = distinct;
     }
 
     pub fewer_owners : len owners < len owner
     fewer_owners = omega (arith, held_one owner fd there, ap len is, one_fewer owner fd there)
 
   -- the descriptors of a whole list lose their owner
-  pub consistent_taken : (id n m : ℕ) (fds : List ℕ) → fds ≡ watch_list watched id → AreWithout fds owner owners → AreCounted owners n m → AreSorted lists → HasList watched id [] lists → AreConsistent owners n m lists
-  consistent_taken id n m fds is gone counted sorted has = record {
+  pub consistent_taken : (id n m : ℕ) (fds : List ℕ) → ((fd : ℕ) → times_in fds fd ≡ times_watched watched id fd) → AreWithout fds owner owners → AreCounted owners n m → AreDistinct lists → HasNone watched id lists → AreConsistent owners n m lists
+  consistent_taken id n m fds is gone counted distinct has = record {
     are_descriptors = descriptors_taken owner owners watched id holds.are_watched fds is gone holds.are_descriptors;
     counted = counted;
     are_watched = watched_taken owner owners watched id holds.are_watched fds is gone lists has;
-    sorted = sorted;
+    distinct = distinct;
   }

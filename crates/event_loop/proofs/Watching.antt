@@ -9,10 +9,10 @@ use Rattle.std.specs.Cmp.{nat_cmp_total}
 use Rattle.std.specs.FinMap.{get, insert, remove, get-insert, get-remove, same_map, nat_cmp-IsAntisymmetric}
 use Rattle.dispatch_tables.specs.Ownership.{Ownership, OwnerMap, owner_id, owner_of}
 use Rattle.dispatch_tables.proofs.Owning.{owner_id-cond, owner_of-insert, owner_of-remove, owned_is_some}
-use Rattle.dispatch_tables.proofs.TimesListed.{times_in_cond, flipped, counted, contained, distinct}
+use Rattle.dispatch_tables.proofs.TimesListed.{flipped, counted, contained, distinct}
 use Rattle.event_loop.specs.Registrations.{Registrations}
 use Rattle.event_loop.specs.Registry.{is_id, without_owner, AreOwnedBy}
-use Rattle.dispatch_tables.specs.WatchLists.{watch_list, times_in, HasOneMore, HasList, HasSameLists}
+use Rattle.dispatch_tables.specs.WatchLists.{times_in, times_watched, HasOneMore, HasNone, HasSameLists}
 use Rattle.event_loop.specs.Consistency.{AreWatched}
 use Rattle.event_loop.specs.ReadyList.{AreDescriptors}
 use Rattle.event_loop.specs.Releasing.{AreWithout}
@@ -58,16 +58,16 @@ module _ (owners : OwnerMap) (watched lists : WatchLists) (fd : ℕ) (are : AreW
     -- a descriptor loses its owner, and goes out of that owner's list
     pub watched_removed : HasOneMore lists i fd watched → AreWatched (remove owners fd) lists
     watched_removed has j q =
-        removed_times j i (times_in (watch_list lists j) q) (owner_of owners q) (eq_by_cmp nat_cmp q fd) (at_fd (Some i) was q)
-        (ap (λ b. times_in (watch_list lists j) q + cond (j == i) (cond {A = ℕ} b 1 0) 0) (sym (tests_alike fd q)) ∙ sym (has j q) ∙ are j q)
+        removed_times j i (times_watched lists j q) (owner_of owners q) (eq_by_cmp nat_cmp q fd) (at_fd (Some i) was q)
+        (ap (λ b. times_watched lists j q + cond (j == i) (cond {A = ℕ} b 1 0) 0) (sym (tests_alike fd q)) ∙ sym (has j q) ∙ are j q)
         ∙ ap (λ o. cond (is_id j o) 1 0) (sym (owner_of-remove owners fd q))
 
     -- an owner's descriptor stands in its list
-    pub listed_once : times_in (watch_list watched i) fd ≡ 1
+    pub listed_once : times_watched watched i fd ≡ 1
     listed_once = are i fd ∙ ap (λ o. cond (is_id i o) 1 0) was ∙ grind (arith, nat_tests)
 
 pub watched_same : (owners : OwnerMap) (watched lists : WatchLists) → AreWatched owners watched → HasSameLists watched lists → AreWatched owners lists
-watched_same owners watched lists are has j q = ap (λ l. times_in l q) (has j) ∙ are j q
+watched_same owners watched lists are has j q = has j q ∙ are j q
 
 -- which descriptors are ones from 0 up
 pub descriptors_pushed : (owners : OwnerMap) (fd : ℕ) (one : Ownership) → AreDescriptors owners → fd < 2 ^ 31 → AreDescriptors (insert owners fd one)
@@ -93,14 +93,13 @@ swapped : {A : Type 0} (b : Bool) (o : Option A) → cond b None o ≡ cond (not
 swapped true o = refl
 swapped false o = refl
 
-module _ (owners after : OwnerMap) (watched : WatchLists) (i : ℕ) (are : AreWatched owners watched) (fds : List ℕ) (is : fds ≡ watch_list watched i) (gone : AreWithout fds owners after) where
+module _ (owners after : OwnerMap) (watched : WatchLists) (i : ℕ) (are : AreWatched owners watched) (fds : List ℕ) (is : (fd : ℕ) → times_in fds fd ≡ times_watched watched i fd) (gone : AreWithout fds owners after) where
   owner_after : (q : ℕ) → get after q ≡ cond (is_id i (owner_of owners q)) None (get owners q)
-  owner_after q = gone q ∙ ap (λ n. cond (nat_lt 0 n) None (get owners q)) (ap (λ l. times_in l q) is ∙ are i q) ∙ is_one (is_id i (owner_of owners q)) (get owners q)
+  owner_after q = gone q ∙ ap (λ n. cond (nat_lt 0 n) None (get owners q)) (is q ∙ are i q) ∙ is_one (is_id i (owner_of owners q)) (get owners q)
 
-  pub watched_taken : (lists : WatchLists) → HasList watched i [] lists → AreWatched after lists
+  pub watched_taken : (lists : WatchLists) → HasNone watched i lists → AreWatched after lists
   watched_taken lists has j q =
-      ap (λ l. times_in l q) (has j)
-      ∙ times_in_cond (j == i) [] (watch_list watched j) q
+      has j q
       ∙ ap (λ n. cond (j == i) 0 n) (are j q)
       ∙ taken_times j i (owner_of owners q)
       ∙ ap (λ o. cond (is_id j o) 1 0) (sym (ap owner_id (owner_after q) ∙ owner_id-cond (is_id i (owner_of owners q)) None (get owners q)))

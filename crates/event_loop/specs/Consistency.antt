@@ -3,17 +3,17 @@ use Rattle.std.specs.Prelude.{◌≡◌, ℕ, cond}
 use Rattle.dispatch_tables.specs.Ownership.{OwnerMap, owner_of}
 use Rattle.dispatch_tables.specs.Owners.{AreCounted}
 use Rattle.event_loop.specs.Registry.{is_id}
-use Rattle.dispatch_tables.specs.WatchLists.{watch_list, times_in, AreSorted}
+use Rattle.dispatch_tables.specs.WatchLists.{times_watched, AreDistinct}
 use Rattle.event_loop.specs.ReadyList.{AreDescriptors}
 use Rattle.dispatch_tables.specs.declared.watch_lists.WatchLists.{WatchLists}
 
 -- each descriptor stands once in its owner's list, and in no other list
 abbrev pub AreWatched : OwnerMap → WatchLists → Type 0
-AreWatched owners watched = (i fd : ℕ) → times_in (watch_list watched i) fd ≡ cond (is_id i (owner_of owners fd)) 1 0
+AreWatched owners watched = (i fd : ℕ) → times_watched watched i fd ≡ cond (is_id i (owner_of owners fd)) 1 0
 
 -- `owned` counts the owners, `raised` those at a priority above the lowest
 pub record AreConsistent (owners : OwnerMap) (owned raised : ℕ) (watched : WatchLists) : Type 0 where
   pub are_descriptors : AreDescriptors owners
   pub counted : AreCounted owners owned raised
   pub are_watched : AreWatched owners watched
-  pub sorted : AreSorted watched
+  pub distinct : AreDistinct watched

@@ -7,7 +7,7 @@ ghost use Rattle.event_loop.specs.PollerCall.{Control, Wait, Leads};
 ghost use Rattle.event_loop.specs.Registrations.{Owns, IsFree};
 ghost use Rattle.event_loop.specs.Registry.{AreOwnedBy};
 ghost use Rattle.event_loop.specs.Exchange.{IsVacant};
-ghost use Rattle.dispatch_tables.specs.Owners.{ownership_of, IsOwnerAt};
+ghost use Rattle.dispatch_tables.specs.Owners.{IsOwnerAt};
 ghost use Rattle.event_loop.specs.RegistrationState.{registrations_of, cancel_on, left_in, HasWaited};
 ghost use Rattle.event_loop.specs.Releasing.{HasReleased};
 ghost use Rattle.vmm_sys.specs.declared.errno.Errno.{Errno};
@@ -18,6 +18,7 @@ use crate::events::Events;
 use crate::poller::EventPoller;
 use crate::registrations::Registrations;
 use dispatch_tables::owners::Owner;
+use dispatch_tables::priority::Priority;
 use std::alloc::{AllocError, Global};
 use std::marker::Model;
 use vmm_sys::epoll::{ControlOperation, EpollEvent};
@@ -77,15 +78,28 @@ impl RegistrationState {
         self.registrations.is_owner(id, events)
     }
 
+    /// Opens the watch list of an id, at the place of its subscriber. Where memory is refused, all stays as it was.
+    pub(crate) fn open(&mut self, id: u64, place: usize) -> std::result::Result<(), AllocError>
+        ensures { self.new ≡ self.old }
+    {
+        self.registrations.open(id, place)
+    }
+
     /// Enters the owner of the descriptor, and the descriptor in the watch list of the owner's id; makes the room that a
     /// removal needs. Where memory is refused, all stays as it was.
-    pub(crate) fn register(&mut self, events: Events, owner: Owner) -> Result<()>
+    pub(crate) fn register(
+        &mut self,
+        events: Events,
+        id: u64,
+        place: usize,
+        priority: Priority,
+    ) -> Result<()>
         requires { IsFree (registrations_of self.old) events.fd }
-        ensures ok { OnOk result (self.new ≡ record self.old { owners = map.insert self.old.owners events.fd (ownership_of owner) }) }
+        ensures ok { OnOk result (self.new ≡ record self.old { owners = map.insert self.old.owners events.fd (record { id = id; priority = priority }) }) }
         ensures err { IfErr result (λ e. (e ≡ Error.OutOfMemory) × (self.new ≡ self.old)) }
     {
         self.batch.make_room(self.registrations.owned())?;
-        self.registrations.register(events, owner)
+        self.registrations.register(events, id, place, priority)
     }
 
     /// Frees a descriptor of the id's. Takes no memory.
@@ -106,13 +120,20 @@ impl RegistrationState {
         self.batch.cancel(events);
     }
 
-    /// Frees all descriptors of the id, and answers them in ascending order. Takes no memory.
-    pub(crate) fn take_watched(&mut self, id: u64) -> Vec<u32>
+    /// Frees all descriptors of the id, whose list is looked for at the place, and answers them. Takes no memory.
+    pub(crate) fn take_watched(&mut self, id: u64, place: usize) -> Vec<u32>
         ensures owned { AreOwnedBy id (registrations_of self.old) result.items }
         ensures are_descriptors { All (λ fd. fd < 2 ^ 31) result.items }
         ensures freed { self.new ≡ left_in id self.old }
     {
-        self.registrations.take_watched(id)
+        self.registrations.take_watched(id, place)
+    }
+
+    /// Leaves the room of a list that was taken to the next at its place. Takes no memory.
+    pub(crate) fn keep_room(&mut self, place: usize, fds: Vec<u32>)
+        ensures { self.new ≡ self.old }
+    {
+        self.registrations.keep_room(place, fds);
     }
 
     /// Takes the next entry of the ready list. Once the last one is taken, no descriptor is cancelled any more.
@@ -167,15 +188,16 @@ impl<P: EventPoller> EpollWrapper<P> {
         self.poller.ctl(op, events.number(), events)
     }
 
-    /// Frees all descriptors of the id, and asks the poller one Delete for each, in ascending order and
+    /// Frees all descriptors of the id, whose list is looked for at the place, and asks the poller one Delete for each,
     /// whatever it answers. Takes no memory.
-    pub(crate) fn release(&mut self, id: u64)
+    pub(crate) fn release(&mut self, id: u64, place: usize)
         ensures { HasReleased P.controls P.waits self.old self.new id }
     {
-        let fds = self.registrations.take_watched(id);
+        let fds = self.registrations.take_watched(id, place);
         for fd in &fds {
             let event = Events::empty_raw(0);
             let _ = self.poller.ctl(ControlOperation::Delete, *fd, event);
         }
+        self.registrations.keep_room(place, fds);
     }
 }

@@ -10,7 +10,6 @@ use crate::epoll::EpollWrapper;
 use crate::error::{Error, Result};
 use crate::events::{Events, Request};
 use crate::poller::EventPoller;
-use dispatch_tables::owners::Owner;
 use dispatch_tables::priority::Priority;
 use vmm_sys::epoll::ControlOperation;
 use vmm_sys::errno::Errno;
@@ -52,12 +51,10 @@ impl<P: EventPoller> EventOps<P> {
             Ok(()) => {}
             Err(e) => return Err(e),
         }
-        let owner = Owner {
-            id: self.id,
-            place: self.place,
-            priority,
-        };
-        match epoll.registrations.register(events, owner) {
+        match epoll
+            .registrations
+            .register(events, self.id, self.place, priority)
+        {
             Ok(()) => {}
             Err(e) => return Err(e),
         }

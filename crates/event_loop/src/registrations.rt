@@ -6,7 +6,7 @@ ghost use Rattle.std.specs.FinMap as map;
 ghost use Rattle.dispatch_tables.specs.ClassOrder.{IsOrdered};
 ghost use Rattle.dispatch_tables.specs.Event.{event_of_entry};
 ghost use Rattle.dispatch_tables.specs.Ownership.{class_in};
-ghost use Rattle.dispatch_tables.specs.Owners.{ownership_of, IsOwnerAt, AreCounted};
+ghost use Rattle.dispatch_tables.specs.Owners.{IsOwnerAt, AreCounted};
 ghost use Rattle.event_loop.specs.Exchange.{IsVacant};
 ghost use Rattle.event_loop.specs.RegistrationParts.{between_batches};
 ghost use Rattle.event_loop.specs.Registrations.{Owns, IsFree};
@@ -18,24 +18,40 @@ use crate::events::Events;
 use dispatch_tables::descriptor::fd_of;
 use dispatch_tables::dispatch_order::{ClassedEntry, order_by_class};
 use dispatch_tables::owners::{Owner, Owners};
-use dispatch_tables::watch_lists::WatchLists;
-use std::alloc::Global;
+use dispatch_tables::priority::Priority;
+use dispatch_tables::watch_lists::{Moved, WatchLists};
+use std::alloc::{AllocError, Global};
 use std::marker::Model;
 use vmm_sys::epoll::EpollEvent;
 use vmm_sys::errno::Errno;
 
-/// Takes out the owner of one descriptor, if it has one, and counts the owned and the raised ones.
-fn disown(owners: &mut Owners, owned: &mut usize, raised: &mut usize, fd: u32)
+/// Takes out the owner of one descriptor, if it has one, and counts the owned and the raised ones. Answers the owner.
+fn disown(
+    owners: &mut Owners,
+    owned: &mut usize,
+    raised: &mut usize,
+    fd: u32,
+) -> Option<Owner>
     requires { AreCounted owners.old owned.old raised.old }
+    ensures owner { IsOwnerAt owners.old fd result }
     ensures disowned { owners.new ≡ map.remove owners.old fd }
     ensures counted { AreCounted owners.new owned.new raised.new }
     ensures fewer { owned.new ≤ owned.old }
 {
-    if let Some(owner) = owners.remove(fd) {
-        *owned -= 1;
-        if owner.priority.is_raised() {
-            *raised -= 1;
-        }
+    let owner = owners.remove(fd)?;
+    *owned -= 1;
+    if owner.priority.is_raised() {
+        *raised -= 1;
+    }
+    Some(owner)
+}
+
+/// Notes where a descriptor stands that took the position of one that was taken out of a watch list.
+fn note_moved(owners: &mut Owners, moved: Option<Moved>)
+    ensures { owners.new ≡ owners.old }
+{
+    if let Some(moved) = moved {
+        owners.set_position(moved.fd, moved.position);
     }
 }
 
@@ -47,7 +63,7 @@ fn disown_all(owners: &mut Owners, owned: &mut usize, raised: &mut usize, fds: &
     ensures fewer { owned.new ≤ owned.old }
 {
     for fd in fds {
-        disown(owners, owned, raised, *fd);
+        let _ = disown(owners, owned, raised, *fd);
     }
 }
 
@@ -126,26 +142,46 @@ impl Registrations {
         }
     }
 
+    /// Opens the watch list of an id, at the place of its subscriber. Where memory is refused, all stays as it was.
+    pub(crate) fn open(&mut self, id: u64, place: usize) -> std::result::Result<(), AllocError>
+        ensures { self.new ≡ self.old }
+    {
+        self.watched.open(id, place)?;
+        Ok(())
+    }
+
     /// Enters the owner of the descriptor, and the descriptor in the watch list of the owner's id. Where memory is refused,
     /// all stays as it was.
-    pub(crate) fn register(&mut self, events: Events, owner: Owner) -> Result<()>
+    pub(crate) fn register(
+        &mut self,
+        events: Events,
+        id: u64,
+        place: usize,
+        priority: Priority,
+    ) -> Result<()>
         requires { IsFree (between_batches self.old) events.fd }
-        ensures ok { OnOk result (self.new ≡ record self.old { owners = map.insert self.old.owners events.fd (ownership_of owner) }) }
+        ensures ok { OnOk result (self.new ≡ record self.old { owners = map.insert self.old.owners events.fd (record { id = id; priority = priority }) }) }
         ensures err { IfErr result (λ e. (e ≡ Error.OutOfMemory) × (self.new ≡ self.old)) }
         ensures more { map.len self.new.owners ≤ map.len self.old.owners + 1 }
     {
         let fd = events.number();
-        self.owners.insert(fd, owner)?;
-        match self.watched.insert(owner.id, fd) {
+        let position = self.watched.insert(id, place, fd)?;
+        let owner = Owner {
+            id,
+            place,
+            position,
+            priority,
+        };
+        match self.owners.insert(fd, owner) {
             Ok(()) => {
                 self.owned += 1;
-                if owner.priority.is_raised() {
+                if priority.is_raised() {
                     self.raised += 1;
                 }
                 Ok(())
             }
             Err(_) => {
-                let _ = self.owners.remove(fd);
+                let _ = self.watched.remove(id, place, fd, position);
                 Err(Error::OutOfMemory)
             }
         }
@@ -158,20 +194,30 @@ impl Registrations {
         ensures fewer { map.len self.new.owners < map.len self.old.owners }
     {
         let fd = events.number();
-        self.watched.remove(id, fd);
-        disown(&mut self.owners, &mut self.owned, &mut self.raised, fd);
+        let Some(owner) = disown(&mut self.owners, &mut self.owned, &mut self.raised, fd) else {
+            unreachable!()
+        };
+        let moved = self.watched.remove(id, owner.place, fd, owner.position);
+        note_moved(&mut self.owners, moved);
     }
 
-    /// Frees all descriptors of the id, and answers them in ascending order. Takes no memory.
-    pub(crate) fn take_watched(&mut self, id: u64) -> Vec<u32>
+    /// Frees all descriptors of the id, whose list is looked for at the place, and answers them. Takes no memory.
+    pub(crate) fn take_watched(&mut self, id: u64, place: usize) -> Vec<u32>
         ensures owned { AreOwnedBy id (between_batches self.old) result.items }
         ensures are_descriptors { All (λ fd. fd < 2 ^ 31) result.items }
         ensures freed { self.new ≡ record self.old { owners = without_owner id self.old.owners } }
         ensures fewer { map.len self.new.owners ≤ map.len self.old.owners }
     {
-        let fds = self.watched.take(id);
+        let fds = self.watched.take(id, place);
         disown_all(&mut self.owners, &mut self.owned, &mut self.raised, &fds);
         fds
+    }
+
+    /// Leaves the room of a list that was taken to the next at its place. Takes no memory.
+    pub(crate) fn keep_room(&mut self, place: usize, fds: Vec<u32>)
+        ensures { self.new ≡ self.old }
+    {
+        self.watched.keep_room(place, fds);
     }
 
     /// The owner of the descriptor of an entry.

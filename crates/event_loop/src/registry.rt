@@ -180,6 +180,8 @@ impl<S: MutEventSubscriber, P: EventPoller> Registry<S, P> {
             return Err(Error::IdsUsedUp);
         }
         let id = self.next;
+        let place = self.subscribers.next_place();
+        self.ops.epoll.registrations.open(id, place)?;
         let place = self.subscribers.insert(id, subscriber)?;
         let Some(held) = self.subscribers.get_mut_at(place, id) else {
             unreachable!()
@@ -197,8 +199,8 @@ impl<S: MutEventSubscriber, P: EventPoller> Registry<S, P> {
             × HasStepped S.begins P.controls P.waits (loop_state self.old) step (loop_state self.new) }
     {
         match self.subscribers.remove(id) {
-            Some(subscriber) => {
-                self.ops.epoll.release(id);
+            Some((place, subscriber)) => {
+                self.ops.epoll.release(id, place);
                 Ok(subscriber)
             }
             None => Err(Error::InvalidId),

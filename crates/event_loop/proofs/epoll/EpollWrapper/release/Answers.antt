@@ -1,4 +1,4 @@
-use Rattle.std.proofs.Common.{refl}
+use Rattle.std.proofs.Common.{refl, ◌∙◌}
 use Rattle.event_loop.proofs.Releasing.{deleted_none, deleted_more, released}
 use Rattle.event_loop.proofs.epoll.EpollWrapper.release.Goals as goal
 
@@ -15,4 +15,4 @@ pub returns : goal.returns
 returns g c =
     let fds = c.deref-fd-items.result.now in
     let owned = rw (← c.deref-fd-items.ensures.value) at c.take_watched-fds.ensures.owned in
-    released g.P.EventPoller.controls g.P.EventPoller.waits fds c.args.id c.loop-fd.fd-index c.args.self.now (record { registrations = c.take_watched-fds.new.self; poller = c.args.self.now.poller }) c.loop-fd.self owned c.take_watched-fds.ensures.freed c.loop-fd.invariant.same c.loop-fd-test.false c.loop-fd.invariant.so_far
+    released g.P.EventPoller.controls g.P.EventPoller.waits fds c.args.id c.loop-fd.fd-index c.args.self.now (record { registrations = c.take_watched-fds.new.self; poller = c.args.self.now.poller }) (record { registrations = c.keep_room.new.self; poller = c.loop-fd.self.poller }) owned c.take_watched-fds.ensures.freed (c.keep_room.ensures ∙ c.loop-fd.invariant.same) c.loop-fd-test.false c.loop-fd.invariant.so_far

@@ -1,6 +1,5 @@
 use Rattle.std.proofs.Common.{sym, ap, arith, ◌∙◌}
 use Rattle.event_loop.specs.RegistrationParts.{OwnerState, between_batches}
-use Rattle.dispatch_tables.specs.WatchLists.{times_in}
 use Rattle.event_loop.proofs.Consistent.{consistent_taken}
 use Rattle.event_loop.proofs.Watching.{owners_taken, owned_once, listed_are_descriptors}
 use Rattle.event_loop.proofs.registrations.Registrations.take_watched.Goals as goal
@@ -9,17 +8,17 @@ pub invariant_of-self : goal.invariant_of-self
 invariant_of-self c =
     let b = c.self.inside in
     let gone = rw c.deref.ensures.value at c.disown_all.ensures.disowned in
-    consistent_taken b.owners c.disown_all.new.owners b.owned b.raised b.watched c.take-fds.new.self c.self.invariant c.args.id c.disown_all.new.owned c.disown_all.new.raised c.take-fds.result.items c.take-fds.ensures.value gone c.disown_all.ensures.counted c.take-fds.ensures.sorted c.take-fds.ensures.taken
+    consistent_taken b.owners c.disown_all.new.owners b.owned b.raised b.watched c.take-fds.new.self c.self.invariant c.args.id c.disown_all.new.owned c.disown_all.new.raised c.take-fds.result.items c.take-fds.ensures.value gone c.disown_all.ensures.counted c.take-fds.ensures.distinct c.take-fds.ensures.taken
 
 pub returns-clause-owned : goal.returns-clause-owned
 returns-clause-owned c =
     let list = c.take-fds.ensures.value in
-    owned_once c.self.inside.owners c.take-fds.result.items c.args.id (λ fd. ap (λ l. times_in l fd) list ∙ c.self.invariant.are_watched c.args.id fd) (between_batches c.args.self.now) (ap (λ (s : OwnerState). s.owners) (sym c.self.view_is))
+    owned_once c.self.inside.owners c.take-fds.result.items c.args.id (λ fd. list fd ∙ c.self.invariant.are_watched c.args.id fd) (between_batches c.args.self.now) (ap (λ (s : OwnerState). s.owners) (sym c.self.view_is))
 
 pub returns-clause-are_descriptors : goal.returns-clause-are_descriptors
 returns-clause-are_descriptors c =
     let list = c.take-fds.ensures.value in
-    listed_are_descriptors c.self.inside.owners c.take-fds.result.items c.args.id (λ fd. ap (λ l. times_in l fd) list ∙ c.self.invariant.are_watched c.args.id fd) c.self.invariant.are_descriptors
+    listed_are_descriptors c.self.inside.owners c.take-fds.result.items c.args.id (λ fd. list fd ∙ c.self.invariant.are_watched c.args.id fd) c.self.invariant.are_descriptors
 
 pub returns-clause-freed : goal.returns-clause-freed
 returns-clause-freed c =

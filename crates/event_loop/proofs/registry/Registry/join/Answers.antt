@@ -9,11 +9,14 @@ use Rattle.event_loop.specs.declared.error.Error.TheVariants.{OutOfMemory}
 use Rattle.event_loop.specs.RegistrationState.{registrations_of}
 use Rattle.event_loop.proofs.registry.Registry.join.Goals as goal
 
+pub returns-in_err-open : goal.returns-in_err-open
+returns-in_err-open g c = rw c.in_err-open.ensures (NotJoined c.args.subscriber OutOfMemory, search rules, record { stepped = (inr (omega (arith, c.if-self.false), refl), refl); led = refl; same_taken = refl; same_capacity = refl })
+
 pub returns-in_err-place : goal.returns-in_err-place
 returns-in_err-place g c =
     let old = c.args.self.now in
     let same = ap (λ values. idle (record { values = values; next = old.next; registrations = registrations_of old.ops.epoll.registrations })) c.in_err-place.ensures.err in
-    (NotJoined c.args.subscriber OutOfMemory, search rules, record { stepped = (inr (omega (arith, c.if-self.false), refl), same); led = refl; same_taken = refl; same_capacity = refl })
+    rw c.in_ok-open.ensures (NotJoined c.args.subscriber OutOfMemory, search rules, record { stepped = (inr (omega (arith, c.if-self.false), refl), same); led = refl; same_taken = refl; same_capacity = refl })
 
 pub unreachable-requires : goal.unreachable-requires
 unreachable-requires g c =
@@ -25,7 +28,7 @@ unreachable-requires g c =
 
 pub returns : goal.returns
 returns g c =
-    let called = c.init.ensures in
+    let called = rw c.in_ok-open.ensures at c.init.ensures in
     let id = c.args.self.now.next in
     let first = c.in_ok-place.ensures.ok in
     let found = c.in-Some.ensures.value in
