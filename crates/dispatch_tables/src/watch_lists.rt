@@ -1,6 +1,7 @@
 //! The watch list of each subscriber: which descriptors it owns.
 
 ghost use Rattle.std.specs.Prelude.{◌≡◌, ◌≢◌, ℕ, ◌<◌, ◌≤◌, All, IfOk, OnOk, OnErr, MatchOption, length, slice_index_or};
+ghost use Rattle.std.specs.List.Sorted.{IsNonDecreasing};
 ghost use Rattle.dispatch_tables.specs.declared.watch_lists.WatchList.{WatchList};
 ghost use Rattle.dispatch_tables.specs.WatchLists.{times_in, times_among, times_watched, AreApart, AreUpTo, AreDistinct, IsListOf, LacksList, IsOneMore, HasChangedAt, HasOneMore, HasNone, HasSameLists};
 
@@ -107,15 +108,20 @@ impl WatchLists {
         }
     }
 
-    /// Takes the whole list of the id. Takes no memory.
+    /// Takes the whole list of the id, in ascending order. Takes no memory.
     pub fn take(&mut self, id: u64, near: usize) -> Vec<u32>
         requires { AreDistinct self.old }
         ensures distinct { AreDistinct self.new }
         ensures value { (fd : ℕ) → times_in result.items fd ≡ times_watched self.old id fd }
+        ensures ascending { IsNonDecreasing result.items }
         ensures taken { HasNone self.old id self.new }
     {
         match self.place_of(id, near) {
-            Some(place) => mem::replace(&mut self.lists[place].fds, Vec::new(self.alloc)),
+            Some(place) => {
+                let mut fds = mem::replace(&mut self.lists[place].fds, Vec::new(self.alloc));
+                fds.sort_unstable();
+                fds
+            }
             None => Vec::new(self.alloc),
         }
     }
