@@ -18,6 +18,8 @@ pub enum Family {
     Batch,
     /// A join and a leave.
     Leave,
+    /// The memory of subscribers and descriptors.
+    Memory,
     /// The calls of the in-process table.
     Table,
     /// A write, a run and a read over the in-process table.
@@ -37,6 +39,7 @@ impl Family {
             Family::One => "one",
             Family::Batch => "batch",
             Family::Leave => "leave",
+            Family::Memory => "memory",
             Family::Table => "table",
             Family::Counters => "counters",
             Family::Fire => "fire",
@@ -54,12 +57,13 @@ impl Family {
 }
 
 /// The families, in the order in which they are measured.
-const FAMILIES: [Family; 9] = [
+const FAMILIES: [Family; 10] = [
     Family::Deliver,
     Family::Record,
     Family::One,
     Family::Batch,
     Family::Leave,
+    Family::Memory,
     Family::Table,
     Family::Counters,
     Family::Fire,
@@ -75,7 +79,7 @@ pub enum Size {
     Middle,
     /// The last but those that are huge.
     Large,
-    /// A million, of the table and the counters; measured only where it is picked.
+    /// A million, of deliveries, the table and the counters, and of deliveries 65,536 too; measured only where it is picked.
     Huge,
 }
 

@@ -7,7 +7,7 @@ use crate::bench::{Bench, Host, Measured};
 use crate::fault::{Fault, expect};
 use crate::fixed::{BATCH, Fixed};
 use crate::over_fixed::{Manager, ManagerMeasure, measure, run_rounds};
-use crate::subscribers::{Counter, FIRST};
+use crate::subscribers::{Counter, FIRST, descriptor};
 use crate::timing::{REPEATS, Times};
 use event_manager::{EventPoller, EventSet, Events, Naming, Priority, SubscriberId, SubscriberOps};
 use std::alloc::Global;
@@ -31,7 +31,7 @@ enum Priorities {
 /// Batches of 256 events for so many subscribers with one descriptor each.
 #[derive(Clone, Copy)]
 struct Deliver {
-    subscribers: u16,
+    subscribers: u32,
     priorities: Priorities,
     rounds_before: u32,
     rounds: u32,
@@ -52,7 +52,7 @@ impl ManagerMeasure for Deliver {
     }
 
     fn poller(&self, alloc: Global) -> Result<Fixed, Fault> {
-        Fixed::spread(self.subscribers as u32, alloc)
+        Fixed::spread(self.subscribers, alloc)
     }
 
     fn capacity(&self) -> usize {
@@ -68,7 +68,7 @@ impl ManagerMeasure for Deliver {
         let (batch, rounds) = (BATCH as u64, self.rounds);
         let mut ids = Vec::new(alloc);
         for k in 0..self.subscribers {
-            let fd = FIRST as i32 + k as i32;
+            let fd = descriptor(k);
             let id = manager.add_subscriber(Counter::new(fd, 1))?;
             ids.push(id)?;
             self.give_priority(manager, id, fd)?;
@@ -119,28 +119,43 @@ impl Deliver {
     }
 }
 
-/// Measures a delivery at each wanted size.
+/// The sizes, each with so many subscribers.
+const SIZES: [(Size, u32); 5] = [
+    (Size::Small, 16),
+    (Size::Middle, 256),
+    (Size::Large, 4096),
+    (Size::Huge, 65536),
+    (Size::Huge, 1000000),
+];
+
+/// Measures a delivery at each wanted size; with priorities at those up to 4096.
 pub fn measure_deliveries<R: Host>(bench: &Bench<R>) -> Result<(), Fault> {
     if !bench.wanted.has_family(Family::Deliver) {
         return Ok(());
     }
-    for (size, subscribers) in [(Size::Small, 16), (Size::Middle, 256), (Size::Large, 4096)] {
+    for (size, subscribers) in SIZES {
         if !bench.wanted.has_size(size) {
             continue;
         }
-        for priorities in [
-            Priorities::Lowest,
-            Priorities::OneElsewhere,
-            Priorities::Four,
-        ] {
-            let deliver = Deliver {
-                subscribers,
-                priorities,
-                rounds_before: bench.rounds(1000),
-                rounds: bench.rounds(20000),
-            };
-            measure(bench, &deliver)?;
+        measure_delivery(bench, subscribers, Priorities::Lowest)?;
+        if size != Size::Huge {
+            measure_delivery(bench, subscribers, Priorities::OneElsewhere)?;
+            measure_delivery(bench, subscribers, Priorities::Four)?;
         }
     }
     Ok(())
+}
+
+fn measure_delivery<R: Host>(
+    bench: &Bench<R>,
+    subscribers: u32,
+    priorities: Priorities,
+) -> Result<(), Fault> {
+    let deliver = Deliver {
+        subscribers,
+        priorities,
+        rounds_before: bench.rounds(1000),
+        rounds: bench.rounds(20000),
+    };
+    measure(bench, &deliver)
 }

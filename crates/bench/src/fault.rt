@@ -39,6 +39,10 @@ pub enum Fault {
     #[error("arguments, clock or output: {0}")]
     System(io::ErrorKind),
 
+    /// Linux doesn't tell how much memory the process holds.
+    #[error("the size of the process can't be read")]
+    Resident,
+
     /// A call answered another number than the work has.
     #[error("answered {answered}, and not {expected}")]
     Answer {

@@ -12,6 +12,7 @@ pub mod fault;
 pub mod fire;
 pub mod fixed;
 pub mod jobs;
+pub mod memory;
 pub mod over_fixed;
 pub mod progress;
 pub mod record;
@@ -24,21 +25,22 @@ use arguments::Wanted;
 use bench::{Bench, Host};
 use fault::Fault;
 use std::process::ExitCode;
-use std::rt::Env;
+use std::rt::{Env, Files};
 
-fn measure_all<R: Host>(bench: &Bench<R>) -> Result<(), Fault> {
+fn measure_all<R: Host + Files + AllocGlobal>(bench: &Bench<R>) -> Result<(), Fault> {
     bench.print_heading()?;
     deliver::measure_deliveries(bench)?;
     record::measure_records(bench)?;
     toggle::measure_toggles(bench)?;
     churn::measure_joins(bench)?;
+    memory::measure_memory(bench)?;
     table_calls::measure_tables(bench)?;
     counters::measure_counters(bench)?;
     fire::measure_fires(bench)?;
     calls::measure_calls(bench)
 }
 
-fn run<R: Host + Env + AllocGlobal>(rt: R) -> Result<(), Fault> {
+fn run<R: Host + Env + Files + AllocGlobal>(rt: R) -> Result<(), Fault> {
     let wanted = Wanted::from_arguments(&rt)?;
     let alloc = rt.alloc();
     measure_all(&Bench { rt, alloc, wanted })

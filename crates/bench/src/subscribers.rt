@@ -1,11 +1,20 @@
 //! The subscribers of the measures.
 
+ghost use Rattle.std.specs.Prelude.{◌≤ℤ◌, pos};
+
 use event_manager::{EventOps, EventPoller, EventSet, Events, MutEventSubscriber, Result};
 use std::sync::Wait;
 use vmm_sys::eventfd::EventFd;
 
 /// The lowest descriptor of a subscriber.
 pub const FIRST: u16 = 10;
+
+/// The descriptor of a number that is counted from the lowest; the highest there is where it would be above.
+pub fn descriptor(number: u32) -> i32
+    ensures { pos 0 ≤ℤ result }
+{
+    number.saturating_add(FIRST as u32).min(2147483647) as i32
+}
 
 /// Asks for its descriptors when it joins, and counts the events that it is given.
 #[derive(Drop)]

@@ -1,0 +1,89 @@
+//! What subscribers and descriptors take of memory: by what the process holds of it, as Linux tells in `/proc/self/status`.
+
+use crate::arguments::Family;
+use crate::bench::{Bench, Host};
+use crate::fault::Fault;
+use crate::fixed::{BATCH, Fixed};
+use crate::subscribers::{Counter, descriptor};
+use event_manager::{EventLoop, EventSet, Events, SubscriberOps};
+use std::alloc::Global;
+use std::fs;
+use std::rt::Files;
+
+/// How many subscribers, and how many descriptors, the bytes are of.
+const MANY: u32 = 1000000;
+
+/// A loop without jobs over a poller that reports nothing.
+type IdleLoop = EventLoop<Counter, Fixed>;
+
+fn idle_loop(alloc: Global) -> Result<IdleLoop, Fault> {
+    let poller = Fixed::first(0, alloc)?;
+    Ok(EventLoop::with_capacity(alloc, poller, BATCH as usize)?)
+}
+
+/// The bytes that the process holds in memory. `System` where they can't be read, `Resident` where Linux doesn't tell.
+fn resident<R: Files + AllocGlobal>(rt: &R) -> Result<u64, Fault> {
+    let status = fs::read_to_string(rt, "/proc/self/status")?;
+    for line in status.lines() {
+        if let Some(size) = line.strip_prefix("VmRSS:") {
+            let kilobytes = size.trim().trim_end_matches(" kB").parse::<u64>();
+            return match kilobytes {
+                Ok(kilobytes) => Ok(kilobytes.saturating_mul(1024)),
+                Err(_) => Err(Fault::Resident),
+            };
+        }
+    }
+    Err(Fault::Resident)
+}
+
+/// Lets so many subscribers join, each with a descriptor of its own. `Manager`.
+fn join(event_loop: &mut IdleLoop, count: u32) -> Result<(), Fault> {
+    for k in 0..count {
+        let _ = event_loop.add_subscriber(Counter::new(descriptor(k), 1))?;
+    }
+    Ok(())
+}
+
+/// Adds so many descriptors to one subscriber. `Manager`.
+fn add(event_loop: &mut IdleLoop, count: u32) -> Result<(), Fault> {
+    let id = event_loop.add_subscriber(Counter::new(0, 0))?;
+    let ops = event_loop.event_ops(id)?;
+    for k in 0..count {
+        ops.add(Events::new_raw(descriptor(k), EventSet::IN))?;
+    }
+    Ok(())
+}
+
+/// Fills a loop, and prints how many bytes the process then holds more for each of `count`; or the count alone, where times
+/// aren't wanted either. The loop comes back, so that its memory isn't used again.
+fn measure_filled<R: Host + Files + AllocGlobal>(
+    bench: &Bench<R>,
+    name: &str,
+    count: u32,
+    fill: fn(&mut IdleLoop, u32) -> Result<(), Fault>,
+) -> Result<IdleLoop, Fault> {
+    let mut event_loop = idle_loop(bench.alloc)?;
+    if bench.wanted.checked {
+        fill(&mut event_loop, count)?;
+        println!(bench.rt; "{:<44} {:>10}", name, count)?;
+        return Ok(event_loop);
+    }
+    let before = resident(&bench.rt)?;
+    fill(&mut event_loop, count)?;
+    let taken = resident(&bench.rt)?.saturating_sub(before);
+    println!(bench.rt; "{:<44} {:>10} bytes", name, taken / count.max(1) as u64)?;
+    Ok(event_loop)
+}
+
+/// Measures the memory of a million subscribers with a descriptor each, and of a million descriptors of one.
+pub fn measure_memory<R: Host + Files + AllocGlobal>(bench: &Bench<R>) -> Result<(), Fault> {
+    if !bench.wanted.has_family(Family::Memory) {
+        return Ok(());
+    }
+    let count = bench.rounds(MANY);
+    let subscribers = measure_filled(bench, "memory, a subscriber with a descriptor", count, join)?;
+    let descriptors = measure_filled(bench, "memory, a descriptor of one subscriber", count, add)?;
+    drop(subscribers);
+    drop(descriptors);
+    Ok(())
+}
