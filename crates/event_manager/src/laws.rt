@@ -19,7 +19,7 @@ ghost use Rattle.event_manager.specs.Projection.{NonInterference, ProjectionKeep
 ghost use Rattle.event_manager.specs.Guarantees.{AreGiven, steps_of, RemovedStayGone, RemovedStayUnknown, IsSound, IsUntouched, FreesExactly};
 ghost use Rattle.vmm_sys.specs.Recording.{Recording};
 ghost use Rattle.vmm_sys.specs.Replay.{Replay};
-ghost use Rattle.event_loop.specs.LoopState.{LoopState, manager_state};
+ghost use Rattle.event_loop.specs.LoopState.{LoopState, manager_state, no_job};
 ghost use Rattle.event_manager.specs.declared.calls.Call.{Call};
 ghost use Rattle.event_manager.specs.declared.calls.Reply.{Reply};
 ghost use Rattle.event_manager.specs.Determinism.{AreFunctions, IsReplay, IsTheRun};
@@ -131,6 +131,19 @@ pub fn a_recorded_run_is_made_again<S: MutEventSubscriber, J: Job<S>, P: Poller>
         IsTraceOf S.begins S.serves J.may ⟦<RecordingPoller<P> as EventPoller>⟧.controls ⟦<RecordingPoller<P> as EventPoller>⟧.waits
         before calls replies after trace →
         IsTraceOf S.begins S.serves J.may ⟦<ReplayPoller as EventPoller>⟧.controls ⟦<ReplayPoller as EventPoller>⟧.waits
+        start calls_again replies_again end again →
+        BeginsAgain before after start → end.poller.diverged ≡ false → IsMadeAgain trace again →
+        IsTheRun trace again (manager_state after) (manager_state end) }
+{}
+
+/// As `a_recorded_run_is_made_again`, of a loop without jobs: each entry of a list is what one of its calls promises.
+pub fn a_recorded_loop_is_made_again<S: MutEventSubscriber, P: Poller>()
+    ensures { (before after : LoopState S (Recording P)) (calls : List (Call S)) (replies : List (Reply S)) (trace : List (Entry S ⊥ (Unit {0})))
+        (start end : LoopState S Replay) (calls_again : List (Call S)) (replies_again : List (Reply S)) (again : List (Entry S ⊥ (Unit {0}))) →
+        AreFunctions S.begins S.serves no_job →
+        IsTraceOf S.begins S.serves no_job ⟦<RecordingPoller<P> as EventPoller>⟧.controls ⟦<RecordingPoller<P> as EventPoller>⟧.waits
+        before calls replies after trace →
+        IsTraceOf S.begins S.serves no_job ⟦<ReplayPoller as EventPoller>⟧.controls ⟦<ReplayPoller as EventPoller>⟧.waits
         start calls_again replies_again end again →
         BeginsAgain before after start → end.poller.diverged ≡ false → IsMadeAgain trace again →
         IsTheRun trace again (manager_state after) (manager_state end) }
