@@ -1,4 +1,4 @@
-"""The cases of the program, as files of crates/evloop/cases.
+"""The cases of programs, as files of crates/CRATE/cases; those of evloop where no crate is named.
 
 NAME is a standard input; NAME.stdout and NAME.stderr are what the program must write on it (no such file: nothing), and
 NAME.status is how it must end (no such file: 0). Where there is NAME.refused its number says which allocation is refused,
@@ -9,26 +9,31 @@ import os
 
 from command import ROOT, Outcome, read
 
-FOLDER = f"{ROOT}/crates/evloop/cases"
+EVLOOP = "evloop"
+FOLDER = f"{ROOT}/crates/{EVLOOP}/cases"
 
 
-def names():
+def folder(crate):
+    return f"{ROOT}/crates/{crate}/cases"
+
+
+def names(crate=EVLOOP):
     """The cases that any build of the program can be run on."""
-    files = os.listdir(FOLDER)
+    files = os.listdir(folder(crate)) if os.path.isdir(folder(crate)) else []
     return sorted(it for it in files if "." not in it and f"{it}.refused" not in files)
 
 
 def refused_names():
-    """The cases in which an allocation is refused."""
+    """The cases of evloop in which an allocation is refused."""
     return sorted(it.removesuffix(".refused") for it in os.listdir(FOLDER) if it.endswith(".refused"))
 
 
-def wanted(name):
-    path = f"{FOLDER}/{name}"
+def wanted(name, crate=EVLOOP):
+    path = f"{folder(crate)}/{name}"
     return Outcome(int(read(f"{path}.status", b"0")), read(f"{path}.stdout"), read(f"{path}.stderr"))
 
 
-def refused(name):
+def refused(name, crate=EVLOOP):
     """The words by which `rt try` refuses the case's allocation."""
-    number = read(f"{FOLDER}/{name}.refused").decode().split()
+    number = read(f"{folder(crate)}/{name}.refused").decode().split()
     return ["--fail-alloc", *number] if number else []

@@ -13,6 +13,8 @@ mod lists;
 #[cfg(test)]
 mod neighbours;
 #[cfg(test)]
+mod recorded;
+#[cfg(test)]
 mod requests;
 #[cfg(test)]
 mod runs;

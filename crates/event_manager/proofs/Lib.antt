@@ -17,6 +17,8 @@ pub mod UnknownIds
 pub mod SameExchanges
 pub mod SameSteps
 pub mod SameTrace
+pub mod RecordedCalls
+pub mod RecordedTrace
 pub mod TraceSoFar
 pub mod CallsApart
 pub mod OneStep

@@ -1,12 +1,13 @@
--- Two lists of exchanges that ask alike, from the same registrations and with the same poller calls, are the same.
-use Rattle.std.proofs.Common.{◌≡◌, ◌≢◌, ℕ, ℤ, refl, sym, ap, subst, ◌∙◌, List, [], ◌∷◌, ◌++◌, append_assoc, arith, Ok, Err}
-use Rattle.std.proofs.lemmas.List.{append_cancel_left}
+-- Two lists of exchanges that ask alike, from the same registrations and with poller calls of the same answers, are the same.
+use Rattle.std.proofs.Common.{◌≡◌, ◌≢◌, ℕ, ℤ, refl, sym, ap, subst, ◌∙◌, List, [], ◌∷◌, ◌++◌, map, append_assoc, arith, Ok, Err}
+use Rattle.std.proofs.lemmas.List.{append_cancel_left, map-append}
 use Rattle.std.proofs.lemmas.List.Elements.{Contains-append_left, Contains-append_right}
 use Rattle.dispatch_tables.specs.Event.{Event}
-use Rattle.event_loop.specs.PollerCall.{PollerCall}
+use Rattle.event_loop.specs.PollerCall.{PollerCall, Control, Wait}
 use Rattle.event_loop.specs.Registrations.{Registrations, IsFree}
 use Rattle.event_loop.specs.Exchange.{Exchanges, Answer, refused, requests_of, answers_of, call_for, IsAdditionRefused, IsRefusedByManager, ReachesPoller}
 use Rattle.event_loop.specs.Exchange.{Fits, by_manager, by_poller, by_agreement, ExchangesFit}
+use Rattle.event_loop.specs.Registry.{empty_event}
 use Rattle.event_loop.specs.declared.error.Error.TheVariants.{OutOfMemory}
 use Rattle.event_loop.specs.declared.events.Request.{Request}
 use Rattle.event_loop.specs.declared.events.Request.TheVariants.{Add, AddWithPriority, Modify, Remove}
@@ -23,15 +24,32 @@ memory_then xs ys m c = m (Contains-append_right xs ys (Err OutOfMemory) c)
 pub memory_at : (answer : Answer) (answers : List Answer) → HaveMemory (answer ∷ answers) → answer ≢ Err OutOfMemory
 memory_at answer answers m e = m (0, omega arith, e)
 
+-- a call of the poller without the event of a `ctl`, which who asks for it decides
+abbrev pub eventless : PollerCall → PollerCall
+eventless (Control operation fd event answer) = Control operation fd empty_event answer
+eventless (Wait ms capacity answer) = Wait ms capacity answer
+
+-- the same calls with the same answers, but for such events
+abbrev pub AreSameCalls : List PollerCall → List PollerCall → Type 0
+AreSameCalls calls others = map eventless calls ≡ map eventless others
+
 -- two lists in two parts each, with what follows
-pub in_parts : {A : Type 0} (first rest other others xs ys more behind : List A) → xs ≡ first ++ rest → ys ≡ other ++ others
-    → xs ++ more ≡ ys ++ behind → first ++ (rest ++ more) ≡ other ++ (others ++ behind)
+pub in_parts : (first rest other others xs ys more behind : List PollerCall) → xs ≡ first ++ rest → ys ≡ other ++ others
+    → AreSameCalls (xs ++ more) (ys ++ behind) → AreSameCalls (first ++ (rest ++ more)) (other ++ (others ++ behind))
 in_parts first rest other others xs ys more behind e f same =
-    sym (append_assoc first rest more) ∙ ap (λ l. l ++ more) (sym e) ∙ same ∙ ap (λ l. l ++ behind) f ∙ append_assoc other others behind
+    ap (map eventless) (sym (append_assoc first rest more) ∙ ap (λ l. l ++ more) (sym e)) ∙ same
+    ∙ ap (map eventless) (ap (λ l. l ++ behind) f ∙ append_assoc other others behind)
 
 -- what follows the same
-pub behind_same : {A : Type 0} (xs ys more behind : List A) → xs ≡ ys → xs ++ more ≡ ys ++ behind → more ≡ behind
-behind_same xs ys more behind e same = append_cancel_left ys more behind (ap (λ l. l ++ more) (sym e) ∙ same)
+pub behind_same : (xs ys more behind : List PollerCall) → xs ≡ ys → AreSameCalls (xs ++ more) (ys ++ behind) → AreSameCalls more behind
+behind_same xs ys more behind e same =
+    append_cancel_left (map eventless ys) (map eventless more) (map eventless behind)
+    (sym (map-append eventless ys more) ∙ ap (λ l. map eventless (l ++ more)) (sym e) ∙ same ∙ map-append eventless ys behind)
+
+-- the same calls under other names for their fronts
+with_same_front : (xs ys calls made rest more : List PollerCall) → xs ≡ calls → ys ≡ made
+    → AreSameCalls (xs ++ rest) (ys ++ more) → AreSameCalls (calls ++ rest) (made ++ more)
+with_same_front xs ys calls made rest more e f same = ap (λ l. map eventless (l ++ rest)) (sym e) ∙ same ∙ ap (λ l. map eventless (l ++ more)) f
 
 -- lists of the same requests ask alike
 pub asks_of_requests : (exchanges others : Exchanges) → requests_of exchanges ≡ requests_of others → AskAlike exchanges others
@@ -44,10 +62,11 @@ asks_of_requests (x ∷ xs) (y ∷ ys) e = (cc, λ same. asks_of_requests xs ys 
 abbrev refusing : Request → ℤ → PollerCall
 refusing request x = call_for request (Err (record { 0 = x }))
 
-same_number : (request : Request) (x y : ℤ) (rest more : List PollerCall) → refusing request x ∷ rest ≡ refusing request y ∷ more → x ≡ y
+same_number : (request : Request) (x y : ℤ) (rest more : List PollerCall) → AreSameCalls (refusing request x ∷ rest) (refusing request y ∷ more) → x ≡ y
 same_number request x y rest more e = let one : ◌≡◌ {A = Errno} (record { 0 = x }) (record { 0 = y }) = cc in ap (λ (errno : Errno). errno.0) one
 
-not_agreed : (request : Request) (x : ℤ) (rest more : List PollerCall) → refusing request x ∷ rest ≡ call_for request (Ok tt) ∷ more → ⊥
+not_agreed : (request : Request) (x : ℤ) (rest more : List PollerCall)
+    → AreSameCalls (refusing request x ∷ rest) (call_for request (Ok tt) ∷ more) → ⊥
 not_agreed request x rest more e = cc
 
 module _ (i : ℕ) (registrations : Registrations) where
@@ -77,7 +96,7 @@ module _ (i : ℕ) (registrations : Registrations) where
 
   -- one request, with any calls behind its own
   request_alike : (request : Request) (a b : Answer) (calls made rest more : List PollerCall) (after onto : Registrations)
-      → a ≢ Err OutOfMemory → b ≢ Err OutOfMemory → calls ++ rest ≡ made ++ more
+      → a ≢ Err OutOfMemory → b ≢ Err OutOfMemory → AreSameCalls (calls ++ rest) (made ++ more)
       → Fits i registrations request a calls after → Fits i registrations request b made onto → (a ≡ b) × (calls ≡ made) × (after ≡ onto)
   request_alike request a b calls made rest more after onto m n same (by_manager h c e) (by_manager k d f) =
       (one_refusal request a b (m, h) (n, k), c ∙ sym d, e ∙ sym f)
@@ -86,16 +105,16 @@ module _ (i : ℕ) (registrations : Registrations) where
   request_alike request a b calls made rest more after onto m n same (by_poller x h c r e) (by_manager k d f) = absurd (unasked request b (n, k) h)
   request_alike request a b calls made rest more after onto m n same (by_agreement h c r e) (by_manager k d f) = absurd (unasked request b (n, k) h)
   request_alike request a b calls made rest more after onto m n same (by_poller x h c r e) (by_poller y k d s f) =
-      let one = same_number request x y rest more (ap (λ l. l ++ rest) (sym c) ∙ same ∙ ap (λ l. l ++ more) d) in
+      let one = same_number request x y rest more (with_same_front _ _ _ _ rest more c d same) in
       (r ∙ ap refused one ∙ sym s, c ∙ ap (λ z. refusing request z ∷ []) one ∙ sym d, e ∙ sym f)
   request_alike request a b calls made rest more after onto m n same (by_poller x h c r e) (by_agreement k d s f) =
-      absurd (not_agreed request x rest more (ap (λ l. l ++ rest) (sym c) ∙ same ∙ ap (λ l. l ++ more) d))
+      absurd (not_agreed request x rest more (with_same_front _ _ _ _ rest more c d same))
   request_alike request a b calls made rest more after onto m n same (by_agreement h c r e) (by_poller y k d s f) =
-      absurd (not_agreed request y more rest (ap (λ l. l ++ more) (sym d) ∙ sym same ∙ ap (λ l. l ++ rest) c))
+      absurd (not_agreed request y more rest (with_same_front _ _ _ _ more rest d c (sym same)))
   request_alike request a b calls made rest more after onto m n same (by_agreement h c r e) (by_agreement k d s f) = (r ∙ sym s, c ∙ sym d, e ∙ sym f)
 
 pub exchanges_alike : (i : ℕ) (before : Registrations) (xs ys : Exchanges) (calls made rest more : List PollerCall) (after onto : Registrations)
-    → AskAlike xs ys → HaveMemory (answers_of xs) → HaveMemory (answers_of ys) → calls ++ rest ≡ made ++ more
+    → AskAlike xs ys → HaveMemory (answers_of xs) → HaveMemory (answers_of ys) → AreSameCalls (calls ++ rest) (made ++ more)
     → ExchangesFit i before xs calls after → ExchangesFit i before ys made onto → (xs ≡ ys) × (calls ≡ made) × (after ≡ onto)
 exchanges_alike i before [] [] calls made rest more after onto alike m n same h k = (refl, h.0 ∙ sym k.0, h.1 ∙ sym k.1)
 exchanges_alike i before [] (y ∷ ys) calls made rest more after onto alike m n same h k = absurd alike

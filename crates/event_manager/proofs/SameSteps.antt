@@ -1,27 +1,31 @@
--- Two steps that were asked for the same thing, from the same registry and with the same poller calls, are the same.
-use Rattle.std.proofs.Common.{◌≡◌, ◌≢◌, ℕ, suc, ◌+◌, ◌≤◌, ◌<◌, lt_irrefl, ◌⊎◌, inl, inr, refl, sym, ap, subst, ◌∙◌, Some, None, Option, Err}
-use Rattle.std.proofs.Common.{List, [], ◌∷◌, ◌++◌, length, take, arith, AllPairs, Contains}
+-- Two steps that were asked for the same thing, from the same registry and with poller calls of the same answers, are the same.
+use Rattle.std.proofs.Common.{◌≡◌, ◌≢◌, ℕ, ◌+◌, ◌≤◌, ◌<◌, lt_irrefl, ◌⊎◌, inl, inr, refl, sym, ap, subst, ◌∙◌, Some, None, Option, Err}
+use Rattle.std.proofs.Common.{List, [], ◌∷◌, ◌++◌, length, map, arith, AllPairs, Contains, Result}
 use Rattle.std.specs.List.{flat_map}
 use Rattle.std.specs.Cmp.{nat_eq_equiv}
 use Rattle.std.specs.FinMap.{insert}
-use Rattle.std.proofs.Math.Seq.{take-append_seam}
 use Rattle.std.proofs.lemmas.Bool.Decides.{Decides-eqb}
 use Rattle.std.proofs.lemmas.Map.Made.{length-le_from_is_member, is_member-Decides, IsDistinct-from_AllPairs}
-use Rattle.event_loop.specs.PollerCall.{PollerCall}
+use Rattle.event_loop.specs.PollerCall.{PollerCall, Control}
 use Rattle.event_loop.specs.Registrations.{Registrations}
 use Rattle.event_loop.specs.Exchange.{Exchanges, ExchangesFit, answers_of}
 use Rattle.event_loop.specs.Registry.{Registry, Step, Joined, NotJoined, Left, NotLeft, Replaced, NotReplaced, Requested, NotRequested}
-use Rattle.event_loop.specs.Registry.{Steps, AreDeletes, AreOwnedBy, ids_end, calls_of}
+use Rattle.event_loop.specs.Registry.{Steps, AreDeletes, AreOwnedBy, empty_event, ids_end, calls_of}
 use Rattle.event_loop.specs.Iteration.{AllSteps, calls_of_steps}
 use Rattle.event_loop.specs.declared.error.Error.{Error}
 use Rattle.event_loop.specs.declared.error.Error.TheVariants.{OutOfMemory, IdsUsedUp}
+use Rattle.vmm_sys.specs.declared.errno.Errno.{Errno}
+use Rattle.vmm_sys.specs.declared.epoll.ControlOperation.TheVariants as operation
 use Rattle.event_manager.specs.Trace.{Stepped, Matches}
 use Rattle.event_manager.specs.Determinism.{IsFunction, Asked, ToJoin, ToLeave, ToHold, ToRequest, asked_of, GoAlike, AreAlike, StepsAlike}
 use Rattle.event_manager.specs.Determinism.{HaveMemory, IsSameCall, answers_of_step}
 use Rattle.event_manager.specs.declared.calls.Call.{Call}
 use Rattle.event_manager.specs.declared.calls.Call.TheVariants as call
 use Rattle.event_manager.specs.declared.calls.Reply.{Reply}
-use Rattle.event_manager.proofs.SameExchanges.{memory_first, memory_then, memory_at, in_parts, behind_same, asks_of_requests, exchanges_alike}
+use Rattle.event_manager.proofs.SameExchanges.{memory_first, memory_then, memory_at, AreSameCalls, eventless, in_parts, behind_same, asks_of_requests, exchanges_alike}
+
+abbrev delete_of : ℕ → Result (Unit {0}) Errno → PollerCall
+delete_of fd answer = Control operation.Delete fd empty_event answer
 
 -- lists of the same elements, each once, are as long; so are the deletes of an id's descriptors
 no_longer : (xs ys : List ℕ) → AllPairs (λ a b. a ≢ b) xs → ((x : ℕ) → Contains xs x → Contains ys x) → length xs ≤ length ys
@@ -35,12 +39,19 @@ as_long i registrations xs ys h k =
     let b = no_longer ys xs k.0 (λ x c. (h.1 x).1 ((k.1 x).0 c)) in
     omega arith
 
-long_as_deletes : (fds : List ℕ) (calls : List PollerCall) → AreDeletes fds calls → length calls ≡ length fds
-long_as_deletes [] calls e = ap length e
-long_as_deletes (fd ∷ fds) calls (answer, rest, e, more) = ap length e ∙ ap suc (long_as_deletes fds rest more)
-
-as_many_first : {A : Type 0} (xs ys more behind : List A) → length xs ≡ length ys → xs ++ more ≡ ys ++ behind → xs ≡ ys
-as_many_first xs ys more behind long same = sym (take-append_seam xs more) ∙ (λ j. take (long j) (same j)) ∙ take-append_seam ys behind
+-- as many deletes at the front of the same calls are the same
+same_deletes : (fds gds : List ℕ) (calls made rest more : List PollerCall) → length fds ≡ length gds → AreDeletes fds calls → AreDeletes gds made
+    → AreSameCalls (calls ++ rest) (made ++ more) → calls ≡ made
+same_deletes [] [] calls made rest more long h k same = h ∙ sym k
+same_deletes [] (gd ∷ gds) calls made rest more long h k same = absurd (omega arith)
+same_deletes (fd ∷ fds) [] calls made rest more long h k same = absurd (omega arith)
+same_deletes (fd ∷ fds) (gd ∷ gds) calls made rest more long (answer, tail, e, h) (other, end, f, k) same =
+    let parts : eventless (delete_of fd answer) ∷ map eventless (tail ++ rest) ≡ eventless (delete_of gd other) ∷ map eventless (end ++ more) =
+    ap (λ l. map eventless (l ++ rest)) (sym e) ∙ same ∙ ap (λ l. map eventless (l ++ more)) f in
+    let first : delete_of fd answer ≡ delete_of gd other = cc in
+    let behind : AreSameCalls (tail ++ rest) (end ++ more) = cc in
+    let all = same_deletes fds gds tail end rest more (omega arith) h k behind in
+    e ∙ (λ j. first j ∷ all j) ∙ sym f
 
 module _ {V : Type 0} where
   -- what a call asks for, where it is one step
@@ -99,17 +110,17 @@ module _ {V : Type 0} where
 
   module _ (begins : V → Exchanges → V → Type 0) where
     left_alike : (before : Registry V) (id : ℕ) (value older : V) (calls made rest more : List PollerCall) (after onto : Registry V)
-        → calls ++ rest ≡ made ++ more → Steps begins before (Left id value calls) after → Steps begins before (Left id older made) onto
+        → AreSameCalls (calls ++ rest) (made ++ more) → Steps begins before (Left id value calls) after → Steps begins before (Left id older made) onto
         → (Left id value calls ≡ Left id older made) × (after ≡ onto)
     left_alike before id value older calls made rest more after onto same (fds, held, owned, deletes, e) (gds, has, own, deleted, f) =
         let one : value ≡ older = cc in
-        let long = long_as_deletes fds calls deletes ∙ as_long id before.registrations fds gds owned own ∙ sym (long_as_deletes gds made deleted) in
-        let all = as_many_first calls made rest more long same in
+        let long = as_long id before.registrations fds gds owned own in
+        let all = same_deletes fds gds calls made rest more long deletes deleted same in
         ((λ j. Left id (one j) (all j)), e ∙ sym f)
 
     module _ (function : IsFunction begins) where
       joined_alike : (before : Registry V) (value : V) (id : ℕ) (exchanges others : Exchanges) (calls made rest more : List PollerCall) (held kept : V)
-          (after onto : Registry V) → HaveMemory (answers_of exchanges) → HaveMemory (answers_of others) → calls ++ rest ≡ made ++ more
+          (after onto : Registry V) → HaveMemory (answers_of exchanges) → HaveMemory (answers_of others) → AreSameCalls (calls ++ rest) (made ++ more)
           → Steps begins before (Joined value id exchanges calls held) after → Steps begins before (Joined value id others made kept) onto
           → (Joined value id exchanges calls held ≡ Joined value id others made kept) × (after ≡ onto)
       joined_alike before value id exchanges others calls made rest more held kept after onto m n same
@@ -123,7 +134,7 @@ module _ {V : Type 0} where
 
       -- a step is decided by what it was asked for, and by its answers
       pub step_alike : (before : Registry V) (step other : Step V) (rest more : List PollerCall) (after onto : Registry V)
-          → AreAlike step other → HaveMemory (answers_of_step step) → HaveMemory (answers_of_step other) → calls_of step ++ rest ≡ calls_of other ++ more
+          → AreAlike step other → HaveMemory (answers_of_step step) → HaveMemory (answers_of_step other) → AreSameCalls (calls_of step ++ rest) (calls_of other ++ more)
           → Steps begins before step after → Steps begins before other onto → (step ≡ other) × (after ≡ onto)
       step_alike before (Joined value id exchanges calls held) (Joined newer i others made kept) rest more after onto a m n same h k =
           let one : newer ≡ value = let t = a.0 in cc in
@@ -168,7 +179,7 @@ module _ {V : Type 0} where
 
       pub steps_alike : (before : Registry V) (steps others : List (Step V)) (rest more : List PollerCall) (after onto : Registry V)
           → StepsAlike steps others → HaveMemory (flat_map answers_of_step steps) → HaveMemory (flat_map answers_of_step others)
-          → calls_of_steps steps ++ rest ≡ calls_of_steps others ++ more
+          → AreSameCalls (calls_of_steps steps ++ rest) (calls_of_steps others ++ more)
           → AllSteps begins before steps after → AllSteps begins before others onto → (steps ≡ others) × (after ≡ onto)
       steps_alike before [] [] rest more after onto a m n same h k = (refl, h ∙ sym k)
       steps_alike before [] (other ∷ others) rest more after onto a m n same h k = absurd a

@@ -18,7 +18,7 @@ use Rattle.event_manager.specs.Determinism.{HaveMemory, jobs_of_effect, jobs_in}
 use Rattle.event_manager.specs.Determinism.{answers_of_step, answers_of_positions, answers_of_jobs, answers_of_effect, answers_in}
 use Rattle.event_manager.specs.declared.calls.Call.{Call}
 use Rattle.event_manager.specs.declared.calls.Reply.{Reply}
-use Rattle.event_manager.proofs.SameExchanges.{memory_first, memory_then, in_parts, behind_same, exchanges_alike}
+use Rattle.event_manager.proofs.SameExchanges.{AreSameCalls, eventless, memory_first, memory_then, in_parts, behind_same, exchanges_alike}
 use Rattle.event_manager.proofs.SameSteps.{asked_by, same_asked, asked_for, asked_alike, step_alike, steps_alike}
 
 module _ {V : Type 0} (serves : V → Event → Exchanges → V → Type 0) where
@@ -27,7 +27,7 @@ module _ {V : Type 0} (serves : V → Event → Exchanges → V → Type 0) wher
 
   delivery_alike : DecidesAnswers → (before : Registry V) (earlier : List (Position V)) (event : Event) (later : List Event) (id : ℕ)
       (exchanges others : Exchanges) (calls made rest more : List PollerCall) (held kept : V) (after onto : Registry V)
-      → HaveMemory (answers_of exchanges) → HaveMemory (answers_of others) → calls ++ rest ≡ made ++ more
+      → HaveMemory (answers_of exchanges) → HaveMemory (answers_of others) → AreSameCalls (calls ++ rest) (made ++ more)
       → IsOutcome serves before earlier event later (To id exchanges calls held) after
       → IsOutcome serves before earlier event later (To id others made kept) onto
       → (To id exchanges calls held ≡ To id others made kept) × (after ≡ onto)
@@ -45,7 +45,7 @@ module _ {V : Type 0} (serves : V → Event → Exchanges → V → Type 0) wher
   outcome_alike : DecidesAnswers → (before : Registry V) (earlier : List (Position V)) (event : Event) (later : List Event)
       (outcome other : Outcome V) (rest more : List PollerCall) (after onto : Registry V)
       → HaveMemory (answers_of (exchanges_of outcome)) → HaveMemory (answers_of (exchanges_of other))
-      → calls_of_outcome outcome ++ rest ≡ calls_of_outcome other ++ more
+      → AreSameCalls (calls_of_outcome outcome ++ rest) (calls_of_outcome other ++ more)
       → IsOutcome serves before earlier event later outcome after → IsOutcome serves before earlier event later other onto
       → (outcome ≡ other) × (after ≡ onto)
   outcome_alike function before earlier event later Nobody Nobody rest more after onto m n same h k = (refl, h.1 ∙ sym k.1)
@@ -60,7 +60,7 @@ module _ {V : Type 0} (serves : V → Event → Exchanges → V → Type 0) wher
   positions_alike : DecidesAnswers → (before : Registry V) (earlier positions others : List (Position V)) (rest more : List PollerCall)
       (after onto : Registry V) → events_of positions ≡ events_of others
       → HaveMemory (answers_of_positions positions) → HaveMemory (answers_of_positions others)
-      → calls_of_positions positions ++ rest ≡ calls_of_positions others ++ more
+      → AreSameCalls (calls_of_positions positions ++ rest) (calls_of_positions others ++ more)
       → AreDispatched serves before earlier positions after → AreDispatched serves before earlier others onto → (positions ≡ others) × (after ≡ onto)
   positions_alike function before earlier [] [] rest more after onto events m n same h k = (refl, h ∙ sym k)
   positions_alike function before earlier [] (q ∷ others) rest more after onto events m n same h k = cc
@@ -90,7 +90,7 @@ module _ {V J R : Type 0} (begins : V → Exchanges → V → Type 0) (serves : 
   module _ (functions : AreFunctions begins serves may) where
     jobs_alike : (before : ManagerState V) (jobs others : List (JobRun V J R)) (rest more : List PollerCall) (after onto : ManagerState V)
         → jobs_of jobs ≡ jobs_of others → HaveMemory (answers_of_jobs jobs) → HaveMemory (answers_of_jobs others)
-        → calls_of_jobs jobs ++ rest ≡ calls_of_jobs others ++ more
+        → AreSameCalls (calls_of_jobs jobs ++ rest) (calls_of_jobs others ++ more)
         → AreRun begins serves may before jobs after → AreRun begins serves may before others onto → (jobs ≡ others) × (after ≡ onto)
     jobs_alike before [] [] rest more after onto taken m n same h k = (refl, h ∙ sym k)
     jobs_alike before [] (q ∷ others) rest more after onto taken m n same h k = cc
@@ -114,7 +114,7 @@ module _ {V J R : Type 0} (begins : V → Exchanges → V → Type 0) (serves : 
     wait_alike : (before : ManagerState V) (waited : Result (List Event) Errno) (positions others : List (Position V)) (jobs runs : List (JobRun V J R))
         (rest more : List PollerCall) (after onto : ManagerState V) → jobs_of jobs ≡ jobs_of runs
         → HaveMemory (answers_of_positions positions ++ answers_of_jobs jobs) → HaveMemory (answers_of_positions others ++ answers_of_jobs runs)
-        → (calls_of_positions positions ++ calls_of_jobs jobs) ++ rest ≡ (calls_of_positions others ++ calls_of_jobs runs) ++ more
+        → AreSameCalls ((calls_of_positions positions ++ calls_of_jobs jobs) ++ rest) ((calls_of_positions others ++ calls_of_jobs runs) ++ more)
         → IsAfterWait begins serves may before waited positions jobs after → IsAfterWait begins serves may before waited others runs onto
         → (positions ≡ others) × (jobs ≡ runs) × (after ≡ onto)
     wait_alike before (Err errno) positions others jobs runs rest more after onto taken m n same h k = (h.0 ∙ sym k.0, h.1 ∙ sym k.1, h.2 ∙ sym k.2)
@@ -133,13 +133,14 @@ module _ {V J R : Type 0} (begins : V → Exchanges → V → Type 0) (serves : 
         (one.0, all.0, all.1)
 
     same_wait : (ms time : ℤ) (capacity : ℕ) (waited answered : Result (List Event) Errno) (calls made : List PollerCall)
-        → Wait ms capacity waited ∷ calls ≡ Wait time capacity answered ∷ made → (ms ≡ time) × (waited ≡ answered) × (calls ≡ made)
+        → AreSameCalls (Wait ms capacity waited ∷ calls) (Wait time capacity answered ∷ made)
+        → (ms ≡ time) × (waited ≡ answered) × AreSameCalls calls made
     same_wait ms time capacity waited answered calls made e = (cc, cc, cc)
 
     effect_alike : (capacity : ℕ) (before : ManagerState V) (effect other : Effect V J R) (c d : Call V) (r q : Reply V) (rest more : List PollerCall)
         (after onto : ManagerState V) → IsSameCall c d → Matches effect c r → Matches other d q → jobs_of_effect effect ≡ jobs_of_effect other
         → HaveMemory (answers_of_effect effect) → HaveMemory (answers_of_effect other)
-        → calls_of_effect capacity effect ++ rest ≡ calls_of_effect capacity other ++ more
+        → AreSameCalls (calls_of_effect capacity effect ++ rest) (calls_of_effect capacity other ++ more)
         → HasEffect begins serves may before effect after → HasEffect begins serves may before other onto → (effect ≡ other) × (after ≡ onto)
     effect_alike capacity before (Stepped step) (Stepped other) c d r q rest more after onto asked matches matched jobs m n same h k =
         let alike = asked_alike J R step other c d r q asked matches matched in
@@ -172,23 +173,26 @@ module _ {V J R : Type 0} (begins : V → Exchanges → V → Type 0) (serves : 
     reply_alike (Stepped (NotRequested id)) c d r q m n = rw (m.2, n.2) refl
     reply_alike (Iterated iteration) c d r q m n = rw (m.1, n.1) refl
 
-    trace_alike : (capacity : ℕ) (before : ManagerState V) (trace replay : List (Entry V J R)) (after replayed : ManagerState V)
+    pub trace_alike : (capacity : ℕ) (before : ManagerState V) (trace replay : List (Entry V J R)) (rest more : List PollerCall) (after replayed : ManagerState V)
         → AllZip IsSameCall (map (λ entry. entry.call) trace) (map (λ entry. entry.call) replay) → jobs_in trace ≡ jobs_in replay
-        → HaveMemory (answers_in trace) → HaveMemory (answers_in replay) → calls_of_trace capacity trace ≡ calls_of_trace capacity replay
+        → HaveMemory (answers_in trace) → HaveMemory (answers_in replay)
+        → AreSameCalls (calls_of_trace capacity trace ++ rest) (calls_of_trace capacity replay ++ more)
         → IsTrace begins serves may before trace after → IsTrace begins serves may before replay replayed → IsTheRun trace replay after replayed
-    trace_alike capacity before [] [] after replayed asked jobs m n same h k = record { same_effects = refl; same_replies = tt; same_state = h ∙ sym k }
-    trace_alike capacity before [] (q ∷ replay) after replayed asked jobs m n same h k = absurd asked
-    trace_alike capacity before (p ∷ trace) [] after replayed asked jobs m n same h k = absurd asked
-    trace_alike capacity before (p ∷ trace) (q ∷ replay) after replayed asked jobs m n same (mid, matches, had, ours) (between, matched, has, theirs) =
+    trace_alike capacity before [] [] rest more after replayed asked jobs m n same h k = record { same_effects = refl; same_replies = tt; same_state = h ∙ sym k }
+    trace_alike capacity before [] (q ∷ replay) rest more after replayed asked jobs m n same h k = absurd asked
+    trace_alike capacity before (p ∷ trace) [] rest more after replayed asked jobs m n same h k = absurd asked
+    trace_alike capacity before (p ∷ trace) (q ∷ replay) rest more after replayed asked jobs m n same (mid, matches, had, ours) (between, matched, has, theirs) =
         let first = answers_of_effect p.effect in
         let front = answers_of_effect q.effect in
         let calls = calls_of_effect capacity p.effect in
         let made = calls_of_effect capacity q.effect in
-        let one = effect_alike capacity before p.effect q.effect p.call q.call p.reply q.reply (calls_of_trace capacity trace) (calls_of_trace capacity replay)
-        mid between asked.0 matches matched (head_is _ _ _ _ jobs) (memory_first first _ m) (memory_first front _ n) same had has in
+        let parts = in_parts calls (calls_of_trace capacity trace) made (calls_of_trace capacity replay) _ _ rest more refl refl same in
+        let one = effect_alike capacity before p.effect q.effect p.call q.call p.reply q.reply (calls_of_trace capacity trace ++ rest)
+        (calls_of_trace capacity replay ++ more) mid between asked.0 matches matched (head_is _ _ _ _ jobs)
+        (memory_first first _ m) (memory_first front _ n) parts had has in
         let theirs_here = subst (λ s. IsTrace begins serves may s replay replayed) (sym one.1) theirs in
-        let all = trace_alike capacity mid trace replay after replayed asked.1 (tail_is _ _ _ _ jobs) (memory_then first _ m) (memory_then front _ n)
-        (behind_same calls made _ _ (ap (calls_of_effect capacity) one.0) same) ours theirs_here in
+        let all = trace_alike capacity mid trace replay rest more after replayed asked.1 (tail_is _ _ _ _ jobs) (memory_then first _ m) (memory_then front _ n)
+        (behind_same calls made _ _ (ap (calls_of_effect capacity) one.0) parts) ours theirs_here in
         let matched_here = subst (λ x. Matches x q.call q.reply) (sym one.0) matched in
         record {
           same_effects = (λ j. one.0 j ∷ all.same_effects j);
@@ -200,4 +204,5 @@ module _ {V J R : Type 0} (begins : V → Exchanges → V → Type 0) (serves : 
         → IsTrace begins serves may before trace after → IsTrace begins serves may before replay replayed
         → IsReplay capacity trace replay → IsTheRun trace replay after replayed
     replay_is_the_run capacity before trace replay after replayed h k is =
-        trace_alike capacity before trace replay after replayed is.same_calls is.same_jobs is.memory is.memory_again is.same_poller_calls h k
+        trace_alike capacity before trace replay [] [] after replayed is.same_calls is.same_jobs is.memory is.memory_again
+        (ap (λ l. map eventless (l ++ [])) is.same_poller_calls) h k

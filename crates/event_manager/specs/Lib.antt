@@ -34,6 +34,7 @@ pub mod Guarantees
 pub mod Projection
 pub mod Trace
 pub mod Determinism
+pub mod RecordedRun
 pub mod Manager
 pub mod Account
 pub mod JobQueue

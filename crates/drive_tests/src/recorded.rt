@@ -1,0 +1,123 @@
+//! A list of calls, recorded and made again.
+
+use crate::expecting::{expect_ok, expect_same};
+use crate::subscribers::{Noting, make_noting};
+use crate::told::tell;
+use event_manager::{
+    Call, Ledgers, Naming, NoJob, Reply, Result, WithLedgers, drive, with_ledgers,
+};
+use fixtures::making::make;
+use fixtures::parts::{Parts, silent_parts};
+use std::alloc::Global;
+use std::process::Abort;
+use std::sync::Wait;
+use std::time::Clock;
+use vmm_sys::epoll::{ControlOperation, EpollEvent, EventSet};
+use vmm_sys::errno::Errno;
+use vmm_sys::record::RecordEntry;
+use vmm_sys::recording_poller::RecordingPoller;
+use vmm_sys::replay_poller::ReplayPoller;
+use vmm_sys::script_poller::ScriptPoller;
+
+/// A list of calls for a new manager of these parts.
+#[derive(Drop)]
+struct Listed<'a, R, P> {
+    rt: &'a R,
+    parts: Parts<P>,
+    calls: Vec<Call<Noting>>,
+}
+
+/// The replies, and what was recorded.
+type Recorded = (Vec<Reply<Noting>>, Vec<RecordEntry>);
+
+impl<R: Wait + Clock> WithLedgers for Listed<'_, R, RecordingPoller<ScriptPoller>> {
+    type Output = Result<Recorded>;
+
+    fn run<N: Naming + Send + Sync>(self, ledgers: Ledgers<N>) -> Result<Recorded> {
+        let Listed { rt, parts, calls } = self;
+        let alloc = parts.alloc;
+        let mut manager = make::<Noting, NoJob, N, _>(parts, ledgers)?;
+        let mut replies = Vec::new(alloc);
+        drive(&mut manager, calls, &mut replies, rt)?;
+        let mut record = Vec::new(alloc);
+        record.extend_from_slice(manager.poller().record())?;
+        Ok((replies, record))
+    }
+}
+
+/// The replies, and where the replay diverged.
+type Replayed = (Vec<Reply<Noting>>, Option<usize>);
+
+impl<R: Wait + Clock> WithLedgers for Listed<'_, R, ReplayPoller> {
+    type Output = Result<Replayed>;
+
+    fn run<N: Naming + Send + Sync>(self, ledgers: Ledgers<N>) -> Result<Replayed> {
+        let Listed { rt, parts, calls } = self;
+        let mut replies = Vec::new(parts.alloc);
+        let mut manager = make::<Noting, NoJob, N, _>(parts, ledgers)?;
+        drive(&mut manager, calls, &mut replies, rt)?;
+        Ok((replies, manager.poller().diverged()))
+    }
+}
+
+/// A poller that refuses descriptor 4 once, reports descriptor 3, and then refuses a wait.
+fn make_script<R: Abort>(rt: &R, alloc: Global) -> ScriptPoller {
+    let mut script = ScriptPoller::new(alloc);
+    let add = ControlOperation::Add;
+    expect_ok(rt, script.push_refusal(add, 4, Errno(12)));
+    let report = expect_ok(rt, vec![in alloc; EpollEvent::new(EventSet::IN, 3)]);
+    expect_ok(rt, script.push_report(report));
+    expect_ok(rt, script.push_fault(Errno(22)));
+    script
+}
+
+/// A join that adds descriptor 3 and this one, and two runs.
+fn join_and_run<R: Abort>(rt: &R, alloc: Global, second: u8) -> Vec<Call<Noting>> {
+    let joining = Call::Add(make_noting(alloc, 3, second));
+    expect_ok(rt, vec![in alloc; joining, Call::Run(0), Call::Run(0)])
+}
+
+/// What a manager over a recording of the script replies, and its record.
+fn record<R: Wait + Clock + Abort + Copy + Send + Drop>(rt: R, alloc: Global) -> Recorded {
+    let poller = RecordingPoller::new(make_script(&rt, alloc), alloc, 16);
+    let parts = silent_parts(rt, alloc, expect_ok(&rt, poller));
+    let listed = Listed {
+        rt: &rt,
+        parts: expect_ok(&rt, parts),
+        calls: join_and_run(&rt, alloc, 4),
+    };
+    expect_ok(&rt, with_ledgers(listed))
+}
+
+/// What a manager over the record replies whose subscriber adds this second descriptor, and where it diverged.
+fn replay<R: Wait + Clock + Abort + Copy + Send + Drop>(
+    rt: R,
+    alloc: Global,
+    record: Vec<RecordEntry>,
+    second: u8,
+) -> Replayed {
+    let parts = silent_parts(rt, alloc, ReplayPoller::new(record));
+    let listed = Listed {
+        rt: &rt,
+        parts: expect_ok(&rt, parts),
+        calls: join_and_run(&rt, alloc, second),
+    };
+    expect_ok(&rt, with_ledgers(listed))
+}
+
+#[test]
+fn a_recorded_list_is_made_again(rt: HostRuntime) {
+    let (replies, entries) = record(rt, rt.alloc());
+    let (replayed, diverged) = replay(rt, rt.alloc(), entries, 4);
+    let told = expect_ok(&rt, tell(rt.alloc(), replies));
+    expect_same(&rt, &expect_ok(&rt, tell(rt.alloc(), replayed)), &told);
+    expect_same(&rt, &diverged, &None);
+}
+
+// Behind the additions of the endpoint and of descriptor 3.
+#[test]
+fn another_list_diverges_at_its_first_other_call(rt: HostRuntime) {
+    let (_replies, entries) = record(rt, rt.alloc());
+    let (_replayed, diverged) = replay(rt, rt.alloc(), entries, 5);
+    expect_same(&rt, &diverged, &Some(2));
+}

@@ -1,0 +1,39 @@
+-- A recorded run that is made again over its record, without a divergence, is the same run.
+use Rattle.std.proofs.Common.{◌≡◌, false, sym, ap, subst, ◌∙◌, List, [], ◌++◌, map}
+use Rattle.std.proofs.lemmas.List.{append_cancel_left, append-nil}
+use base.Stored.{Gv}
+use Rattle.vmm_sys.specs.Poller.{CtlRelation, WaitRelation}
+use Rattle.vmm_sys.specs.Recording.{Recording}
+use Rattle.vmm_sys.specs.Replay.{Replay}
+use Rattle.dispatch_tables.specs.Event.{Event}
+use Rattle.event_loop.specs.Exchange.{Exchanges}
+use Rattle.event_loop.specs.Registry.{Step}
+use Rattle.event_loop.specs.LoopState.{LoopState, manager_state}
+use Rattle.event_loop.specs.PollerCall.{Leads}
+use Rattle.event_manager.specs.Trace.{Entry, IsTrace, calls_of_trace}
+use Rattle.event_manager.specs.Determinism.{AreFunctions, IsTheRun}
+use Rattle.event_manager.specs.RecordedRun.{BeginsAgain, IsMadeAgain}
+use Rattle.event_manager.proofs.SameExchanges.{AreSameCalls, eventless}
+use Rattle.event_manager.proofs.SameTrace.{trace_alike}
+use Rattle.event_manager.proofs.RecordedCalls.{recording_controls, recording_waits, recorded_calls, replay_controls, replay_waits, passed_calls, same_fronts}
+
+module _ {V J R P : Type 0} (begins : V → Exchanges → V → Type 0) (serves : V → Event → Exchanges → V → Type 0) (may : J → List (Step V) → R → Type 0) where
+  module _ (functions : AreFunctions begins serves may) (meaning : P → Gv) (may_ctl : CtlRelation) (may_wait : WaitRelation) where
+    pub made_again : (before after : LoopState V (Recording P)) (trace : List (Entry V J R)) (start end : LoopState V Replay) (again : List (Entry V J R))
+        → IsTrace begins serves may (manager_state before) trace (manager_state after)
+        → Leads (recording_controls meaning may_ctl may_wait) (recording_waits meaning may_ctl may_wait)
+        before.poller (calls_of_trace before.capacity trace) after.poller
+        → IsTrace begins serves may (manager_state start) again (manager_state end)
+        → Leads replay_controls replay_waits start.poller (calls_of_trace start.capacity again) end.poller
+        → BeginsAgain before after start → end.poller.diverged ≡ false → IsMadeAgain trace again
+        → IsTheRun trace again (manager_state after) (manager_state end)
+    made_again before after trace start end again ran led reran releads begin agreed is =
+        let kept = recorded_calls meaning may_ctl may_wait (calls_of_trace before.capacity trace) before.poller after.poller begin.complete led in
+        let passed = passed_calls (calls_of_trace start.capacity again) start.poller end.poller agreed releads in
+        let entries = append_cancel_left before.poller.entries kept.0 start.poller.ahead (sym kept.3 ∙ begin.ahead) in
+        let fronts = same_fronts (calls_of_trace before.capacity trace) (calls_of_trace start.capacity again) kept.0 passed.0 end.poller.ahead
+        kept.2 passed.2 (entries ∙ passed.3) in
+        let calls = subst (λ n. AreSameCalls (calls_of_trace before.capacity trace) (calls_of_trace n again ++ fronts.0)) begin.same_capacity fronts.1 in
+        trace_alike begins serves may functions before.capacity (manager_state before) trace again [] fronts.0 (manager_state after) (manager_state end)
+        is.same_calls is.same_jobs is.memory is.memory_again (ap (map eventless) (append-nil _) ∙ calls) ran
+        (subst (λ s. IsTrace begins serves may s again (manager_state end)) begin.same_state reran)

@@ -1,0 +1,9 @@
+use Rattle.event_loop.specs.LoopState.{no_job}
+use Rattle.event_manager.proofs.RecordedTrace.{made_again}
+use Rattle.event_manager.proofs.laws.a_recorded_loop_is_made_again.Goals as goal
+
+pub returns : goal.returns
+returns g c = λ before after calls replies trace start end calls_again replies_again again functions ran reran.
+    made_again g.S.MutEventSubscriber.begins g.S.MutEventSubscriber.serves no_job functions
+    g.P.Poller.meaning g.P.Poller.may_ctl g.P.Poller.may_wait
+    before after trace start end again ran.is_trace ran.led reran.is_trace reran.led
