@@ -96,7 +96,7 @@ fn parts_beside<R: Wait + Clock + Copy + Send + Drop>(
 
 #[test]
 fn descriptors_at_the_ends_are_removed_and_added_again(rt: HostRuntime) {
-    let fds = [0, 65535, 65536, 2147483647];
+    let fds = [0, 1048575, 1048576, 2147483647];
     let script = expect_ok(&rt, reports_of(rt.alloc(), &fds, 3));
     let parts = expect_ok(&rt, parts_beside(rt, rt.alloc(), script));
     let subscriber = expect_ok(&rt, make_requesting(rt.alloc(), &fds, 5, true));
