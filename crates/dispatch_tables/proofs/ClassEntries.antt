@@ -2,7 +2,7 @@
 use Rattle.std.proofs.Common.{◌≡◌, ℕ, zero, suc, ◌+◌, ◌<◌, ◌≤◌, ◌==◌, refl, sym, ap, subst, ◌∙◌, List, [], ◌∷◌, ◌++◌, Bool, true, false, cond, arith, length, get_or, set, take, map, filter, append_assoc}
 use Rattle.std.proofs.lemmas.List.{map-append, take_more_set, append-nil, length-append}
 use Rattle.std.proofs.lemmas.List.Elements.{filter_more}
-use Rattle.vmm_sys.specs.declared.epoll.EpollEvent.{EpollEvent}
+use Rattle.vmm_sys.specs.declared.entries.EpollEvent.{EpollEvent}
 use Rattle.dispatch_tables.specs.Priority.{number_of}
 use Rattle.dispatch_tables.specs.Event.{event_of_entry}
 use Rattle.dispatch_tables.specs.Ownership.{OwnerMap, class_in}

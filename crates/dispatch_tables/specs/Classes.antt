@@ -1,6 +1,6 @@
 -- The entries of a report with their classes, as the code lists them.
 use Rattle.std.specs.Prelude.{◌≡◌, ℕ, ◌==◌, List, map, filter, All}
-use Rattle.vmm_sys.specs.declared.epoll.EpollEvent.{EpollEvent}
+use Rattle.vmm_sys.specs.declared.entries.EpollEvent.{EpollEvent}
 use Rattle.dispatch_tables.specs.Priority.{number_of}
 use Rattle.dispatch_tables.specs.Event.{event_of_entry}
 use Rattle.dispatch_tables.specs.Ownership.{OwnerMap, class_in}

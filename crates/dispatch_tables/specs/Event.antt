@@ -2,7 +2,7 @@
 use Rattle.std.specs.Prelude.{◌≡◌, ℕ, ◌+◌, ◌*◌, ◌/◌, ◌%◌, ◌^◌, refl}
 use Rattle.std.specs.Coded.{Coded, code_by, coded×, coded_ℕ}
 use Rattle.std.proofs.Common.{arith}
-use Rattle.vmm_sys.specs.declared.epoll.EpollEvent.{EpollEvent}
+use Rattle.vmm_sys.specs.declared.entries.EpollEvent.{EpollEvent}
 use Rattle.vmm_sys.specs.EpollEvent.{word_of, set_of}
 use Rattle.vmm_sys.specs.EventSet.{bits_of}
 

@@ -13,7 +13,7 @@ use base.Stored.{Gv}
 use Rattle.vmm_sys.specs.declared.poller.Poller.{Ghosts}
 use Rattle.event_loop.specs.PollerRelations.{waits}
 use Rattle.event_loop.specs.RegistrationState.{all_pending, cancel_on}
-use Rattle.vmm_sys.specs.declared.epoll.EpollEvent.{EpollEvent}
+use Rattle.vmm_sys.specs.declared.entries.EpollEvent.{EpollEvent}
 use Rattle.event_loop.specs.ReadyList.{is_cancelled, ready_of}
 
 -- one more position: the entry with its mark, and then the others

@@ -2,7 +2,7 @@
 use Rattle.std.proofs.Common.{◌≡◌, ℕ, ◌+◌, ◌<◌, ◌≤◌, refl, sym, ap, subst, ◌∙◌, List, [], ◌∷◌, ◌++◌, Result, length, get_or, take}
 use Rattle.std.proofs.lemmas.List.{take_more, take_all}
 use Rattle.vmm_sys.specs.declared.errno.Errno.{Errno}
-use Rattle.vmm_sys.specs.declared.epoll.ControlOperation.TheVariants as operation
+use Rattle.vmm_sys.specs.declared.entries.ControlOperation.TheVariants as operation
 use Rattle.event_loop.specs.PollerCall.{PollerCall, Control, Controls, Waits, Leads}
 use Rattle.event_loop.specs.Registry.{AreDeletes, AreOwnedBy, empty_event}
 use Rattle.event_loop.specs.RegistrationState.{registrations_of, left_in}

@@ -8,8 +8,8 @@ use Rattle.event_loop.specs.Registrations.{Registrations, Owns, IsFree, not_on}
 use Rattle.dispatch_tables.specs.declared.priority.Priority.{Priority}
 use Rattle.dispatch_tables.specs.declared.priority.Priority.TheVariants.{Lowest}
 use Rattle.vmm_sys.specs.declared.errno.Errno.{Errno}
-use Rattle.vmm_sys.specs.declared.epoll.ControlOperation.{ControlOperation}
-use Rattle.vmm_sys.specs.declared.epoll.ControlOperation.TheVariants as operation
+use Rattle.vmm_sys.specs.declared.entries.ControlOperation.{ControlOperation}
+use Rattle.vmm_sys.specs.declared.entries.ControlOperation.TheVariants as operation
 use Rattle.event_loop.specs.declared.error.Error.{Error}
 use Rattle.event_loop.specs.declared.error.Error.TheVariants.{Epoll, FdAlreadyRegistered, OutOfMemory}
 use Rattle.event_loop.specs.declared.events.Request.{Request}

@@ -2,7 +2,7 @@
 use Rattle.std.specs.Prelude.{◌≡◌, ℕ, ◌≤◌, ℤ, List, [], ◌∷◌, length, Result, Ok, Err}
 use Rattle.dispatch_tables.specs.Event.{Event}
 use Rattle.vmm_sys.specs.declared.errno.Errno.{Errno}
-use Rattle.vmm_sys.specs.declared.epoll.ControlOperation.{ControlOperation}
+use Rattle.vmm_sys.specs.declared.entries.ControlOperation.{ControlOperation}
 
 -- one call of the poller, with its answer
 pub data PollerCall : Type 0 where

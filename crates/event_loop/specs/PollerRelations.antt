@@ -1,9 +1,9 @@
 -- How the manager calls a `vmm_sys` poller, by its stated relations.
 use Rattle.std.specs.Prelude.{◌≡◌, ℕ, ℤ, List, [], map, length, pos, Result, Ok, Err}
 use base.Stored.{Gv}
-use Rattle.vmm_sys.specs.declared.epoll.EpollEvent.{EpollEvent}
+use Rattle.vmm_sys.specs.declared.entries.EpollEvent.{EpollEvent}
 use Rattle.vmm_sys.specs.declared.errno.Errno.{Errno}
-use Rattle.vmm_sys.specs.declared.epoll.ControlOperation.{ControlOperation}
+use Rattle.vmm_sys.specs.declared.entries.ControlOperation.{ControlOperation}
 use Rattle.vmm_sys.specs.declared.poller.Poller.{Ghosts}
 use Rattle.dispatch_tables.specs.Event.{Event, word_of_parts, event_of_entry}
 use Rattle.vmm_sys.specs.EpollEvent.{event}

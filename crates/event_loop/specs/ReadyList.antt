@@ -2,7 +2,7 @@
 use Rattle.std.specs.Prelude.{ℕ, ◌^◌, ℤ, Bool, List, take, drop, map, ◌<◌, IsSome, Result, Ok, Err}
 use Rattle.vmm_sys.specs.declared.errno.Errno.{Errno}
 use Rattle.std.specs.FinMap as finite
-use Rattle.vmm_sys.specs.declared.epoll.EpollEvent.{EpollEvent}
+use Rattle.vmm_sys.specs.declared.entries.EpollEvent.{EpollEvent}
 use Rattle.vmm_sys.specs.EpollEvent.{fd_of}
 use Rattle.dispatch_tables.specs.Event.{Event, event_of_entry}
 use Rattle.dispatch_tables.specs.Ownership.{OwnerMap}

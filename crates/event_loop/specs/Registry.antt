@@ -10,7 +10,7 @@ use Rattle.event_loop.specs.Exchange.{Exchanges, ExchangesFit}
 use Rattle.vmm_sys.specs.declared.errno.Errno.{Errno}
 use Rattle.event_loop.specs.declared.error.Error.{Error}
 use Rattle.event_loop.specs.declared.error.Error.TheVariants.{IdsUsedUp, OutOfMemory}
-use Rattle.vmm_sys.specs.declared.epoll.ControlOperation.TheVariants as operation
+use Rattle.vmm_sys.specs.declared.entries.ControlOperation.TheVariants as operation
 
 -- the subscribers' values by id, the id that is given next, the registrations
 pub record Registry (V : Type 0) : Type 0 where

@@ -14,7 +14,7 @@ use Rattle.event_loop.specs.Iteration.{calls_of_outcome, calls_of_positions, ans
 use Rattle.event_loop.specs.LoopState.{LoopState, IsDispatchedAfter, new_loop}
 use Rattle.event_loop.specs.declared.error.Error.{Error}
 use Rattle.event_loop.specs.declared.error.Error.TheVariants.{OutOfMemory, Epoll}
-use Rattle.vmm_sys.specs.declared.epoll.ControlOperation.TheVariants as operation
+use Rattle.vmm_sys.specs.declared.entries.ControlOperation.TheVariants as operation
 use Rattle.event_loop.specs.declared.registry.Batch.{Batch}
 use Rattle.event_loop.specs.declared.registry.Registry.{Registry}
 

@@ -18,7 +18,7 @@ use vmm_sys::poller::Poller;
 pub trait EventPoller {
     ghost use Rattle.std.specs.Prelude.{ℕ, ℤ, List, Result};
     ghost use Rattle.vmm_sys.specs.declared.errno.Errno.{Errno};
-    ghost use Rattle.vmm_sys.specs.declared.epoll.ControlOperation.{ControlOperation};
+    ghost use Rattle.vmm_sys.specs.declared.entries.ControlOperation.{ControlOperation};
     ghost use Rattle.dispatch_tables.specs.Event.{Event};
 
     /// From a value, with an operation, a descriptor and an event: which answer `ctl` may give, and which value it

@@ -1,6 +1,6 @@
 -- A manager, seen by the definitions, and how one is made.
 use Rattle.std.specs.Prelude.{◌≡◌, ℕ, ◌<◌, ◌≤◌, unsigned_abs, Result, Ok, Err}
-use Rattle.vmm_sys.specs.declared.epoll.ControlOperation.TheVariants as operation
+use Rattle.vmm_sys.specs.declared.entries.ControlOperation.TheVariants as operation
 use Rattle.vmm_sys.specs.EventFd.{descriptor_of}
 use Rattle.vmm_sys.specs.declared.eventfd.EventFd.{EventFd}
 use Rattle.dispatch_tables.specs.Event.{Event}

@@ -17,7 +17,8 @@ fn three_places(alloc: Global) -> Result<SubscriberPlaces<u64>, AllocError> {
 fn a_left_place_is_given_again(rt: HostRuntime) {
     let mut places = expect_ok(&rt, three_places(rt.alloc()));
     let left = places.place_of(2);
-    expect_same(&rt, &places.remove(2), &Some(20));
+    expect_same(&rt, &places.remove(2).map(|left| left.1), &Some(20));
+    expect_same(&rt, &Some(places.next_place()), &left);
     let given = expect_ok(&rt, places.insert(4, 40));
     expect_same(&rt, &Some(given), &left);
     expect_same(&rt, &places.place_of(4), &left);
@@ -30,7 +31,8 @@ fn no_more_places_than_subscribers(rt: HostRuntime) {
         let place = expect_ok(&rt, places.insert(id, id));
         expect_same(&rt, &(place, place < 17), &(place, true));
         if id > 16 {
-            expect_same(&rt, &places.remove(id - 16), &Some(id - 16));
+            let removed = places.remove(id - 16).map(|left| left.1);
+            expect_same(&rt, &removed, &Some(id - 16));
         }
     }
 }

@@ -3,7 +3,7 @@ use Rattle.std.specs.Prelude.{◌<◌, ◌^◌, Result, IfOk, IfErr, FitsSigned}
 use Rattle.std.specs.Int.{w32}
 use Rattle.vmm_sys.specs.EpollEvent.{set_of, word_of}
 use Rattle.vmm_sys.specs.EventSet.{bits_of}
-use Rattle.vmm_sys.specs.declared.epoll.EpollEvent.{EpollEvent}
+use Rattle.vmm_sys.specs.declared.entries.EpollEvent.{EpollEvent}
 use Rattle.vmm_sys.specs.declared.errno.Errno.{Errno}
 use Rattle.vmm_sys.specs.declared.record.RecordEntry.{RecordEntry}
 use Rattle.vmm_sys.specs.declared.record.RecordEntry.TheVariants.{Control, Wait, Reported}

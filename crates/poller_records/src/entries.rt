@@ -3,7 +3,7 @@
 ghost use Rattle.std.specs.Prelude.{◌≡◌, ◌∷◌, Ok, IfOk, codes};
 ghost use Rattle.poller_records.specs.Held.{IsEntry, IsEvent};
 ghost use Rattle.poller_records.specs.Lines.{contents, event_fields, fields_of, operation_word};
-ghost use Rattle.vmm_sys.specs.declared.epoll.EpollEvent.{EpollEvent};
+ghost use Rattle.vmm_sys.specs.declared.entries.EpollEvent.{EpollEvent};
 ghost use Rattle.vmm_sys.specs.declared.record.RecordEntry.{RecordEntry};
 
 use crate::answers::{control_answer, wait_answer};

@@ -2,8 +2,8 @@
 use Rattle.std.proofs.Common.{ℕ, ℤ, ◌≡◌, List, refl, ap, subst}
 use Rattle.std.specs.Prelude.{Result}
 use base.Stored.{Gv}
-use Rattle.vmm_sys.specs.declared.epoll.EpollEvent.{EpollEvent}
-use Rattle.vmm_sys.specs.declared.epoll.ControlOperation.{ControlOperation}
+use Rattle.vmm_sys.specs.declared.entries.EpollEvent.{EpollEvent}
+use Rattle.vmm_sys.specs.declared.entries.ControlOperation.{ControlOperation}
 use Rattle.vmm_sys.specs.declared.errno.Errno.{Errno}
 use Rattle.vmm_sys.specs.Poller.{CtlRelation, WaitRelation}
 use Rattle.vmm_sys.specs.Record.{entries_of_ctl, entries_of_wait}

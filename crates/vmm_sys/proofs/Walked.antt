@@ -5,7 +5,7 @@ use Rattle.std.proofs.lemmas.Bool.{cases_lt, cases_Bool, false≢true}
 use Rattle.std.proofs.lemmas.List.{get_or_past, get_or_append_left, get_or-append_right, set_at, append-nil, map-append, length-append, length-map, length_push, drop_more, nil_from_length}
 use Rattle.std.proofs.lemmas.List.Elements.{filter-append}
 use Rattle.std.proofs.lemmas.Option.{get_or_from_slice_get}
-use Rattle.vmm_sys.specs.declared.epoll.EpollEvent.{EpollEvent}
+use Rattle.vmm_sys.specs.declared.entries.EpollEvent.{EpollEvent}
 use Rattle.vmm_sys.specs.declared.table.Interest.{Interest}
 use Rattle.vmm_sys.specs.Lists.{held}
 use Rattle.vmm_sys.specs.Interests.{InterestsState, slot_at, passes, AreMarked}

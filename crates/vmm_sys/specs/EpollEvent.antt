@@ -3,7 +3,7 @@ use Rattle.std.specs.Prelude.{ℕ, ℤ, ◌%◌, ◌^◌}
 use Rattle.std.specs.Int.{cast_signed}
 use mir.Syntax.{w32}
 use Rattle.vmm_sys.specs.declared.event_set.EventSet.{EventSet}
-use Rattle.vmm_sys.specs.declared.epoll.EpollEvent.{EpollEvent}
+use Rattle.vmm_sys.specs.declared.entries.EpollEvent.{EpollEvent}
 
 -- the event of a set and a word
 abbrev pub event : EventSet → ℕ → EpollEvent

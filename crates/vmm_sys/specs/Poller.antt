@@ -1,8 +1,8 @@
 -- What a poller's wait has written, and what a poller states of its calls.
 use Rattle.std.specs.Prelude.{ℕ, ℤ, List, [], Result, Ok, Err, take}
 use base.Stored.{Gv}
-use Rattle.vmm_sys.specs.declared.epoll.ControlOperation.{ControlOperation}
-use Rattle.vmm_sys.specs.declared.epoll.EpollEvent.{EpollEvent}
+use Rattle.vmm_sys.specs.declared.entries.ControlOperation.{ControlOperation}
+use Rattle.vmm_sys.specs.declared.entries.EpollEvent.{EpollEvent}
 use Rattle.vmm_sys.specs.declared.errno.Errno.{Errno}
 
 -- the entries that a wait with this answer reported in the buffer

@@ -1,8 +1,8 @@
 -- A poller that answers as a record says, while the calls are those of the record.
 use Rattle.std.specs.Prelude.{ℕ, ℤ, Bool, true, false, ◌+◌, ◌≡◌, ◌⊎◌, if◌then◌else◌, List, [], ◌++◌, length, Option, Some, None, Result, Err, refl}
 use Rattle.std.specs.Coded.{Coded, code_by, coded_ℕ, coded_bool, coded_list, coded×}
-use Rattle.vmm_sys.specs.declared.epoll.EpollEvent.{EpollEvent}
-use Rattle.vmm_sys.specs.declared.epoll.ControlOperation.{ControlOperation}
+use Rattle.vmm_sys.specs.declared.entries.EpollEvent.{EpollEvent}
+use Rattle.vmm_sys.specs.declared.entries.ControlOperation.{ControlOperation}
 use Rattle.vmm_sys.specs.declared.errno.Errno.{Errno}
 use Rattle.vmm_sys.specs.declared.errno.TheConstants.Errno.{EIO}
 use Rattle.vmm_sys.specs.declared.record.RecordEntry.{RecordEntry}

@@ -4,9 +4,9 @@ use Rattle.std.specs.declared.alloc.Global.{Global}
 use Rattle.std.specs.Ordering.{int_eq}
 use Rattle.std.specs.Coded.{Coded, code_by, coded_ℤ, coded_list, coded×, coded_result}
 use base.Stored.{Gv}
-use Rattle.vmm_sys.specs.declared.epoll.EpollEvent.{EpollEvent}
-use Rattle.vmm_sys.specs.declared.epoll.ControlOperation.{ControlOperation}
-use Rattle.vmm_sys.specs.declared.epoll.ControlOperation.TheVariants.{Add, Modify, Delete}
+use Rattle.vmm_sys.specs.declared.entries.EpollEvent.{EpollEvent}
+use Rattle.vmm_sys.specs.declared.entries.ControlOperation.{ControlOperation}
+use Rattle.vmm_sys.specs.declared.entries.ControlOperation.TheVariants.{Add, Modify, Delete}
 use Rattle.vmm_sys.specs.declared.errno.Errno.{Errno}
 use Rattle.vmm_sys.specs.declared.errno.TheConstants.Errno.{EINVAL}
 use Rattle.vmm_sys.specs.declared.script_poller.Refusal.{Refusal}

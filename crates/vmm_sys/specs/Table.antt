@@ -1,9 +1,9 @@
 -- The in-process table: what it holds, and what each call answers and leaves.
 use Rattle.std.specs.Prelude.{ℕ, ℤ, pos, negsuc, ◌+◌, ◌≡◌, ◌⊎◌, Bool, false, not, ◌==◌, nat_lt, nat_le, if◌then◌else◌, List, [], ◌∷◌, ◌++◌, length, map, filter, take, drop, remove, slice_get, slice_set, position, Option, Some, None, Result, Ok, Err, IsOk}
 use Rattle.std.specs.Int.RustNames.{bit_and, bit_or}
-use Rattle.vmm_sys.specs.declared.epoll.EpollEvent.{EpollEvent}
-use Rattle.vmm_sys.specs.declared.epoll.ControlOperation.{ControlOperation}
-use Rattle.vmm_sys.specs.declared.epoll.ControlOperation.TheVariants.{Add, Modify, Delete}
+use Rattle.vmm_sys.specs.declared.entries.EpollEvent.{EpollEvent}
+use Rattle.vmm_sys.specs.declared.entries.ControlOperation.{ControlOperation}
+use Rattle.vmm_sys.specs.declared.entries.ControlOperation.TheVariants.{Add, Modify, Delete}
 use Rattle.vmm_sys.specs.declared.event_set.EventSet.{EventSet}
 use Rattle.vmm_sys.specs.declared.errno.Errno.{Errno}
 use Rattle.vmm_sys.specs.declared.errno.TheConstants.Errno.{EBADF, EINVAL, EEXIST, ENOENT, EAGAIN, EMFILE, ENOMEM}

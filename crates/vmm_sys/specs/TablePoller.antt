@@ -3,8 +3,8 @@ use Rattle.std.specs.Prelude.{ℕ, ℤ, ◌≡◌, ◌⊎◌, List, Result, refl
 use Rattle.std.specs.Coded.{Coded, code_by, coded_ℕ, coded_list, coded×, coded⊎}
 use mathlib.Core.Logic.{inl, inr}
 use base.Stored.{Gv}
-use Rattle.vmm_sys.specs.declared.epoll.EpollEvent.{EpollEvent}
-use Rattle.vmm_sys.specs.declared.epoll.ControlOperation.{ControlOperation}
+use Rattle.vmm_sys.specs.declared.entries.EpollEvent.{EpollEvent}
+use Rattle.vmm_sys.specs.declared.entries.ControlOperation.{ControlOperation}
 use Rattle.vmm_sys.specs.declared.event_set.EventSet.{EventSet}
 use Rattle.vmm_sys.specs.declared.errno.Errno.{Errno}
 use Rattle.vmm_sys.specs.declared.table.Source.{Source}

@@ -1,128 +1,17 @@
-//! What a poller is given and what it reports, and the poller over a shared table.
+//! The poller over a shared table. What a poller is given and what it reports is handed out here too, as in `vmm-sys-util`.
 
-ghost use Rattle.std.specs.Prelude.{◌≡◌, ◌≤ℤ◌, pos, ℤ, IsOkUnless};
-ghost use Rattle.std.specs.Arc.{arc_value};
+ghost use Rattle.std.specs.Prelude.{IsOkUnless};
 ghost use base.Stored.{gnil};
 ghost use Rattle.vmm_sys.specs.SharedTable.{MayCtl, MayWait};
 
+pub use crate::entries::{AsRawFd, ControlOperation, EpollEvent, RawFd};
 use crate::errno::Errno;
 pub use crate::event_set::EventSet;
 use crate::poller::Poller;
 use crate::shared_table::{TableOwner, another_owner, new_table};
 use std::alloc::Global;
-use std::rc::Rc;
-use std::sync::{Arc, Wait};
+use std::sync::Wait;
 use std::time::{Clock, Duration};
-
-/// A file descriptor. Numbers from 0 up stand for descriptors, others for none.
-pub type RawFd = i32;
-
-/// What has a file descriptor.
-pub trait AsRawFd {
-    /// The descriptor of a value.
-    ghost descriptor: { Self → ℤ };
-
-    /// Its descriptor, from 0 up.
-    fn as_raw_fd(&self) -> RawFd
-        ensures descriptor { result ≡ descriptor self.now }
-        ensures from_0_up { pos 0 ≤ℤ result };
-}
-
-/// That of what is referred to.
-impl<T: AsRawFd> AsRawFd for &T {
-    ghost descriptor = { λ v. T.descriptor v.now };
-
-    fn as_raw_fd(&self) -> RawFd {
-        (**self).as_raw_fd()
-    }
-}
-
-/// That of what is shared.
-impl<T: AsRawFd> AsRawFd for Arc<T> {
-    ghost descriptor = { λ v. T.descriptor (arc_value v) };
-
-    fn as_raw_fd(&self) -> RawFd {
-        (**self).as_raw_fd()
-    }
-}
-
-/// That of what is shared.
-impl<T: AsRawFd> AsRawFd for Rc<T> {
-    ghost descriptor = { λ v. T.descriptor v.value };
-
-    fn as_raw_fd(&self) -> RawFd {
-        (**self).as_raw_fd()
-    }
-}
-
-/// That of what is in the box.
-impl<T: AsRawFd> AsRawFd for Box<T> {
-    ghost descriptor = { λ v. T.descriptor v.value };
-
-    fn as_raw_fd(&self) -> RawFd {
-        (**self).as_raw_fd()
-    }
-}
-
-/// What is done to an interest list.
-#[derive(Clone, Copy, PartialEq, Eq, Debug)]
-pub enum ControlOperation {
-    /// An interest is put in.
-    Add,
-    /// The wanted set and the word of an interest are replaced.
-    Modify,
-    /// An interest is taken out.
-    Delete,
-}
-
-/// An entry of a report, or what is wanted of a descriptor: a set of events, and a word of the
-/// caller's own.
-#[derive(Clone, Copy, PartialEq, Eq, Debug)]
-pub struct EpollEvent {
-    set: EventSet,
-    word: u64,
-}
-
-impl EpollEvent {
-    ghost use Rattle.vmm_sys.specs.EventSet.{bits_of};
-    ghost use Rattle.vmm_sys.specs.EpollEvent.{set_of, word_of, fd_of, event};
-
-    /// An event of this set and word.
-    pub fn new(set: EventSet, word: u64) -> EpollEvent
-        ensures { result ≡ event set word }
-    {
-        EpollEvent { set, word }
-    }
-
-    /// The bits of the set.
-    pub fn events(&self) -> u32
-        ensures { result ≡ bits_of (set_of self.now) }
-    {
-        self.set.bits()
-    }
-
-    /// The set.
-    pub fn event_set(&self) -> EventSet
-        ensures { result ≡ set_of self.now }
-    {
-        self.set
-    }
-
-    /// The word.
-    pub fn data(&self) -> u64
-        ensures { result ≡ word_of self.now }
-    {
-        self.word
-    }
-
-    /// The low 32 bits of the word read as a signed number: the descriptor, where the word was
-    /// packed with one.
-    pub fn fd(&self) -> RawFd
-        ensures { result ≡ fd_of self.now }
-    {
-        ((self.word & 0xffff_ffff) as u32).cast_signed()
-    }
-}
 
 /// A poller over a [`Table`](crate::table::Table) that others share: other `Epoll`s,
 /// [`EventFd`](crate::eventfd::EventFd)s and [`Line`](crate::line::Line)s, on this thread and on

@@ -9,6 +9,7 @@
 //! [`line::Line`] for its descriptors.
 #![tactic(auto)]
 
+mod entries;
 pub mod epoll;
 pub mod errno;
 pub mod event_set;

@@ -2,8 +2,10 @@
 
 ghost use Rattle.std.specs.Prelude.{◌≡◌, ◌≤ℤ◌, pos, IfErr, IfOk};
 
-use crate::epoll::{AsRawFd, Epoll, EventSet, RawFd};
+use crate::entries::{AsRawFd, RawFd};
+use crate::epoll::Epoll;
 use crate::errno::Errno;
+use crate::event_set::EventSet;
 use crate::shared_table::{TableOwner, another_owner};
 use std::sync::Wait;
 

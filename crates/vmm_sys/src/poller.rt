@@ -3,11 +3,11 @@
 ghost use Rattle.std.specs.Prelude.{ℕ, ℤ, ◌≤◌, length, List, IfOk, Result};
 ghost use base.Stored.{Gv};
 ghost use Rattle.vmm_sys.specs.Poller.{reported};
-ghost use Rattle.vmm_sys.specs.declared.epoll.ControlOperation.{ControlOperation};
-ghost use Rattle.vmm_sys.specs.declared.epoll.EpollEvent.{EpollEvent};
+ghost use Rattle.vmm_sys.specs.declared.entries.ControlOperation.{ControlOperation};
+ghost use Rattle.vmm_sys.specs.declared.entries.EpollEvent.{EpollEvent};
 ghost use Rattle.vmm_sys.specs.declared.errno.Errno.{Errno};
 
-use crate::epoll::{ControlOperation, EpollEvent, RawFd};
+use crate::entries::{ControlOperation, EpollEvent, RawFd};
 use crate::errno::Errno;
 
 /// Keeps an interest list, and reports which of its descriptors have something.

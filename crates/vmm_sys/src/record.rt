@@ -1,6 +1,6 @@
 //! What a record of a poller's calls consists of.
 
-use crate::epoll::{ControlOperation, EpollEvent, RawFd};
+use crate::entries::{ControlOperation, EpollEvent, RawFd};
 use crate::errno::Errno;
 
 /// An entry of a record: a call of a poller with its answer, or an event that the wait before it reported.

@@ -3,7 +3,7 @@
 ghost use Rattle.std.specs.Prelude.{◌≡◌, ◌≢◌, ◌↔◌, ◌+◌, ◌≤◌, ℕ, true, false, List, [], ◌++◌, map, drop, length, Result, if◌then◌else◌, IsTrue, IfSome, IfNone, IfOk, OnErr};
 ghost use Rattle.std.specs.List.{list_all};
 ghost use base.Stored.{Gv};
-ghost use Rattle.vmm_sys.specs.declared.epoll.EpollEvent.{EpollEvent};
+ghost use Rattle.vmm_sys.specs.declared.entries.EpollEvent.{EpollEvent};
 ghost use Rattle.vmm_sys.specs.declared.errno.Errno.{Errno};
 ghost use Rattle.vmm_sys.specs.declared.record.RecordEntry.{RecordEntry};
 ghost use Rattle.vmm_sys.specs.declared.record.RecordEntry.TheVariants.{Reported};
@@ -14,7 +14,7 @@ ghost use Rattle.vmm_sys.specs.Recording as recording;
 ghost use Rattle.vmm_sys.specs.Recording.{Recording, recording_code};
 ghost use Rattle.vmm_sys.specs.Replay.{start_of, divergence, divergence_index, replay_code, MayCtl, MayWait};
 
-use crate::epoll::{ControlOperation, EpollEvent, RawFd};
+use crate::entries::{ControlOperation, EpollEvent, RawFd};
 use crate::errno::Errno;
 use crate::poller::Poller;
 use crate::record::RecordEntry;

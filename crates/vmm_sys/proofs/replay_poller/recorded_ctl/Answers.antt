@@ -2,7 +2,7 @@ use Rattle.std.proofs.Common.{rules, ◌≡◌, ◌∷◌, refl, sym, ◌∙◌,
 use Rattle.std.proofs.lemmas.Int.{to_z-of_z}
 use denote.Enum.Bare.{same_true}
 use mir.Syntax.{w32}
-use Rattle.vmm_sys.specs.contracts.epoll.ControlOperation.{the_type}
+use Rattle.vmm_sys.specs.contracts.entries.ControlOperation.{the_type}
 use Rattle.vmm_sys.specs.declared.record.RecordEntry.TheVariants.{Control}
 use Rattle.vmm_sys.proofs.ReplayLemmas.{first-entry, same-event}
 use Rattle.vmm_sys.proofs.replay_poller.recorded_ctl.Goals as goal

@@ -1,5 +1,5 @@
 use Rattle.std.proofs.Common.{refl, inr, ap, ◌∙◌, [], ◌∷◌, Ok, Err}
-use Rattle.vmm_sys.specs.declared.epoll.ControlOperation.TheVariants as operation
+use Rattle.vmm_sys.specs.declared.entries.ControlOperation.TheVariants as operation
 use Rattle.event_loop.specs.Exchange.{by_manager, by_poller, by_agreement}
 use Rattle.event_loop.specs.PollerCall.{Control}
 use Rattle.event_loop.specs.declared.events.Request.TheVariants.{AddWithPriority}
