@@ -3,7 +3,7 @@ use Rattle.std.proofs.Common.{◌≡◌, pos, refl, sym, ap, ap₂, ◌∙◌, B
 use Rattle.std.specs.Prelude.{Ok, Err, ◌&&◌, if◌then◌else◌}
 use Rattle.std.proofs.lemmas.List.{append-nil}
 use base.Stored.{Gv}
-use Rattle.vmm_sys.specs.declared.epoll.EpollEvent.{EpollEvent}
+use Rattle.vmm_sys.specs.declared.entries.EpollEvent.{EpollEvent}
 use Rattle.vmm_sys.specs.declared.record.RecordEntry.{RecordEntry}
 use Rattle.vmm_sys.specs.declared.record.RecordEntry.TheVariants.{Reported}
 use Rattle.vmm_sys.specs.Poller.{CtlRelation, WaitRelation}

@@ -15,7 +15,7 @@ use Rattle.event_loop.specs.Iteration.{AllSteps, calls_of_steps}
 use Rattle.event_loop.specs.declared.error.Error.{Error}
 use Rattle.event_loop.specs.declared.error.Error.TheVariants.{OutOfMemory, IdsUsedUp}
 use Rattle.vmm_sys.specs.declared.errno.Errno.{Errno}
-use Rattle.vmm_sys.specs.declared.epoll.ControlOperation.TheVariants as operation
+use Rattle.vmm_sys.specs.declared.entries.ControlOperation.TheVariants as operation
 use Rattle.event_manager.specs.Trace.{Stepped, Matches}
 use Rattle.event_manager.specs.Determinism.{IsFunction, Asked, ToJoin, ToLeave, ToHold, ToRequest, asked_of, GoAlike, AreAlike, StepsAlike}
 use Rattle.event_manager.specs.Determinism.{HaveMemory, IsSameCall, answers_of_step}
