@@ -135,11 +135,24 @@ impl Interests {
         ensures within { slot < length self.old.marks }
         ensures marked { self.new ≡ record self.old { marks = slice_set self.old.marks slot ready } }
     {
+        if self.ready.contains(slot) == ready {
+            return;
+        }
         if ready {
             self.ready.insert(slot);
         } else {
             self.ready.remove(slot);
         }
+    }
+
+    // Marks a slot in use as ready.
+    #[inline(always)]
+    fn mark_ready(&mut self, slot: usize)
+        requires { slot < length self.old.slots }
+        ensures within { slot < length self.old.marks }
+        ensures marked { self.new ≡ record self.old { marks = slice_set self.old.marks slot true } }
+    {
+        self.ready.insert(slot);
     }
 
     /// Puts an interest in as the last one.
@@ -154,7 +167,9 @@ impl Interests {
         self.leave_unused(1);
         let slot = self.slots.len();
         self.put_last(interest);
-        self.mark(slot, ready);
+        if ready {
+            self.mark_ready(slot);
+        }
     }
 
     // Puts an interest into the next slot.

@@ -81,15 +81,12 @@ impl ReadySet {
         }
     }
 
-    /// Takes a number out, if it is in the set.
+    /// Takes a number out.
     #[inline(always)]
     pub(super) fn remove(&mut self, number: usize)
         requires { number < length self.old }
         ensures { self.new ≡ slice_set self.old number false }
     {
-        if !self.numbers.contains(number) {
-            return;
-        }
         if self.numbers.clear(number) {
             let ReadySet {
                 words,

@@ -1,6 +1,6 @@
-use Rattle.std.proofs.Common.{◌≡◌, ◌<◌, ◌/◌, Bool, false, List, length, set, sym, subst, arith}
+use Rattle.std.proofs.Common.{◌<◌, Bool, List, length, sym, subst, arith}
 use Rattle.std.proofs.lemmas.Bool.{iff_false}
-use Rattle.vmm_sys.proofs.Marks.{below-clear, bare_set, clear_last, clear_further}
+use Rattle.vmm_sys.proofs.Marks.{below-clear, clear_last, clear_further}
 use Rattle.vmm_sys.proofs.table.ready_set.ReadySet.remove.Goals as goal
 
 pub clear_word-requires-clause-word : goal.clear_word-requires-clause-word
@@ -36,8 +36,3 @@ invariant_of-self-else-clear c =
       },
       below-clear s.numbers s.lowest n c.self.invariant.1,
     )
-
-pub returns-then-not-contains : goal.returns-then-not-contains
-returns-then-not-contains c =
-    let n = c.args.number in
-    subst (λ l. l ≡ set l n false) c.self.view_is (bare_set c.self.inside.numbers n (iff_false c.contains.ensures c.if-not-contains.true))

@@ -1,4 +1,4 @@
-use Rattle.std.proofs.Common.{◌≡◌, ◌*◌, ◌/◌, ◌%◌, ◌<◌, ◌^◌, true, length, eqb, ap, subst, arith}
+use Rattle.std.proofs.Common.{◌≡◌, ◌/◌, ◌%◌, ◌<◌, ◌^◌, true, length, eqb, ap, subst, arith}
 use Rattle.std.specs.Prelude.{◌↔◌, bit_and}
 use Rattle.std.proofs.lemmas.List.{get_or_read}
 use Rattle.vmm_sys.specs.ReadySet.{IsMarked}
