@@ -1,7 +1,7 @@
 -- Rows of marks, and rows that mark the words of others.
 use Rattle.std.proofs.Common.{◌≡◌, ◌≢◌, ℕ, zero, suc, ◌+◌, ◌*◌, ◌/◌, ◌<◌, ◌≤◌, Bool, true, false, List, [], ◌∷◌, ◌++◌, length, set, replicate, min, max, Option, Some, None, refl, sym, ap, ◌∙◌, subst, inl, inr, arith, length-set}
-use Rattle.std.specs.Prelude.{◌⊎◌, MatchOption, Result, Ok, Err, OnOk, OnErr, slice_get}
-use Rattle.std.proofs.lemmas.Bool.{cases_lt, cases_eq}
+use Rattle.std.specs.Prelude.{◌⊎◌, ◌↔◌, MatchOption, Result, Ok, Err, OnOk, OnErr, slice_get}
+use Rattle.std.proofs.lemmas.Bool.{cases_lt, cases_eq, iff_false}
 use Rattle.std.proofs.Math.Nat.{min-le_left, min-le_right, le-max_left, max-le}
 use Rattle.std.specs.Option.{unwrap_or}
 use Rattle.std.proofs.lemmas.List.{get_or-set_same, length-append, length-replicate, append-nil}
@@ -20,6 +20,11 @@ pub marked_set : (marks : List Bool) (n : ℕ) → IsMarked marks n → marks �
 marked_set [] n is = refl
 marked_set (mark ∷ marks) zero is = let u : mark ≡ true = cc in ap (λ b. b ∷ marks) u
 marked_set (mark ∷ marks) (suc n) is = ap (λ l. mark ∷ l) (marked_set marks n is)
+
+-- a mark is what a test says, so writing that changes nothing
+pub same_set : (marks : List Bool) (n : ℕ) (test mark : Bool) → (test ≡ true) ↔ IsMarked marks n → test ≡ mark → marks ≡ set marks n mark
+same_set marks n test true is e = marked_set marks n (is.0 e)
+same_set marks n test false is e = bare_set marks n (iff_false is e)
 
 -- a position is marked or not
 cases_marked : (marks : List Bool) (n : ℕ) → IsMarked marks n ⊎ (¬ IsMarked marks n)

@@ -1,7 +1,7 @@
 -- Marks at slots: which tests they stand for, and what a change keeps of that.
 use Rattle.std.proofs.Common.{◌≡◌, ℕ, ◌<◌, Bool, true, false, inl, inr, List, [], ◌∷◌, ◌++◌, length, get_or, set, refl, ap, ◌∙◌, sym, subst, arith, Option, Some, None}
 use Rattle.std.proofs.lemmas.Bool.{cases_eq, cases_Bool}
-use Rattle.std.proofs.lemmas.List.{get_or-set_same, get_or-set_other, length-set, length_push, set_at}
+use Rattle.std.proofs.lemmas.List.{get_or-set_same, get_or-set_other, get_or_past, length-set, length_push, set_at}
 use Rattle.vmm_sys.specs.declared.table.Interest.{Interest}
 use Rattle.vmm_sys.specs.Interests.{slot_at, NoneHolds, AloneHolds, passes, AgreeBut}
 use Rattle.vmm_sys.proofs.Held.{slot-grown, slot-within}
@@ -79,3 +79,18 @@ fit-push p marks slots i b h lt e =
     let more = length_push slots None in
     let r = fit-set p marks rows (length slots) (Some i) b (fit-same p marks marks slots rows (λ s. refl) (slot-grown slots) h) lt (omega arith) e in
     subst (Fit p (set marks (length slots) b)) (set_at slots None [] (Some i) (length slots) refl) r
+
+-- one that isn't ready needs no mark there
+pub fit-push-bare : (p : Interest → Bool) (marks : List Bool) (slots : List (Option Interest)) (i : Interest) → Fit p marks slots → p i ≡ false → Fit p marks (slots ++ Some i ∷ [])
+fit-push-bare p marks slots i h b s =
+    let rows : List (Option Interest) = slots ++ None ∷ [] in
+    let new : List (Option Interest) = slots ++ Some i ∷ [] in
+    let more = length_push slots None in
+    let put : set rows (length slots) (Some i) ≡ new = set_at slots None [] (Some i) (length slots) refl in
+    elim (cases_eq s (length slots)) [
+      | inl d ↦
+          let before : slot_at slots s ≡ None = ap (slot_at slots) d ∙ get_or_past slots (length slots) None (omega arith) in
+          let after : slot_at new s ≡ Some i = ap (slot_at new) d ∙ ap (λ l. slot_at l (length slots)) (sym put) ∙ get_or-set_same rows (length slots) (Some i) None (omega arith) in
+          h s ∙ ap (passes p) before ∙ sym (ap (passes p) after ∙ b)
+      | inr d ↦ h s ∙ ap (passes p) (sym (ap (λ l. slot_at l s) (sym put) ∙ get_or-set_other rows (length slots) s (Some i) None d ∙ slot-grown slots s))
+    ]

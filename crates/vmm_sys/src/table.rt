@@ -313,7 +313,7 @@ impl Table {
             (ControlOperation::Delete, Some(slot)) => {
                 self.interests.remove(slot, interest.descriptor);
                 self.interests.mark(slot, false);
-                self.interests.give_back();
+                self.interests.give_back(slot);
             }
             (ControlOperation::Modify, None) => return Err(Errno::ENOENT),
             (ControlOperation::Delete, None) => return Err(Errno::ENOENT),
@@ -382,6 +382,7 @@ fn is_ready(sources: &[Source], interest: Interest) -> bool
 // Marks the interest of a descriptor as it is now.
 #[inline(never)]
 fn renew(sources: &[Source], interests: &mut Interests, descriptor: usize)
+    requires { descriptor < interests.old.room }
     ensures slots { interests.new.slots ≡ interests.old.slots }
     ensures room { interests.new.room ≡ interests.old.room }
     ensures marks { (p : Interest → Bool) → AreMarked p interests.old → AgreeBut descriptor p (is_ready sources.now) → AreMarked (is_ready sources.now) interests.new }

@@ -72,10 +72,11 @@ impl Interests {
 
     /// The slot of a descriptor's interest.
     pub(super) fn slot_of(&self, descriptor: usize) -> Option<usize>
+        requires { descriptor < self.now.room }
         ensures { MatchOption result (NoneHolds self.now.slots descriptor) (λ s. AloneHolds self.now.slots s descriptor) }
     {
         let _slots = &self.slots;
-        place_of(&self.places, descriptor)
+        self.places[descriptor]
     }
 
     /// What a slot holds; `None` past those in use.
@@ -134,6 +135,9 @@ impl Interests {
         ensures within { slot < length self.old.marks }
         ensures marked { self.new ≡ record self.old { marks = slice_set self.old.marks slot ready } }
     {
+        if self.ready.contains(slot) == ready {
+            return;
+        }
         if ready {
             self.ready.insert(slot);
         } else {
@@ -141,7 +145,18 @@ impl Interests {
         }
     }
 
+    // Marks a slot in use as ready.
+    #[inline(always)]
+    fn mark_ready(&mut self, slot: usize)
+        requires { slot < length self.old.slots }
+        ensures within { slot < length self.old.marks }
+        ensures marked { self.new ≡ record self.old { marks = slice_set self.old.marks slot true } }
+    {
+        self.ready.insert(slot);
+    }
+
     /// Puts an interest in as the last one.
+    #[inline(always)]
     pub(super) fn push_back(&mut self, interest: Interest, ready: bool)
         requires room { interest.descriptor < self.old.room }
         requires absent { NoneHolds self.old.slots interest.descriptor }
@@ -152,10 +167,13 @@ impl Interests {
         self.leave_unused(1);
         let slot = self.slots.len();
         self.put_last(interest);
-        self.mark(slot, ready);
+        if ready {
+            self.mark_ready(slot);
+        }
     }
 
     // Puts an interest into the next slot.
+    #[inline(always)]
     fn put_last(&mut self, interest: Interest)
         requires room { interest.descriptor < self.old.room }
         requires absent { NoneHolds self.old.slots interest.descriptor }
@@ -183,15 +201,16 @@ impl Interests {
         self.places[descriptor] = None;
     }
 
-    /// Gives the last slot in use back, where it holds nothing.
-    pub(super) fn give_back(&mut self)
+    /// Gives an empty slot back, where it is the last one in use.
+    pub(super) fn give_back(&mut self, slot: usize)
+        requires used { slot < length self.old.slots }
+        requires none { slot_at self.old.slots slot ≡ None }
         ensures room { self.new.room ≡ self.old.room }
         ensures list { held self.new.slots ≡ held self.old.slots }
         ensures marks { (p : Interest → Bool) → AreMarked p self.old → AreMarked p self.new }
     {
-        let last = self.slots.len().saturating_sub(1);
-        if self.interest_in(last).is_none() {
-            self.slots.truncate(last);
+        if self.slots.len() - slot == 1 {
+            self.slots.truncate(slot);
         }
     }
 
@@ -277,15 +296,6 @@ impl Interests {
             self.shift(slot, next);
         }
         after
-    }
-}
-
-fn place_of(places: &[Option<usize>], descriptor: usize) -> Option<usize>
-    ensures { result ≡ place_at places.now descriptor }
-{
-    match places.get(descriptor) {
-        Some(place) => *place,
-        None => None,
     }
 }
 

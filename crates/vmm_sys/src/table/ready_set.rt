@@ -57,41 +57,44 @@ impl ReadySet {
     }
 
     pub(super) fn contains(&self, number: usize) -> bool
+        requires { number < length self.now }
         ensures { IsTrue result ↔ IsMarked self.now number }
     {
         self.numbers.contains(number)
     }
 
-    /// Puts a number in, if it isn't in the set.
+    /// Puts a number in.
     #[inline(always)]
     pub(super) fn insert(&mut self, number: usize)
         requires { number < length self.old }
         ensures { self.new ≡ slice_set self.old number true }
     {
-        if self.numbers.contains(number) {
-            return;
-        }
         self.lowest = self.lowest.min(number);
-        let word = number / WORD;
-        let group = word / WORD;
-        if self.numbers.set(number) && self.words.set(word) && self.groups.set(group) {
-            self.blocks.set(group / WORD);
+        if self.numbers.set(number) {
+            let ReadySet {
+                words,
+                groups,
+                blocks,
+                ..
+            } = self;
+            mark_word(words, groups, blocks, number / WORD);
         }
     }
 
-    /// Takes a number out, if it is in the set.
+    /// Takes a number out.
     #[inline(always)]
     pub(super) fn remove(&mut self, number: usize)
         requires { number < length self.old }
         ensures { self.new ≡ slice_set self.old number false }
     {
-        if !self.numbers.contains(number) {
-            return;
-        }
-        let word = number / WORD;
-        let group = word / WORD;
-        if self.numbers.clear(number) && self.words.clear(word) && self.groups.clear(group) {
-            self.blocks.clear(group / WORD);
+        if self.numbers.clear(number) {
+            let ReadySet {
+                words,
+                groups,
+                blocks,
+                ..
+            } = self;
+            clear_word(words, groups, blocks, number / WORD);
         }
     }
 
@@ -141,6 +144,46 @@ impl ReadySet {
         self.words.make_words(groups)?;
         self.numbers.make_words(words)
     }
+}
+
+// Marks a word that has its first mark now, and the groups and blocks that have theirs with it.
+#[inline(always)]
+fn mark_word(words: &mut Row, groups: &mut Row, blocks: &mut Row, word: usize)
+    requires word { word < length words.old }
+    requires groups { MarksWords groups.old words.old }
+    requires blocks { MarksWords blocks.old groups.old }
+    ensures words { words.new ≡ slice_set words.old word true }
+    ensures groups { MarksWords groups.new words.new }
+    ensures blocks { MarksWords blocks.new groups.new }
+{
+    if !words.set(word) {
+        return;
+    }
+    let group = word / WORD;
+    if !groups.set(group) {
+        return;
+    }
+    blocks.set(group / WORD);
+}
+
+// Takes the mark of a word that has lost its last, and those of the groups and blocks that have lost theirs with it.
+#[inline(always)]
+fn clear_word(words: &mut Row, groups: &mut Row, blocks: &mut Row, word: usize)
+    requires word { word < length words.old }
+    requires groups { MarksWords groups.old words.old }
+    requires blocks { MarksWords blocks.old groups.old }
+    ensures words { words.new ≡ slice_set words.old word false }
+    ensures groups { MarksWords groups.new words.new }
+    ensures blocks { MarksWords blocks.new groups.new }
+{
+    if !words.clear(word) {
+        return;
+    }
+    let group = word / WORD;
+    if !groups.clear(group) {
+        return;
+    }
+    blocks.clear(group / WORD);
 }
 
 // The first mark of `words` from one on.

@@ -56,12 +56,10 @@ impl Row {
     }
 
     pub(super) fn contains(&self, number: usize) -> bool
+        requires { number < length self.now }
         ensures { IsTrue result ↔ IsMarked self.now number }
     {
-        match self.words.get(number / WORD) {
-            Some(word) => (*word >> (number % WORD)) & 1 == 1,
-            None => false,
-        }
+        (self.words[number / WORD] >> (number % WORD)) & 1 == 1
     }
 
     /// Sets a mark, and says whether its word had none.

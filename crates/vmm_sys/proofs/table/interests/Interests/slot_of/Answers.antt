@@ -1,6 +1,7 @@
-use Rattle.std.proofs.Common.{◌∙◌, ap, sym, subst}
+use Rattle.std.proofs.Common.{◌<◌, length, sym, subst, None}
 use Rattle.std.specs.Prelude.{MatchOption}
-use Rattle.vmm_sys.specs.Interests.{InterestsState, NoneHolds, AloneHolds, place_at}
+use Rattle.std.proofs.lemmas.List.{get_or_read}
+use Rattle.vmm_sys.specs.Interests.{InterestsState, NoneHolds, AloneHolds}
 use Rattle.vmm_sys.proofs.Slots.{slot-of}
 use Rattle.vmm_sys.proofs.table.interests.Interests.slot_of.Goals as goal
 
@@ -8,5 +9,6 @@ pub returns : goal.returns
 returns c =
     let n = c.args.descriptor in
     let places = c.self.inside.places.items in
-    let is = c.place_of.ensures ∙ ap (λ ps. place_at ps n) c.deref.ensures.value in
-    subst (λ (s : InterestsState). MatchOption c.place_of.result (NoneHolds s.slots n) (λ t. AloneHolds s.slots t n)) c.self.view_is (slot-of places c.self.inside.slots.items c.self.invariant.0 n c.place_of.result (sym is))
+    let below : n < length places = subst (λ (s : InterestsState). n < s.room) (sym c.self.view_is) c.requires in
+    let is = get_or_read places n c.index.result.now below c.index.ensures None in
+    subst (λ (s : InterestsState). MatchOption c.index.result.now (NoneHolds s.slots n) (λ t. AloneHolds s.slots t n)) c.self.view_is (slot-of places c.self.inside.slots.items c.self.invariant.0 n c.index.result.now (sym is))
