@@ -26,12 +26,7 @@ use vmm_sys::epoll::EpollEvent;
 use vmm_sys::errno::Errno;
 
 /// Takes out the owner of one descriptor, if it has one, and counts the owned and the raised ones. Answers the owner.
-fn disown(
-    owners: &mut Owners,
-    owned: &mut usize,
-    raised: &mut usize,
-    fd: u32,
-) -> Option<Owner>
+fn disown(owners: &mut Owners, owned: &mut usize, raised: &mut usize, fd: u32) -> Option<Owner>
     requires { AreCounted owners.old owned.old raised.old }
     ensures owner { IsOwnerAt owners.old fd result }
     ensures disowned { owners.new ≡ map.remove owners.old fd }
