@@ -36,6 +36,32 @@ fn resident<R: Files + AllocGlobal>(rt: &R) -> Result<u64, Fault> {
     Err(Fault::Resident)
 }
 
+/// What fills a loop.
+#[derive(Clone, Copy)]
+enum Filling {
+    /// Subscribers with a descriptor each.
+    Subscribers,
+    /// Descriptors of one subscriber.
+    Descriptors,
+}
+
+impl Filling {
+    fn name(&self) -> &'static str {
+        match self {
+            Filling::Subscribers => "memory, a subscriber with a descriptor",
+            Filling::Descriptors => "memory, a descriptor of one subscriber",
+        }
+    }
+
+    /// Puts so many into the loop. `Manager`.
+    fn fill(&self, event_loop: &mut IdleLoop, count: u32) -> Result<(), Fault> {
+        match self {
+            Filling::Subscribers => join(event_loop, count),
+            Filling::Descriptors => add(event_loop, count),
+        }
+    }
+}
+
 /// Lets so many subscribers join, each with a descriptor of its own. `Manager`.
 fn join(event_loop: &mut IdleLoop, count: u32) -> Result<(), Fault> {
     for k in 0..count {
@@ -58,20 +84,23 @@ fn add(event_loop: &mut IdleLoop, count: u32) -> Result<(), Fault> {
 /// aren't wanted either. The loop comes back, so that its memory isn't used again.
 fn measure_filled<R: Host + Files + AllocGlobal>(
     bench: &Bench<R>,
-    name: &str,
+    filling: Filling,
     count: u32,
-    fill: fn(&mut IdleLoop, u32) -> Result<(), Fault>,
 ) -> Result<IdleLoop, Fault> {
     let mut event_loop = idle_loop(bench.alloc)?;
     if bench.wanted.checked {
-        fill(&mut event_loop, count)?;
-        println!(bench.rt; "{:<44} {:>10}", name, count)?;
+        filling.fill(&mut event_loop, count)?;
+        println!(bench.rt; "{:<44} {:>10}", filling.name(), count)?;
         return Ok(event_loop);
     }
     let before = resident(&bench.rt)?;
-    fill(&mut event_loop, count)?;
+    filling.fill(&mut event_loop, count)?;
     let taken = resident(&bench.rt)?.saturating_sub(before);
-    println!(bench.rt; "{:<44} {:>10} bytes", name, taken / count.max(1) as u64)?;
+    println!(bench.rt;
+        "{:<44} {:>10} bytes",
+        filling.name(),
+        taken / count.max(1) as u64
+    )?;
     Ok(event_loop)
 }
 
@@ -81,8 +110,8 @@ pub fn measure_memory<R: Host + Files + AllocGlobal>(bench: &Bench<R>) -> Result
         return Ok(());
     }
     let count = bench.rounds(MANY);
-    let subscribers = measure_filled(bench, "memory, a subscriber with a descriptor", count, join)?;
-    let descriptors = measure_filled(bench, "memory, a descriptor of one subscriber", count, add)?;
+    let subscribers = measure_filled(bench, Filling::Subscribers, count)?;
+    let descriptors = measure_filled(bench, Filling::Descriptors, count)?;
     drop(subscribers);
     drop(descriptors);
     Ok(())
