@@ -9,7 +9,7 @@ use crate::threads::{Host, Looping, wait_until_pending};
 use crate::work::{Notes, Work};
 use event_manager::{
     Error, EventManager, EventPoller, EventSet, Events, LoopWithSenders, Naming, NoJob,
-    RemoteEndpoint, Result, Sender, Senders,
+    RemoteEndpoint, Result, Sender, Senders, SubscriberOps,
 };
 use fixtures::parts::{Idle, Parts, on_table, silent_parts};
 use std::alloc::Global;
@@ -384,6 +384,71 @@ fn what_the_last_sender_fired_is_run(rt: HostRuntime) {
     let parts = expect_ok(&rt, on_table(rt, rt.alloc(), 0));
     let notes = new_notes(&rt, rt.alloc());
     let ended = expect_ok(&rt, beside_senders(&rt, parts, &mut Late { notes: &notes }));
+    expect_same(&rt, &ended.ran, &Ok(()));
+    expect_same(&rt, &(ended.issued, ended.taken), &(1, 1));
+    expect_noted(&rt, &notes, &[1]);
+}
+
+/// How many descriptors stay ready: of these and the endpoint behind some of them a batch, of at most 256, leaves many out.
+const CROWD: usize = 600;
+
+/// A loop that runs once its sender has ended, with the endpoint behind more ready descriptors than a batch has room for.
+#[derive(Drop)]
+struct Crowded<'a> {
+    notes: &'a Notes,
+    ready: Vec<EventFd>,
+}
+
+impl<'a, R: Looping> LoopWithSenders<Idle, Work, Firing<'a>, R> for Crowded<'a> {
+    fn begin<N: Naming, P: EventPoller>(
+        &mut self,
+        rt: &R,
+        alloc: Global,
+        manager: &mut EventManager<Idle, Work, N, P>,
+    ) -> Result<Vec<Firing<'a>>> {
+        let idle = manager.add_subscriber(Idle)?;
+        for counter in &self.ready {
+            manager
+                .event_ops(idle)?
+                .add(Events::new(counter, EventSet::IN))?;
+        }
+        // The endpoint, the first that was added, is reported, and stands behind those of whom a batch has had none then.
+        manager.remote_endpoint()?.kick(rt)?;
+        manager.run_with_timeout(0, rt)?;
+        let sender = Firing { notes: self.notes };
+        Ok(expect_ok(rt, Vec::from_array(alloc, [sender])))
+    }
+
+    fn run<N: Naming, P: EventPoller>(
+        &mut self,
+        rt: &R,
+        manager: &mut EventManager<Idle, Work, N, P>,
+        senders: &Senders,
+    ) -> Result<()> {
+        expect_same(rt, &wait_until_ended(rt, senders), &true);
+        senders.run_until_ended(manager, rt)
+    }
+}
+
+/// So many counters of the poller's table, all ready.
+fn ready_counters<R: Looping>(rt: &R, alloc: Global, poller: &Epoll<R>) -> Vec<EventFd> {
+    let mut ready = Vec::new(alloc);
+    for _one in 0..CROWD {
+        let counter = expect_ok(rt, EventFd::new(poller, 1, rt));
+        expect_ok(rt, ready.push(counter));
+    }
+    ready
+}
+
+#[test]
+fn what_a_full_batch_leaves_out_is_run(rt: HostRuntime) {
+    let parts = expect_ok(&rt, on_table(rt, rt.alloc(), 0));
+    let notes = new_notes(&rt, rt.alloc());
+    let mut crowded = Crowded {
+        notes: &notes,
+        ready: ready_counters(&rt, rt.alloc(), &parts.poller),
+    };
+    let ended = expect_ok(&rt, beside_senders(&rt, parts, &mut crowded));
     expect_same(&rt, &ended.ran, &Ok(()));
     expect_same(&rt, &(ended.issued, ended.taken), &(1, 1));
     expect_noted(&rt, &notes, &[1]);

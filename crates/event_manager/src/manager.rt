@@ -120,6 +120,11 @@ impl<S: MutEventSubscriber, J: Job<S>, N: Naming, P: EventPoller> EventManager<S
         self.channel.remote_endpoint()
     }
 
+    /// Whether jobs wait.
+    pub(crate) fn has_waiting_jobs<R: Wait>(&self, rt: &R) -> bool {
+        self.channel.has_waiting_jobs(rt)
+    }
+
     /// Closes the queue in one turn: from then on a send is refused with `ChannelSend`. The jobs that wait are dropped, and
     /// whoever waits for a reply of theirs gets `ChannelRecv`. Then subscribers and poller are dropped; the poller is
     /// asked for nothing.

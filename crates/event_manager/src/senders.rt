@@ -60,7 +60,8 @@ impl Senders {
         self.at_work.load(Ordering::SeqCst) == 0
     }
 
-    /// Runs the manager until all have ended and what they sent was run, or until a run is refused.
+    /// Runs the manager until all have ended and what they sent was run, or until a run is refused. A batch that others fill
+    /// may leave the endpoint out: then the manager is run again, until the poller reports it.
     pub fn run_until_ended<S, J, N, P, R>(
         &self,
         manager: &mut EventManager<S, J, N, P>,
@@ -80,7 +81,12 @@ impl Senders {
             manager.run(rt)?;
         }
         // What was sent while the last run was at work.
-        manager.run_with_timeout(0, rt)?;
+        for _run in rt.forever() {
+            manager.run_with_timeout(0, rt)?;
+            if !manager.has_waiting_jobs(rt) {
+                break;
+            }
+        }
         Ok(())
     }
 

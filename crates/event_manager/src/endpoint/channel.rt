@@ -93,6 +93,11 @@ impl<S: MutEventSubscriber, J: Job<S>, N: Naming> EventManagerChannel<S, J, N> {
         Ok(RemoteEndpoint { channel })
     }
 
+    /// Whether jobs wait.
+    pub(crate) fn has_waiting_jobs<R: Wait>(&self, rt: &R) -> bool {
+        self.channel.state.lock(rt).waiting() > 0
+    }
+
     /// Reads the `EventFd`, takes all jobs that wait, and runs them in the order of their tickets. The lock of the queue
     /// is free while they run.
     pub(crate) fn run_jobs<P: EventPoller, R: Wait + Clock>(

@@ -189,7 +189,7 @@ impl Interests {
         requires { Holds self.old.slots slot interest.descriptor }
         ensures { self.new ≡ record self.old { slots = slice_set self.old.slots slot (Some interest) } }
     {
-        self.slots[slot] = Some(interest);
+        set_event(&mut self.slots[slot], interest);
     }
 
     /// Takes the interest of a descriptor out of its slot.
@@ -296,6 +296,18 @@ impl Interests {
             self.shift(slot, next);
         }
         after
+    }
+}
+
+// Replaces an interest by one of its descriptor: what is the same is not written.
+#[inline(always)]
+fn set_event(held: &mut Option<Interest>, interest: Interest)
+    requires same_descriptor { IfSome held.old (λ before. before.descriptor ≡ interest.descriptor) }
+    requires some { IsSome held.old }
+    ensures { held.new ≡ Some interest }
+{
+    if let Some(before) = held {
+        before.event = interest.event;
     }
 }
 

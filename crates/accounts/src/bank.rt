@@ -1,0 +1,81 @@
+//! The loop's side, and the customer.
+
+use crate::account::Account;
+use crate::order::{Order, Told};
+use event_manager::{
+    Error, EventManager, EventPoller, LoopWithSenders, Naming, RemoteEndpoint, Result, Sender,
+    SubscriberId, SubscriberOps,
+};
+use std::alloc::Global;
+use std::sync::Wait;
+use std::time::Clock;
+use vmm_sys::eventfd::EventFd;
+
+/// The loop of one account, and its one sender, the customer.
+#[derive(Drop)]
+pub struct Bank {
+    /// The counter of the account.
+    pub counter: EventFd,
+}
+
+impl<R: Wait + Clock + Print + Copy + Drop> LoopWithSenders<Account<R>, Order, Customer, R>
+    for Bank {
+    fn begin<N: Naming, P: EventPoller>(
+        &mut self,
+        rt: &R,
+        alloc: Global,
+        manager: &mut EventManager<Account<R>, Order, N, P>,
+    ) -> Result<Vec<Customer>> {
+        let first = Account::new(&self.counter, *rt).map_err(Error::EventFd)?;
+        let removed = manager.add_subscriber(first)?;
+        manager.remove_subscriber(removed)?;
+        let second = Account::new(&self.counter, *rt).map_err(Error::EventFd)?;
+        let customer = Customer {
+            counter: self.counter.try_clone().map_err(Error::EventFd)?,
+            account: manager.add_subscriber(second)?,
+            removed,
+        };
+        Ok(vec![in alloc; customer]?)
+    }
+}
+
+/// Who sends the jobs.
+#[derive(Drop)]
+pub struct Customer {
+    counter: EventFd,
+    account: SubscriberId,
+    removed: SubscriberId,
+}
+
+/// What the customer was told.
+#[derive(Drop)]
+pub struct Answers {
+    /// The balance after three deposits.
+    pub balance: Told,
+    /// The balance after the counter was written.
+    pub later: Told,
+    /// The reply to a job for an account that was removed.
+    pub removed: Told,
+}
+
+impl<R: Wait + Clock + Drop> Sender<Account<R>, Order, Result<Answers>, R> for Customer {
+    /// Deposits three times without waiting, and then asks.
+    fn send<N: Naming>(
+        self,
+        endpoint: &RemoteEndpoint<Account<R>, Order, N>,
+        rt: &R,
+    ) -> Result<Answers> {
+        for _ in 0..3 {
+            let _ticket = endpoint.fire(Order::Deposit(self.account, 400), rt)?;
+        }
+        let balance = endpoint.call_blocking(Order::Read(self.account), rt)?;
+        self.counter.write(25, rt).map_err(Error::EventFd)?;
+        let later = endpoint.call_blocking(Order::Read(self.account), rt)?;
+        let removed = endpoint.call_blocking(Order::Deposit(self.removed, 1), rt)?;
+        Ok(Answers {
+            balance,
+            later,
+            removed,
+        })
+    }
+}
