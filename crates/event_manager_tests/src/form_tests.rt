@@ -1,7 +1,7 @@
 //! Subscribers of each form, over a script.
 
 use crate::expecting::{expect_ok, expect_same};
-use crate::forms::{Boxable, Counting, Group, Leaving, Numbered, Renewing};
+use crate::forms::{Boxable, Counting, Filling, Group, Leaving, Numbered, Renewing};
 use crate::parts::{push_words, script_of_words};
 use crate::runs::run_alone;
 use event_manager::{BoxedSubscriber, Events, MutEventSubscriber, StepSubscriber};
@@ -11,7 +11,8 @@ use std::process::Abort;
 use std::sync::atomic::{AtomicU64, Ordering};
 use std::sync::{Arc, Wait};
 use std::time::Clock;
-use vmm_sys::epoll::EventSet;
+use vmm_sys::epoll::{Epoll, EventSet};
+use vmm_sys::eventfd::EventFd;
 
 /// The descriptor of the reports.
 const FD: u64 = 3;
@@ -58,6 +59,28 @@ fn a_request_may_depend_on_the_set(rt: HostRuntime) {
     };
     let seen = served(rt, rt.alloc(), EventSet::OUT, 0, staying).seen;
     expect_same(&rt, &seen, &2);
+}
+
+/// What a `Filling` comes to, of a counter of this value, after two events.
+fn filled<R>(rt: R, alloc: Global, value: u64) -> u64
+where
+    R: Wait + Clock + Abort + Copy + Send + Drop,
+{
+    let epoll = expect_ok(&rt, Epoll::new(rt, alloc));
+    let counter = expect_ok(&rt, EventFd::new(&epoll, value, &rt));
+    let filling = Filling {
+        own: own(),
+        counter,
+        total: 8,
+        rt,
+    };
+    served(rt, alloc, EventSet::IN, 0, filling).total
+}
+
+#[test]
+fn a_request_may_depend_on_a_total(rt: HostRuntime) {
+    expect_same(&rt, &filled(rt, rt.alloc(), 2), &10);
+    expect_same(&rt, &filled(rt, rt.alloc(), 1), &9);
 }
 
 #[test]

@@ -3,8 +3,9 @@
 use event_manager::{
     EventOps, EventPoller, EventSet, Events, MutEventSubscriber, Request, StepInput, StepSubscriber,
 };
-use std::sync::Arc;
 use std::sync::atomic::{AtomicU64, Ordering};
+use std::sync::{Arc, Wait};
+use vmm_sys::eventfd::EventFd;
 
 /// Asks for its descriptor when it joins, and for nothing at an event.
 #[derive(Drop)]
@@ -24,6 +25,36 @@ impl MutEventSubscriber for Counting {
 
     fn process<P: EventPoller>(&mut self, _events: Events, _ops: &mut EventOps<P>) {
         self.seen = self.seen.saturating_add(1);
+    }
+
+    fn init<P: EventPoller>(&mut self, ops: &mut EventOps<P>) {
+        let _ = ops.add(self.own);
+    }
+}
+
+/// Adds up what it reads of its counter, and removes it once that comes to 10 or more.
+#[derive(Drop)]
+pub struct Filling<R> {
+    pub own: Events,
+    pub counter: EventFd,
+    pub total: u64,
+    pub rt: R,
+}
+
+impl<R: Wait> MutEventSubscriber for Filling<R> {
+    ghost use Rattle.std.specs.Prelude.{ℕ, ◌≡◌, ◌+◌, min, nat_le, MatchBool};
+    ghost use Rattle.event_manager.specs.Exchange.{AsksNothing, AsksToAdd, AsksToRemove};
+
+    ghost begins = { λ v exchanges w. AsksToAdd v.own exchanges × (w ≡ v) };
+
+    ghost serves = { λ v event exchanges w. (read : ℕ) × (w ≡ record v { total = min (v.total + read) 18446744073709551615 }) × MatchBool (nat_le 10 w.total) (AsksToRemove v.own exchanges) (AsksNothing exchanges) };
+
+    fn process<P: EventPoller>(&mut self, _events: Events, ops: &mut EventOps<P>) {
+        let read = self.counter.read(&self.rt).unwrap_or(0);
+        self.total = self.total.saturating_add(read);
+        if self.total >= 10 {
+            let _ = ops.remove(self.own);
+        }
     }
 
     fn init<P: EventPoller>(&mut self, ops: &mut EventOps<P>) {
