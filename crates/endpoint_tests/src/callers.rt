@@ -122,13 +122,17 @@ fn expect_line<R: Host>(rt: &R, alloc: Global, line: &Line<'_>) {
 }
 
 #[test]
-fn two_callers_get_their_own_replies(rt: HostRuntime) {
-    let line = Line {
-        jobs: &[(5, Some(Ok(5))), (6, Some(Ok(6)))],
-        is_run: true,
-        noted: &[5, 6],
-    };
-    expect_line(&rt, rt.alloc(), &line);
+fn callers_get_their_own_replies(rt: HostRuntime) {
+    let numbers = [5, 6, 7, 8, 9];
+    let jobs = numbers.map(|number| (number, Some(Ok(number))));
+    for count in 2..=numbers.len() {
+        let line = Line {
+            jobs: jobs.split_at(count).0,
+            is_run: true,
+            noted: numbers.split_at(count).0,
+        };
+        expect_line(&rt, rt.alloc(), &line);
+    }
 }
 
 #[test]
