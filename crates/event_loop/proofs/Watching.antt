@@ -1,7 +1,8 @@
 -- Watch lists beside the owners: how often a descriptor stands in a list.
-use Rattle.std.proofs.Common.{◌≡◌, ℕ, ◌+◌, ◌==◌, ◌<◌, ◌≤◌, refl, sym, ap, subst, ◌∙◌, List, [], Bool, true, false, not, cond, Option, Some, None, inl, inr, arith, length, get_or, take, Contains, nat_cmp, nat_lt, IsSome, All, ◌^◌}
+use Rattle.std.proofs.Common.{◌≡◌, ℕ, ◌+◌, ◌==◌, ◌<◌, ◌≤◌, refl, sym, ap, subst, ◌∙◌, List, [], Bool, true, false, not, cond, Option, Some, None, inl, inr, arith, length, get_or, take, Contains, nat_cmp, nat_lt, IsSome, All, AllPairs, ◌≢◌, ◌^◌}
 use Rattle.std.proofs.lemmas.Bool.{false≢true}
 use Rattle.std.proofs.lemmas.Bool.Decides.{nat_tests, eqb_tells}
+use Rattle.std.specs.List.Sorted.{IsNonDecreasing}
 use Rattle.std.proofs.lemmas.List.Elements.{Contains-get_or}
 use Rattle.std.proofs.lemmas.List.Sums.{sum_by_more}
 use Rattle.std.specs.Ordering.{eq_by_cmp}
@@ -124,7 +125,7 @@ without_more before now fds k below so_far q =
     ∙ without_answer (fd == q) (times_in (take k fds) q) (get before q)
     ∙ ap (λ n. cond (nat_lt 0 n) None (get before q)) (sym (sum_by_more (λ x. cond (x == q) 1 0) fds k 0 below))
 
--- a list that has each descriptor of the id once
+-- a list that has each descriptor of the id once; where it doesn't fall, it ascends
 module _ (owners : OwnerMap) (fds : List ℕ) (i : ℕ) (are : (fd : ℕ) → times_in fds fd ≡ cond (is_id i (owner_of owners fd)) 1 0) where
   at_most_one : (b : Bool) → cond {A = ℕ} b 1 0 ≤ 1
   at_most_one true = omega arith
@@ -140,9 +141,15 @@ module _ (owners : OwnerMap) (fds : List ℕ) (i : ℕ) (are : (fd : ℕ) → ti
   listed_owner : (fd : ℕ) → Contains fds fd → owner_of owners fd ≡ Some i
   listed_owner fd c = owner_is (owner_of owners fd) (omega (arith, counted fds fd c, are fd))
 
-  pub owned_once : (registrations : Registrations) → registrations.owners ≡ owners → AreOwnedBy i registrations fds
-  owned_once registrations is = (
-    distinct fds (λ q. omega (arith, are q, at_most_one (is_id i (owner_of owners q)))),
+  each_once : AllPairs (λ a b. a ≢ b) fds
+  each_once = distinct fds (λ q. omega (arith, are q, at_most_one (is_id i (owner_of owners q))))
+
+  ascending : IsNonDecreasing fds → AllPairs (λ a b. a < b) fds
+  ascending rising j k d before within = omega (arith, each_once j k d before within, rising j k d (omega arith) within)
+
+  pub owned_in_order : IsNonDecreasing fds → (registrations : Registrations) → registrations.owners ≡ owners → AreOwnedBy i registrations fds
+  owned_in_order rising registrations is = (
+    ascending rising,
     λ fd. (
       λ c. ap (λ m. owner_of m fd) is ∙ listed_owner fd c,
       λ owns. contained fds fd (omega (arith, are fd, own_once (owner_of owners fd) (sym (ap (λ m. owner_of m fd) is) ∙ owns))),

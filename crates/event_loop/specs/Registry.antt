@@ -1,5 +1,5 @@
 -- Subscribers by id, and the steps: a join, a leave, another value, a list of requests.
-use Rattle.std.specs.Prelude.{◌≡◌, ℕ, ◌+◌, ◌-◌, ◌^◌, ◌<◌, ◌==◌, Bool, false, not, List, [], ◌∷◌, ◌⊎◌, ◌↔◌, Option, Some, None, Result, Contains, AllPairs, ◌≢◌}
+use Rattle.std.specs.Prelude.{◌≡◌, ℕ, ◌+◌, ◌-◌, ◌^◌, ◌<◌, ◌==◌, Bool, false, not, List, [], ◌∷◌, ◌⊎◌, ◌↔◌, Option, Some, None, Result, Contains, AllPairs}
 use Rattle.std.specs.FinMap as map
 use Rattle.std.specs.Ordering.{nat_cmp}
 use Rattle.dispatch_tables.specs.Event.{Event}
@@ -50,9 +50,9 @@ AreDeletes [] calls = calls ≡ []
 AreDeletes (fd ∷ fds) calls =
     (answer : Result (Unit {0}) Errno) × (rest : List PollerCall) × (calls ≡ Control operation.Delete fd empty_event answer ∷ rest) × AreDeletes fds rest
 
--- the descriptors of id i, each once
+-- the descriptors of id i, in ascending order
 abbrev pub AreOwnedBy : ℕ → Registrations → List ℕ → Type 0
-AreOwnedBy i registrations fds = AllPairs (λ a b. a ≢ b) fds × ((fd : ℕ) → Contains fds fd ↔ Owns i registrations fd)
+AreOwnedBy i registrations fds = AllPairs (λ a b. a < b) fds × ((fd : ℕ) → Contains fds fd ↔ Owns i registrations fd)
 
 abbrev pub HasId : {V : Type 0} → Registry V → ℕ → V → Type 0
 HasId registry i value = map.get registry.values i ≡ Some value

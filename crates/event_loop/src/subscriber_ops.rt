@@ -44,8 +44,8 @@ pub trait SubscriberOps {
         ensures { result ≡ (seen self.now).registry.next };
 
     /// Takes the subscriber of the id out, and answers it. The poller is asked one Delete (with the empty set, data 0 and
-    /// descriptor 0 as event) for each of its descriptors; the answers are ignored, and all its descriptors are free.
-    /// The id is never given again. Takes no memory.
+    /// descriptor 0 as event) for each of its descriptors, in ascending order; the answers are ignored, and all its
+    /// descriptors are free. The id is never given again. Takes no memory.
     ///
     /// `InvalidId` where there is none.
     fn remove_subscriber(&mut self, id: SubscriberId) -> Result<Self::Subscriber>

@@ -27,10 +27,13 @@ use Rattle.event_manager.proofs.SameExchanges.{memory_first, memory_then, memory
 abbrev delete_of : ℕ → Result (Unit {0}) Errno → PollerCall
 delete_of fd answer = Control operation.Delete fd empty_event answer
 
--- lists of the same elements, each once, are as long; so are the deletes of an id's descriptors
-no_longer : (xs ys : List ℕ) → AllPairs (λ a b. a ≢ b) xs → ((x : ℕ) → Contains xs x → Contains ys x) → length xs ≤ length ys
-no_longer xs ys apart h =
-    length-le_from_is_member nat_eq_equiv xs ys (IsDistinct-from_AllPairs Decides-eqb xs apart)
+-- ascending lists of the same elements are as long; so are the deletes of an id's descriptors
+apart : (xs : List ℕ) → AllPairs (λ a b. a < b) xs → AllPairs (λ a b. a ≢ b) xs
+apart xs ascend i j d before within e = omega (arith, ascend i j d before within, e)
+
+no_longer : (xs ys : List ℕ) → AllPairs (λ a b. a < b) xs → ((x : ℕ) → Contains xs x → Contains ys x) → length xs ≤ length ys
+no_longer xs ys ascend h =
+    length-le_from_is_member nat_eq_equiv xs ys (IsDistinct-from_AllPairs Decides-eqb xs (apart xs ascend))
     (λ x e. (is_member-Decides Decides-eqb ys x).1 (h x ((is_member-Decides Decides-eqb xs x).0 e)))
 
 as_long : (i : ℕ) (registrations : Registrations) (xs ys : List ℕ) → AreOwnedBy i registrations xs → AreOwnedBy i registrations ys → length xs ≡ length ys

@@ -1,7 +1,7 @@
 use Rattle.std.proofs.Common.{sym, ap, arith, ◌∙◌}
 use Rattle.event_loop.specs.RegistrationParts.{OwnerState, between_batches}
 use Rattle.event_loop.proofs.Consistent.{consistent_taken}
-use Rattle.event_loop.proofs.Watching.{owners_taken, owned_once, listed_are_descriptors}
+use Rattle.event_loop.proofs.Watching.{owners_taken, owned_in_order, listed_are_descriptors}
 use Rattle.event_loop.proofs.registrations.Registrations.take_watched.Goals as goal
 
 pub invariant_of-self : goal.invariant_of-self
@@ -13,7 +13,7 @@ invariant_of-self c =
 pub returns-clause-owned : goal.returns-clause-owned
 returns-clause-owned c =
     let list = c.take-fds.ensures.value in
-    owned_once c.self.inside.owners c.take-fds.result.items c.args.id (λ fd. list fd ∙ c.self.invariant.are_watched c.args.id fd) (between_batches c.args.self.now) (ap (λ (s : OwnerState). s.owners) (sym c.self.view_is))
+    owned_in_order c.self.inside.owners c.take-fds.result.items c.args.id (λ fd. list fd ∙ c.self.invariant.are_watched c.args.id fd) c.take-fds.ensures.ascending (between_batches c.args.self.now) (ap (λ (s : OwnerState). s.owners) (sym c.self.view_is))
 
 pub returns-clause-are_descriptors : goal.returns-clause-are_descriptors
 returns-clause-are_descriptors c =
