@@ -12,6 +12,7 @@ import shutil
 
 import tries
 from command import ROOT
+from edits import BadEdit, Edit, text_of, write
 
 # How many wrong bodies are tried in one run.
 MOST = 16
@@ -23,58 +24,20 @@ MAIN = re.compile(r"^fn main\((?:.*\n)*?}\n", re.M)
 TEST = re.compile(r"^( *)(?://.*\n\1)*#\[test\]\n(?:\1#.*\n)*\1fn (\w+)(?:.*\n)*?\1}\n", re.M)
 
 
-class BadEdit(Exception):
-    """Why an edit can't be tried."""
-
-
-class Edit:
+class TestedEdit(Edit):
     """A wrong body, and what must show it."""
 
     def __init__(self, path):
-        self.crate, _, file = os.path.relpath(path, f"{ROOT}/crates").split("/")
-        self.name = f"{self.crate}/{file.removesuffix('.edit')}"
-        self.target, self.test, self.case, self.is_of_a_program, self.changes = self.crate, None, None, False, []
-        file, old = None, None
-        with open(path, encoding="utf-8") as lines:
-            for line in lines.read().splitlines():
-                word, _, text = line.partition(":")
-                text = text.removeprefix(" ")
-                if word == "test":
-                    self.test = text.strip()
-                elif word == "case":
-                    self.test, self.case, self.is_of_a_program = text.strip(), text.strip(), True
-                elif word == "output" and text.strip() == "stored":
-                    self.test, self.is_of_a_program = "the stored output", True
-                elif word == "crate":
-                    self.target = text.strip()
-                elif word == "file":
-                    file = text.strip()
-                elif word == "old":
-                    old = text
-                elif word == "new":
-                    self.changes.append((file, old, text))
-                    old = None
-                elif line.strip() and not line.startswith("#"):
-                    raise BadEdit(f"{self.name}: the line '{line}' is none of an edit")
+        super().__init__(path, ("test", "case", "output", "crate"))
+        self.target, self.case = self.said.get("crate", self.crate), self.said.get("case")
+        self.is_of_a_program = "case" in self.said or "output" in self.said
+        self.test = self.said.get("test") or self.case or ("the stored output" if self.said.get("output") == "stored" else None)
         if not self.test or not self.changes:
             raise BadEdit(f"{self.name}: it names no test, case or output, or changes nothing")
 
     def names(self, path):
         """Whether this is the path of its test."""
         return path == self.test or path.endswith(f"::{self.test}")
-
-    def apply(self, folder):
-        """Changes a copy of its crate."""
-        for file, old, new in self.changes:
-            path = f"{folder}/{file}"
-            if not file or not old or not os.path.isfile(path):
-                raise BadEdit(f"no file {file}, or no old text")
-            with open(path, encoding="utf-8") as it:
-                text = it.read()
-            if text.count(old) != 1:
-                raise BadEdit(f"an old text is in {file} {text.count(old)} times, and not once")
-            with open(path, "w", encoding="utf-8") as it:
-                it.write(text.replace(old, new))
 
 
 def batches_of(edits):
@@ -93,10 +56,7 @@ def rewrite(folder, change):
     """Changes the text of each file below a folder."""
     for at, _, files in os.walk(folder):
         for file in files:
-            with open(f"{at}/{file}", encoding="utf-8") as it:
-                text = it.read()
-            with open(f"{at}/{file}", "w", encoding="utf-8") as it:
-                it.write(change(text))
+            write(f"{at}/{file}", change(text_of(f"{at}/{file}")))
 
 
 def renamed(text, names):
@@ -122,11 +82,9 @@ def lay_module(room, target, module, tests, names, change):
 
     rewrite(source, one_module)
     root = f"{source}/{'main' if tries.is_program(target) else 'lib'}.rt"
-    with open(root, encoding="utf-8") as it:
-        lines = [line for line in MAIN.sub("", it.read()).splitlines() if not line.startswith("#![")]
+    lines = [line for line in MAIN.sub("", text_of(root)).splitlines() if not line.startswith("#![")]
     os.remove(root)
-    with open(f"{source}.rt", "w", encoding="utf-8") as it:
-        it.write("\n".join(lines) + "\n")
+    write(f"{source}.rt", "\n".join(lines) + "\n")
 
 
 def lay_edited(room, module, edit):
@@ -145,8 +103,8 @@ def lay_edited(room, module, edit):
     return [names.get(it, it) for it in tries.DEPENDENCIES[edit.target]]
 
 
-def lay_batch(room, edits, as_it_is):
-    """Lays a repository in which the tests of a batch can be run, and where it is asked for those over the crates as they are."""
+def lay_batch(room, edits):
+    """Lays a repository in which the tests of a batch can be run, over each edit and over the crates as they are."""
     target = edits[0].target
     tries.copy_crates(room, tries.below(target))
     os.makedirs(f"{room}/crates/{BATCH}/src")
@@ -154,13 +112,11 @@ def lay_batch(room, edits, as_it_is):
     needed = list(tries.DEPENDENCIES[target])
     for module, edit in zip(modules, edits):
         needed += lay_edited(room, module, edit)
-    if as_it_is:
-        lay_module(room, target, AS_IT_IS, [it.test for it in edits], {}, lambda folder: None)
-        modules.append(AS_IT_IS)
+    lay_module(room, target, AS_IT_IS, [it.test for it in edits], {}, lambda folder: None)
+    modules.append(AS_IT_IS)
     tries.list_crates(room, {BATCH: dict.fromkeys(needed)})
     lines = [f"#[cfg(test)]\nmod {module};\n" for module in modules]
-    with open(f"{room}/crates/{BATCH}/src/lib.rt", "w", encoding="utf-8") as it:
-        it.write("//! Wrong bodies, each with its test.\n#![tactic(auto)]\n\n" + "".join(lines))
+    write(f"{room}/crates/{BATCH}/src/lib.rt", "//! Wrong bodies, each with its test.\n#![tactic(auto)]\n\n" + "".join(lines))
 
 
 def with_edit(number):
