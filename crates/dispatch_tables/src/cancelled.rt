@@ -3,8 +3,6 @@
 ghost use Rattle.std.specs.Prelude.{◌≡◌, ℕ, ◌<◌, ◌≤◌, ◌+◌, ◌^◌, length, vec_len, vec_capacity};
 ghost use Rattle.dispatch_tables.specs.Cancelled.{IsAscending, IsPlaceOf, HasEntered, is_among};
 
-use vmm_sys::epoll::RawFd;
-
 /// Where a search ended: whether it found the descriptor, at which place it stands or would stand, and after how many
 /// probes.
 #[derive(Clone, Copy)]
@@ -18,7 +16,7 @@ struct SearchEnd {
 /// with: at most as many as the list's length has binary digits, none where the list is empty.
 ///
 /// So each turn of a dispatch finds out whether its event was cancelled.
-pub fn cancelled_at(list: &[RawFd], fd: RawFd) -> (bool, usize)
+pub fn cancelled_at(list: &[u32], fd: u32) -> (bool, usize)
     requires { IsAscending list.now }
     ensures answer { result.0 ≡ is_among fd list.now }
     ensures probes { (digits : ℕ) → length list.now < 2 ^ digits → result.1 ≤ digits }
@@ -28,7 +26,7 @@ pub fn cancelled_at(list: &[RawFd], fd: RawFd) -> (bool, usize)
 }
 
 /// Enters a descriptor, unless it is there. The list has room for one more.
-pub fn enter(list: &mut Vec<RawFd>, fd: RawFd)
+pub fn enter(list: &mut Vec<u32>, fd: u32)
     requires ascending { IsAscending list.old.items }
     requires room { vec_len list.old < vec_capacity list.old }
     ensures ascending { IsAscending list.new.items }
@@ -43,7 +41,7 @@ pub fn enter(list: &mut Vec<RawFd>, fd: RawFd)
     let _ = list.insert(search.at, fd);
 }
 
-fn search(list: &[RawFd], fd: RawFd) -> SearchEnd
+fn search(list: &[u32], fd: u32) -> SearchEnd
     requires { IsAscending list.now }
     ensures place { IsPlaceOf list.now fd result.found result.at }
     ensures probes { (digits : ℕ) → length list.now < 2 ^ digits → result.probes ≤ digits }

@@ -1,12 +1,6 @@
 -- The positions of a buffer.
-use Rattle.std.proofs.Common.{◌≡◌, ℕ, suc, ◌+◌, ◌%◌, ◌^◌, ◌<◌, ◌≤◌, ◌==◌, ◌||◌, refl, sym, ap, subst, ◌∙◌, List, [], ◌∷◌, Bool, false, length, get_or, take, drop, add-one, arith, length-take, get_or-take, drop-cons, map, ℤ, pos, Ok, w32, inl, inr}
-use Rattle.std.proofs.lemmas.Bool.{cases_lt}
-use Rattle.std.specs.Int.{cast_signed}
-use Rattle.std.specs.Ordering.{int_eq}
-use Rattle.std.proofs.lemmas.Int.{ints, to_z_pos}
-use Rattle.std.proofs.lemmas.Bool.Decides.{same_from_decides, Decides-like, Decides-int_eq, Decides-eqb}
+use Rattle.std.proofs.Common.{◌≡◌, ℕ, suc, ◌+◌, ◌<◌, ◌≤◌, ◌==◌, ◌||◌, refl, sym, ap, subst, ◌∙◌, List, [], ◌∷◌, Bool, false, length, get_or, take, drop, add-one, arith, length-take, get_or-take, drop-cons, map, ℤ, Ok}
 use Rattle.std.proofs.lemmas.List.{length-take-le, drop_all}
-use Rattle.vmm_sys.specs.EpollEvent.{fd_of, word_of}
 use Rattle.dispatch_tables.specs.Event.{Event, event_of_entry}
 use Rattle.dispatch_tables.specs.Cancelled.{HasEntered}
 use base.Stored.{Gv}
@@ -17,7 +11,7 @@ use Rattle.vmm_sys.specs.declared.entries.EpollEvent.{EpollEvent}
 use Rattle.event_loop.specs.ReadyList.{is_cancelled, ready_of}
 
 -- one more position: the entry with its mark, and then the others
-pub ready_more : (buffer : List EpollEvent) (cancelled : List ℤ) (i n : ℕ) (e : EpollEvent) → i < n → n ≤ length buffer → e ≡ get_or buffer i e → ready_of buffer cancelled i n ≡ (event_of_entry e, is_cancelled cancelled e) ∷ ready_of buffer cancelled (i + 1) n
+pub ready_more : (buffer : List EpollEvent) (cancelled : List ℕ) (i n : ℕ) (e : EpollEvent) → i < n → n ≤ length buffer → e ≡ get_or buffer i e → ready_of buffer cancelled i n ≡ (event_of_entry e, is_cancelled cancelled e) ∷ ready_of buffer cancelled (i + 1) n
 ready_more buffer cancelled i n e below fits is =
     let long : i < length (take n buffer) = omega (arith, length-take n buffer) in
     let marked : EpollEvent → Event × Bool = λ x. (event_of_entry x, is_cancelled cancelled x) in
@@ -34,34 +28,19 @@ pub ready_all_pending : (buffer : List EpollEvent) (n : ℕ) → ready_of buffer
 ready_all_pending buffer n = none_cancelled (take n buffer)
 
 -- past the last position nothing is left
-pub ready_none : (buffer : List EpollEvent) (cancelled : List ℤ) (i n : ℕ) → n ≤ i → ready_of buffer cancelled i n ≡ []
+pub ready_none : (buffer : List EpollEvent) (cancelled : List ℕ) (i n : ℕ) → n ≤ i → ready_of buffer cancelled i n ≡ []
 ready_none buffer cancelled i n past = ap (map (λ e. (event_of_entry e, is_cancelled cancelled e))) (drop_all i (take n buffer) (omega (arith, length-take n buffer, past)))
 
--- a descriptor from 0 up is that of an entry exactly if it is the low half of its word
-to_number : (fd n : ℕ) → fd < 2 ^ 31 → n < 2 ^ 32 → pos fd ≡ cast_signed w32 n → fd ≡ n
-to_number fd n small half e = elim (cases_lt n (2 ^ 31)) [
-  | inl l ↦ omega (arith, ints, e, to_z_pos w32 n l)
-  | inr l ↦ absurd (grind (arith, ints, e, small, half, l))
-]
-
-from_number : (fd n : ℕ) → fd < 2 ^ 31 → fd ≡ n → pos fd ≡ cast_signed w32 n
-from_number fd n small e = sym (to_z_pos w32 n (omega (arith, e, small)) ∙ ap pos (sym e))
-
-same_descriptor : (fd n : ℕ) → fd < 2 ^ 31 → n < 2 ^ 32 → int_eq (pos fd) (cast_signed w32 n) ≡ (fd == n)
-same_descriptor fd n small half =
-    same_from_decides _ _ (Decides-like _ (to_number fd n small half) (from_number fd n small) (Decides-int_eq (pos fd) (cast_signed w32 n))) (Decides-eqb fd n)
-
 -- one more descriptor is cancelled
-entered_each : (before after : List ℤ) (fd : ℕ) → fd < 2 ^ 31 → HasEntered before (pos fd) after → (es : List EpollEvent)
+entered_each : (before after : List ℕ) (fd : ℕ) → HasEntered before fd after → (es : List EpollEvent)
     → map (λ e. (event_of_entry e, is_cancelled after e)) es ≡ cancel_on fd (map (λ e. (event_of_entry e, is_cancelled before e)) es)
-entered_each before after fd small has [] = refl
-entered_each before after fd small has (e ∷ es) =
-    ap (λ b. (event_of_entry e, b) ∷ map (λ x. (event_of_entry x, is_cancelled after x)) es)
-    (has (fd_of e) ∙ ap (λ b. is_cancelled before e || b) (same_descriptor fd (word_of e % 2 ^ 32) small (omega arith)))
-    ∙ ap (λ r. (event_of_entry e, is_cancelled before e || (fd == (event_of_entry e).fd)) ∷ r) (entered_each before after fd small has es)
+entered_each before after fd has [] = refl
+entered_each before after fd has (e ∷ es) =
+    ap (λ b. (event_of_entry e, b) ∷ map (λ x. (event_of_entry x, is_cancelled after x)) es) (has (event_of_entry e).fd)
+    ∙ ap (λ r. (event_of_entry e, is_cancelled before e || (fd == (event_of_entry e).fd)) ∷ r) (entered_each before after fd has es)
 
-pub ready_cancelled : (buffer : List EpollEvent) (before after : List ℤ) (fd i n : ℕ) → fd < 2 ^ 31 → HasEntered before (pos fd) after → ready_of buffer after i n ≡ cancel_on fd (ready_of buffer before i n)
-ready_cancelled buffer before after fd i n small has = entered_each before after fd small has (drop i (take n buffer))
+pub ready_cancelled : (buffer : List EpollEvent) (before after : List ℕ) (fd i n : ℕ) → HasEntered before fd after → ready_of buffer after i n ≡ cancel_on fd (ready_of buffer before i n)
+ready_cancelled buffer before after fd i n has = entered_each before after fd has (drop i (take n buffer))
 
 same_length : (es : List EpollEvent) → length (map event_of_entry es) ≡ length es
 same_length [] = refl

@@ -15,7 +15,7 @@ use dispatch_tables::descriptor::fd_of;
 use dispatch_tables::dispatch_order::ClassedEntry;
 use std::alloc::{AllocError, Global};
 use std::marker::Model;
-use vmm_sys::epoll::{EpollEvent, EventSet, RawFd};
+use vmm_sys::epoll::{EpollEvent, EventSet};
 use vmm_sys::errno::Errno;
 
 /// One entry of the ready list, whether it was cancelled, and whether it is on the endpoint's descriptor.
@@ -35,7 +35,7 @@ pub(crate) struct ReadyEntry {
 pub(crate) struct ReadyList {
     buffer: Vec<EpollEvent>,
     classed: Vec<ClassedEntry>,
-    cancelled: Vec<RawFd>,
+    cancelled: Vec<u32>,
     at: usize,
     count: usize,
 }
@@ -94,7 +94,7 @@ impl ReadyList {
         ensures room { self.old.room ≤ self.new.room + 1 }
     {
         if self.at < self.count {
-            enter(&mut self.cancelled, events.fd());
+            enter(&mut self.cancelled, events.number());
         }
     }
 
@@ -108,10 +108,11 @@ impl ReadyList {
     {
         if self.at < self.count {
             let entry = self.buffer[self.at];
+            let fd = fd_of(&entry);
             let ready_entry = ReadyEntry {
                 entry,
-                cancelled: cancelled_at(&self.cancelled, entry.fd()).0,
-                is_endpoint: fd_of(&entry) == endpoint,
+                cancelled: cancelled_at(&self.cancelled, fd).0,
+                is_endpoint: fd == endpoint,
             };
             self.at += 1;
             if self.at == self.count {

@@ -1,5 +1,4 @@
 use Rattle.std.proofs.Common.{ℕ, ◌<◌, ◌≤◌, ◌-◌, ◌*◌, ◌^◌, length, get_or}
-use Rattle.std.specs.Prelude.{◌<ℤ◌}
 use Rattle.dispatch_tables.proofs.cancelled.search.Given as goal
 
 abbrev pub invariant-loop-low : goal.invariant-loop-low
@@ -7,8 +6,8 @@ invariant-loop-low l = record {
   sized : length l.list < 2 ^ 64;
   in_order : l.low ≤ l.high;
   within : l.high ≤ length l.list;
-  below : (k : ℕ) → k < l.low → get_or l.list k l.fd <ℤ l.fd;
-  above : (k : ℕ) → l.high ≤ k → k < length l.list → l.fd <ℤ get_or l.list k l.fd;
+  below : (k : ℕ) → k < l.low → get_or l.list k l.fd < l.fd;
+  above : (k : ℕ) → l.high ≤ k → k < length l.list → l.fd < get_or l.list k l.fd;
   halved : (l.high - l.low) * 2 ^ l.probes ≤ length l.list;
   few : (digits : ℕ) → length l.list < 2 ^ digits → l.probes ≤ digits;
 }

@@ -1,5 +1,4 @@
-use Rattle.std.proofs.Common.{refl, arith, ap, sym, ◌∙◌, ◌∷◌, ◌+◌, ◌==◌, SFits, w32, rules}
-use Rattle.std.proofs.lemmas.Int.{to_z-of_z}
+use Rattle.std.proofs.Common.{refl, arith, ap, sym, ◌∙◌, ◌∷◌, ◌+◌, ◌==◌}
 use Rattle.dispatch_tables.specs.Event.{event_of_entry}
 use Rattle.event_loop.specs.ReadyList.{ready_of}
 use Rattle.event_loop.proofs.Buffer.{ready_more}
@@ -11,6 +10,5 @@ returns-else-self-2-clause-taken c =
     let inv = c.self.invariant in
     let e = c.index.result.now in
     let more = ready_more b.buffer.items b.cancelled.items b.at b.count e c.if-self.true (omega (arith, inv.1, b.buffer.ok.0)) c.index.ensures in
-    let fits : SFits w32 c.fd.result = search rules in
-    let answer = rw (to_z-of_z w32 c.fd.result fits, c.fd.ensures, c.deref.ensures.value) at c.cancelled_at.ensures.answer in
+    let answer = rw (c.fd_of.ensures, c.deref.ensures.value) at c.cancelled_at.ensures.answer in
     rw (← c.self.view_is) (_, more ∙ ap (λ m. (event_of_entry e, m) ∷ ready_of b.buffer.items b.cancelled.items (b.at + 1) b.count) (sym answer), refl, ap (λ fd. fd == c.args.endpoint) c.fd_of.ensures)
