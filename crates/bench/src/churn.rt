@@ -1,16 +1,19 @@
 //! What a join and a leave cost.
 
-use crate::arguments::{Family, Share, Size};
-use crate::bench::{Bench, Host, Measured};
-use crate::fault::{Fault, expect};
-use crate::fixed::{BATCH, Fixed};
-use crate::over_fixed::{Manager, ManagerMeasure, measure};
-use crate::subscribers::{Counter, FIRST};
-use crate::timing::{REPEATS, Times};
+use crate::over_fixed::{Host, Manager, ManagerMeasure, measure};
+use crate::subscribers::Counter;
+use anyhow::Result;
 use event_manager::{EventPoller, Naming, SubscriberOps};
+use measures::arguments::{Family, Share, Size};
+use measures::bench::{Bench, Measured, expect};
+use measures::fixed::{BATCH, FIRST, Fixed};
+use measures::timing::{REPEATS, Times};
 use std::alloc::Global;
 use std::sync::Wait;
 use std::time::Clock;
+
+/// What picks these measures.
+pub const LEAVE: Family = Family("leave");
 
 /// The lowest descriptor of the subscriber that joins and leaves.
 const FIRST_OF_GUEST: i32 = 1000000;
@@ -26,13 +29,13 @@ struct JoinAndLeave {
 impl ManagerMeasure for JoinAndLeave {
     type Subscriber = Counter;
 
-    fn name(&self, alloc: Global) -> Result<String, Fault> {
+    fn name(&self, alloc: Global) -> Result<String> {
         let (others, descriptors) = (self.others, self.descriptors);
         Ok(format!(in alloc; "join and leave, {others} others, {descriptors} fds")?)
     }
 
-    fn poller(&self, alloc: Global) -> Result<Fixed, Fault> {
-        Fixed::first(0, alloc)
+    fn poller(&self, alloc: Global) -> Result<Fixed> {
+        Ok(Fixed::first(0, alloc)?)
     }
 
     fn capacity(&self) -> usize {
@@ -44,7 +47,7 @@ impl ManagerMeasure for JoinAndLeave {
         manager: &mut Manager<Counter, N, P>,
         _alloc: Global,
         rt: &R,
-    ) -> Result<Measured, Fault> {
+    ) -> Result<Measured> {
         for k in 0..self.others {
             let _ = manager.add_subscriber(Counter::new(FIRST as i32 + k as i32, 1))?;
         }
@@ -71,7 +74,7 @@ fn join_and_leave<N: Naming, P: EventPoller>(
     manager: &mut Manager<Counter, N, P>,
     descriptors: u16,
     rounds: u32,
-) -> Result<u64, Fault> {
+) -> Result<u64> {
     let mut left = 0u64;
     for _ in 0..rounds {
         let id = manager.add_subscriber(Counter::new(FIRST_OF_GUEST, descriptors))?;
@@ -82,8 +85,8 @@ fn join_and_leave<N: Naming, P: EventPoller>(
 }
 
 /// Measures a join and a leave at each wanted size, with each wanted number of descriptors.
-pub fn measure_joins<R: Host>(bench: &Bench<R>) -> Result<(), Fault> {
-    if !bench.wanted.has_family(Family::Leave) {
+pub fn measure_joins<R: Host>(bench: &Bench<R>) -> Result<()> {
+    if !bench.wanted.has_family(LEAVE) {
         return Ok(());
     }
     let rounds = bench.rounds(50000);

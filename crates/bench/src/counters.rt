@@ -1,17 +1,20 @@
 //! What a write costs that the loop delivers, over the in-process table.
 
-use crate::arguments::{Family, Size};
-use crate::bench::{Bench, Host, Measured};
-use crate::fault::{Fault, expect};
-use crate::over_fixed::Manager;
+use crate::over_fixed::{Host, Manager};
 use crate::subscribers::Reader;
-use crate::timing::{REPEATS, Times};
+use anyhow::Result;
 use event_manager::{EventPoller, Ledgers, Naming, SubscriberOps, WithLedgers, with_ledgers};
+use measures::arguments::{Family, Size};
+use measures::bench::{Bench, Measured, expect};
+use measures::timing::{REPEATS, Times};
 use std::alloc::Global;
 use std::sync::Wait;
 use std::time::Clock;
 use vmm_sys::epoll::Epoll;
 use vmm_sys::eventfd::EventFd;
+
+/// What picks these measures.
+pub const COUNTERS: Family = Family("counters");
 
 /// How many writes a repeat makes.
 const WRITES: u32 = 4096;
@@ -27,9 +30,9 @@ struct WrittenCounters<'a, R> {
 }
 
 impl<R: Wait + Clock + Copy + Send + Drop> WithLedgers for WrittenCounters<'_, R> {
-    type Output = Result<Measured, Fault>;
+    type Output = Result<Measured>;
 
-    fn run<N: Naming + Send + Sync>(self, ledgers: Ledgers<N>) -> Result<Measured, Fault> {
+    fn run<N: Naming + Send + Sync>(self, ledgers: Ledgers<N>) -> Result<Measured> {
         let WrittenCounters {
             epoll,
             endpoint,
@@ -70,7 +73,7 @@ fn write_and_run<N: Naming, P: EventPoller, R: Wait + Clock>(
     counters: &[EventFd],
     rounds: u32,
     rt: &R,
-) -> Result<(), Fault> {
+) -> Result<()> {
     let mut next = counters.iter();
     for _ in 0..rounds {
         if next.len() == 0 {
@@ -84,7 +87,7 @@ fn write_and_run<N: Naming, P: EventPoller, R: Wait + Clock>(
     Ok(())
 }
 
-fn measure<R: Host>(bench: &Bench<R>, count: u32) -> Result<(), Fault> {
+fn measure<R: Host>(bench: &Bench<R>, count: u32) -> Result<()> {
     let (alloc, rt) = (bench.alloc, &bench.rt);
     let epoll = Epoll::new(*rt, alloc)?;
     let endpoint = EventFd::new(&epoll, 0, rt)?;
@@ -105,8 +108,8 @@ fn measure<R: Host>(bench: &Bench<R>, count: u32) -> Result<(), Fault> {
 }
 
 /// Measures a write, the run that delivers it and its read at each wanted size.
-pub fn measure_counters<R: Host>(bench: &Bench<R>) -> Result<(), Fault> {
-    if !bench.wanted.has_family(Family::Counters) {
+pub fn measure_counters<R: Host>(bench: &Bench<R>) -> Result<()> {
+    if !bench.wanted.has_family(COUNTERS) {
         return Ok(());
     }
     for (size, count) in [

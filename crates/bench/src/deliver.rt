@@ -2,17 +2,20 @@
 
 ghost use Rattle.std.specs.Prelude.{◌≤ℤ◌, pos};
 
-use crate::arguments::{Family, Size};
-use crate::bench::{Bench, Host, Measured};
-use crate::fault::{Fault, expect};
-use crate::fixed::{BATCH, Fixed};
-use crate::over_fixed::{Manager, ManagerMeasure, measure, run_rounds};
-use crate::subscribers::{Counter, FIRST, descriptor};
-use crate::timing::{REPEATS, Times};
+use crate::over_fixed::{Host, Manager, ManagerMeasure, measure, run_rounds};
+use crate::subscribers::{Counter, descriptor};
+use anyhow::Result;
 use event_manager::{EventPoller, EventSet, Events, Naming, Priority, SubscriberId, SubscriberOps};
+use measures::arguments::{Family, Size};
+use measures::bench::{Bench, Measured, expect};
+use measures::fixed::{BATCH, FIRST, Fixed};
+use measures::timing::{REPEATS, Times};
 use std::alloc::Global;
 use std::sync::Wait;
 use std::time::Clock;
+
+/// What picks these measures.
+pub const DELIVER: Family = Family("deliver");
 
 /// A descriptor that no wait reports.
 const UNREPORTED: i32 = 60000;
@@ -40,7 +43,7 @@ struct Deliver {
 impl ManagerMeasure for Deliver {
     type Subscriber = Counter;
 
-    fn name(&self, alloc: Global) -> Result<String, Fault> {
+    fn name(&self, alloc: Global) -> Result<String> {
         let subscribers = self.subscribers;
         Ok(match self.priorities {
             Priorities::Lowest => format!(in alloc; "deliver, {subscribers} subscribers")?,
@@ -51,8 +54,8 @@ impl ManagerMeasure for Deliver {
         })
     }
 
-    fn poller(&self, alloc: Global) -> Result<Fixed, Fault> {
-        Fixed::spread(self.subscribers, alloc)
+    fn poller(&self, alloc: Global) -> Result<Fixed> {
+        Ok(Fixed::spread(self.subscribers, alloc)?)
     }
 
     fn capacity(&self) -> usize {
@@ -64,7 +67,7 @@ impl ManagerMeasure for Deliver {
         manager: &mut Manager<Counter, N, P>,
         alloc: Global,
         rt: &R,
-    ) -> Result<Measured, Fault> {
+    ) -> Result<Measured> {
         let (batch, rounds) = (BATCH as u64, self.rounds);
         let mut ids = Vec::new(alloc);
         for k in 0..self.subscribers {
@@ -89,13 +92,13 @@ impl ManagerMeasure for Deliver {
 }
 
 impl Deliver {
-    /// Gives the subscriber's descriptor its priority. `Manager`.
+    /// Gives the subscriber's descriptor its priority.
     fn give_priority<N: Naming, P: EventPoller>(
         &self,
         manager: &mut Manager<Counter, N, P>,
         id: SubscriberId,
         fd: i32,
-    ) -> Result<(), Fault>
+    ) -> Result<()>
         requires { pos 0 ≤ℤ fd }
     {
         match self.priorities {
@@ -129,8 +132,8 @@ const SIZES: [(Size, u32); 5] = [
 ];
 
 /// Measures a delivery at each wanted size; with priorities at those up to 4096.
-pub fn measure_deliveries<R: Host>(bench: &Bench<R>) -> Result<(), Fault> {
-    if !bench.wanted.has_family(Family::Deliver) {
+pub fn measure_deliveries<R: Host>(bench: &Bench<R>) -> Result<()> {
+    if !bench.wanted.has_family(DELIVER) {
         return Ok(());
     }
     for (size, subscribers) in SIZES {
@@ -150,7 +153,7 @@ fn measure_delivery<R: Host>(
     bench: &Bench<R>,
     subscribers: u32,
     priorities: Priorities,
-) -> Result<(), Fault> {
+) -> Result<()> {
     let deliver = Deliver {
         subscribers,
         priorities,

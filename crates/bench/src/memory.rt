@@ -1,14 +1,18 @@
 //! What subscribers and descriptors take of memory: by what the process holds of it, as Linux tells in `/proc/self/status`.
 
-use crate::arguments::Family;
-use crate::bench::{Bench, Host};
-use crate::fault::Fault;
-use crate::fixed::{BATCH, Fixed};
+use crate::over_fixed::Host;
 use crate::subscribers::{Counter, descriptor};
+use anyhow::{Result, bail};
 use event_manager::{EventLoop, EventSet, Events, SubscriberOps};
+use measures::arguments::Family;
+use measures::bench::Bench;
+use measures::fixed::{BATCH, Fixed};
 use std::alloc::Global;
 use std::fs;
 use std::rt::Files;
+
+/// What picks these measures.
+pub const MEMORY: Family = Family("memory");
 
 /// How many subscribers, and how many descriptors, the bytes are of.
 const MANY: u32 = 1000000;
@@ -16,24 +20,21 @@ const MANY: u32 = 1000000;
 /// A loop without jobs over a poller that reports nothing.
 type IdleLoop = EventLoop<Counter, Fixed>;
 
-fn idle_loop(alloc: Global) -> Result<IdleLoop, Fault> {
+fn idle_loop(alloc: Global) -> Result<IdleLoop> {
     let poller = Fixed::first(0, alloc)?;
     Ok(EventLoop::with_capacity(alloc, poller, BATCH as usize)?)
 }
 
-/// The bytes that the process holds in memory. `System` where they can't be read, `Resident` where Linux doesn't tell.
-fn resident<R: Files + AllocGlobal>(rt: &R) -> Result<u64, Fault> {
+/// The bytes that the process holds in memory. Refused where Linux doesn't tell.
+fn resident<R: Files + AllocGlobal>(rt: &R) -> Result<u64> {
     let status = fs::read_to_string(rt, "/proc/self/status")?;
     for line in status.lines() {
         if let Some(size) = line.strip_prefix("VmRSS:") {
-            let kilobytes = size.trim().trim_end_matches(" kB").parse::<u64>();
-            return match kilobytes {
-                Ok(kilobytes) => Ok(kilobytes.saturating_mul(1024)),
-                Err(_) => Err(Fault::Resident),
-            };
+            let kilobytes = size.trim().trim_end_matches(" kB").parse::<u64>()?;
+            return Ok(kilobytes.saturating_mul(1024));
         }
     }
-    Err(Fault::Resident)
+    bail!("the size of the process can't be read")
 }
 
 /// What fills a loop.
@@ -53,8 +54,8 @@ impl Filling {
         }
     }
 
-    /// Puts so many into the loop. `Manager`.
-    fn fill(&self, event_loop: &mut IdleLoop, count: u32) -> Result<(), Fault> {
+    /// Puts so many into the loop.
+    fn fill(&self, event_loop: &mut IdleLoop, count: u32) -> Result<()> {
         match self {
             Filling::Subscribers => join(event_loop, count),
             Filling::Descriptors => add(event_loop, count),
@@ -62,16 +63,16 @@ impl Filling {
     }
 }
 
-/// Lets so many subscribers join, each with a descriptor of its own. `Manager`.
-fn join(event_loop: &mut IdleLoop, count: u32) -> Result<(), Fault> {
+/// Lets so many subscribers join, each with a descriptor of its own.
+fn join(event_loop: &mut IdleLoop, count: u32) -> Result<()> {
     for k in 0..count {
         let _ = event_loop.add_subscriber(Counter::new(descriptor(k), 1))?;
     }
     Ok(())
 }
 
-/// Adds so many descriptors to one subscriber. `Manager`.
-fn add(event_loop: &mut IdleLoop, count: u32) -> Result<(), Fault> {
+/// Adds so many descriptors to one subscriber.
+fn add(event_loop: &mut IdleLoop, count: u32) -> Result<()> {
     let id = event_loop.add_subscriber(Counter::new(0, 0))?;
     let ops = event_loop.event_ops(id)?;
     for k in 0..count {
@@ -86,7 +87,7 @@ fn measure_filled<R: Host + Files + AllocGlobal>(
     bench: &Bench<R>,
     filling: Filling,
     count: u32,
-) -> Result<IdleLoop, Fault> {
+) -> Result<IdleLoop> {
     let mut event_loop = idle_loop(bench.alloc)?;
     if bench.wanted.checked {
         filling.fill(&mut event_loop, count)?;
@@ -105,8 +106,8 @@ fn measure_filled<R: Host + Files + AllocGlobal>(
 }
 
 /// Measures the memory of a million subscribers with a descriptor each, and of a million descriptors of one.
-pub fn measure_memory<R: Host + Files + AllocGlobal>(bench: &Bench<R>) -> Result<(), Fault> {
-    if !bench.wanted.has_family(Family::Memory) {
+pub fn measure_memory<R: Host + Files + AllocGlobal>(bench: &Bench<R>) -> Result<()> {
+    if !bench.wanted.has_family(MEMORY) {
         return Ok(());
     }
     let count = bench.rounds(MANY);

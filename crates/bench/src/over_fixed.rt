@@ -1,17 +1,26 @@
 //! Measures of a manager over the fixed poller.
 
-use crate::bench::{Bench, Host, Measured};
-use crate::fault::{Fault, expect};
-use crate::fixed::Fixed;
+use anyhow::Result;
 use event_manager::{
     BoxedPoller, EventManager, EventPoller, Ledgers, MutEventSubscriber, Naming, NoJob,
     WithLedgers, with_ledgers,
 };
+use measures::bench::{Bench, Measured, expect};
+use measures::fixed::Fixed;
 use std::alloc::Global;
 use std::sync::Wait;
 use std::time::Clock;
+use vmm_sys::epoll::Epoll;
 use vmm_sys::eventfd::EventFd;
 use vmm_sys::poller::Poller;
+
+/// How many counters are opened for the endpoint: the last one has descriptor 9.
+const COUNTERS: u32 = 10;
+
+/// What the measures need of the runtime.
+pub trait Host: Wait + Clock + Print + Copy + Send + Drop {}
+
+impl<R: Wait + Clock + Print + Copy + Send + Drop> Host for R {}
 
 /// A manager without jobs.
 pub type Manager<S, N, P> = EventManager<S, NoJob, N, P>;
@@ -21,22 +30,22 @@ pub trait ManagerMeasure: Drop {
     /// The type of its subscribers.
     type Subscriber: MutEventSubscriber + Drop;
 
-    /// The name of its line. `Memory`.
-    fn name(&self, alloc: Global) -> Result<String, Fault>;
+    /// The name of its line.
+    fn name(&self, alloc: Global) -> Result<String>;
 
-    /// The poller, with what it reports. `Memory`.
-    fn poller(&self, alloc: Global) -> Result<Fixed, Fault>;
+    /// The poller, with what it reports.
+    fn poller(&self, alloc: Global) -> Result<Fixed>;
 
     /// The capacity of the manager.
     fn capacity(&self) -> usize;
 
-    /// Does the work on a new manager. `Manager`, `Answer`, `System` or `Memory`.
+    /// Does the work on a new manager. Refused where it counts another number than it has.
     fn take<N: Naming, P: EventPoller, R: Wait + Clock>(
         &self,
         manager: &mut Manager<Self::Subscriber, N, P>,
         alloc: Global,
         rt: &R,
-    ) -> Result<Measured, Fault>;
+    ) -> Result<Measured>;
 }
 
 /// A measure that is ready: all that it needs but the manager, which is made over ledgers.
@@ -49,9 +58,9 @@ struct Ready<'a, M, P, R> {
 }
 
 impl<M: ManagerMeasure, P: EventPoller + Drop, R: Wait + Clock> WithLedgers for Ready<'_, M, P, R> {
-    type Output = Result<Measured, Fault>;
+    type Output = Result<Measured>;
 
-    fn run<N: Naming + Send + Sync>(self, ledgers: Ledgers<N>) -> Result<Measured, Fault> {
+    fn run<N: Naming + Send + Sync>(self, ledgers: Ledgers<N>) -> Result<Measured> {
         let Ready {
             measure,
             poller,
@@ -70,12 +79,22 @@ impl<M: ManagerMeasure, P: EventPoller + Drop, R: Wait + Clock> WithLedgers for 
     }
 }
 
-/// Takes a measure, with the poller in a box or as it is, and prints its line. The faults are those of the measure.
-pub fn measure<M: ManagerMeasure, R: Host>(bench: &Bench<R>, measure: &M) -> Result<(), Fault> {
+/// A counter of descriptor 9, in a table that nobody polls.
+fn open_endpoint<R: Host>(rt: R, alloc: Global) -> Result<EventFd> {
+    let epoll = Epoll::new(rt, alloc)?;
+    let mut endpoint = EventFd::new(&epoll, 0, &rt)?;
+    for _ in 1..COUNTERS {
+        endpoint = EventFd::new(&epoll, 0, &rt)?;
+    }
+    Ok(endpoint)
+}
+
+/// Takes a measure, with the poller in a box or as it is, and prints its line. Refused as the measure is.
+pub fn measure<M: ManagerMeasure, R: Host>(bench: &Bench<R>, measure: &M) -> Result<()> {
     let (alloc, rt) = (bench.alloc, &bench.rt);
     let name = measure.name(alloc)?;
     let fixed = measure.poller(alloc)?;
-    let endpoint = bench.open_endpoint()?;
+    let endpoint = open_endpoint(*rt, alloc)?;
     let measured = if bench.wanted.boxed {
         let boxed: Box<dyn Poller + Send> = Box::new(alloc, fixed)?;
         with_ledgers(Ready {
@@ -97,13 +116,13 @@ pub fn measure<M: ManagerMeasure, R: Host>(bench: &Bench<R>, measure: &M) -> Res
     bench.print(name.as_str(), measured)
 }
 
-/// Runs the manager so often; each run must answer `count`. `Manager`, `Answer`.
+/// Runs the manager so often; each run must answer `count`.
 pub fn run_rounds<S, N, P, R>(
     manager: &mut Manager<S, N, P>,
     rounds: u32,
     count: u64,
     rt: &R,
-) -> Result<(), Fault>
+) -> Result<()>
 where
     S: MutEventSubscriber,
     N: Naming,

@@ -3,11 +3,9 @@
 ghost use Rattle.std.specs.Prelude.{◌≤ℤ◌, pos};
 
 use event_manager::{EventOps, EventPoller, EventSet, Events, MutEventSubscriber, Result};
+use measures::fixed::FIRST;
 use std::sync::Wait;
 use vmm_sys::eventfd::EventFd;
-
-/// The lowest descriptor of a subscriber.
-pub const FIRST: u16 = 10;
 
 /// The descriptor of a number that is counted from the lowest; the highest there is where it would be above.
 pub fn descriptor(number: u32) -> i32

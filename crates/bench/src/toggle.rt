@@ -1,16 +1,22 @@
 //! What a remove and an add of one descriptor cost, made at an event.
 
-use crate::arguments::{Family, Size};
-use crate::bench::{Bench, Host, Measured};
-use crate::fault::{Fault, expect};
-use crate::fixed::{BATCH, Fixed};
-use crate::over_fixed::{Manager, ManagerMeasure, measure, run_rounds};
+use crate::over_fixed::{Host, Manager, ManagerMeasure, measure, run_rounds};
 use crate::subscribers::Toggler;
-use crate::timing::{REPEATS, Times};
+use anyhow::Result;
 use event_manager::{EventPoller, Naming, SubscriberOps};
+use measures::arguments::{Family, Size};
+use measures::bench::{Bench, Measured, expect};
+use measures::fixed::{BATCH, Fixed};
+use measures::timing::{REPEATS, Times};
 use std::alloc::Global;
 use std::sync::Wait;
 use std::time::Clock;
+
+/// What picks the measures of one event in a batch.
+pub const ONE: Family = Family("one");
+
+/// What picks those of 256 events in a batch.
+pub const IN_A_BATCH: Family = Family("batch");
 
 /// Batches of so many events of one subscriber, which at each removes a descriptor that isn't in the batch, and adds it
 /// again.
@@ -30,13 +36,13 @@ struct Toggle {
 impl ManagerMeasure for Toggle {
     type Subscriber = Toggler;
 
-    fn name(&self, alloc: Global) -> Result<String, Fault> {
+    fn name(&self, alloc: Global) -> Result<String> {
         let (label, capacity) = (self.label, self.capacity);
         Ok(format!(in alloc; "{label}, capacity {capacity}")?)
     }
 
-    fn poller(&self, alloc: Global) -> Result<Fixed, Fault> {
-        Fixed::first(self.entries, alloc)
+    fn poller(&self, alloc: Global) -> Result<Fixed> {
+        Ok(Fixed::first(self.entries, alloc)?)
     }
 
     fn capacity(&self) -> usize {
@@ -48,7 +54,7 @@ impl ManagerMeasure for Toggle {
         manager: &mut Manager<Toggler, N, P>,
         _alloc: Global,
         rt: &R,
-    ) -> Result<Measured, Fault> {
+    ) -> Result<Measured> {
         let (entries, rounds) = (self.entries as u64, self.rounds);
         let id = manager.add_subscriber(Toggler::new(self.descriptors, self.skip))?;
         let times = Times::of(|| run_rounds(manager, rounds, entries, rt), rt)?;
@@ -94,14 +100,14 @@ const SIZES: [(Size, usize, u32, u32); 3] = [
 ];
 
 /// Measures a toggle at each wanted size, first in a batch of one event and then in one of 256.
-pub fn measure_toggles<R: Host>(bench: &Bench<R>) -> Result<(), Fault> {
+pub fn measure_toggles<R: Host>(bench: &Bench<R>) -> Result<()> {
     for (size, capacity, rounds, _) in SIZES {
-        if bench.wanted.has_family(Family::One) && bench.wanted.has_size(size) {
+        if bench.wanted.has_family(ONE) && bench.wanted.has_size(size) {
             measure(bench, &toggle_one(capacity, bench.rounds(rounds)))?;
         }
     }
     for (size, capacity, _, rounds) in SIZES {
-        if bench.wanted.has_family(Family::Batch) && bench.wanted.has_size(size) {
+        if bench.wanted.has_family(IN_A_BATCH) && bench.wanted.has_size(size) {
             measure(bench, &toggle_in_a_batch(capacity, bench.rounds(rounds)))?;
         }
     }

@@ -1,19 +1,23 @@
 //! What it costs to record an event that a poller reports.
 
-use crate::arguments::Family;
-use crate::bench::{Bench, Host, Measured};
-use crate::fault::{Fault, expect};
-use crate::fixed::{BATCH, Fixed};
-use crate::timing::{REPEATS, Times};
+use anyhow::Result;
+use measures::arguments::Family;
+use measures::bench::{Bench, Measured, expect};
+use measures::fixed::{BATCH, Fixed};
+use measures::timing::{REPEATS, Times};
+use std::time::Clock;
 use vmm_sys::epoll::{EpollEvent, EventSet};
 use vmm_sys::poller::Poller;
 use vmm_sys::recording_poller::RecordingPoller;
+
+/// What picks these measures.
+pub const RECORD: Family = Family("record");
 
 /// How often a repeat waits.
 const WAITS: u32 = 1000;
 
 /// Waits so often, each of which must report a whole batch; answers how many entries were reported in all.
-fn wait<P: Poller>(poller: &mut P, buffer: &mut [EpollEvent], rounds: u32) -> Result<u64, Fault> {
+fn wait<P: Poller>(poller: &mut P, buffer: &mut [EpollEvent], rounds: u32) -> Result<u64> {
     let mut reported = 0u64;
     for _ in 0..rounds {
         let count = poller.wait(-1, buffer)? as u64;
@@ -22,12 +26,12 @@ fn wait<P: Poller>(poller: &mut P, buffer: &mut [EpollEvent], rounds: u32) -> Re
     Ok(reported)
 }
 
-/// Measures the waits of pollers, of one in each repeat. `Descriptor`, `Answer`, `System` or `Memory`.
-fn measure_waits<P: Poller, R: Host>(
+/// Measures the waits of pollers, of one in each repeat.
+fn measure_waits<P: Poller, R: Clock + Print>(
     bench: &Bench<R>,
     pollers: &mut [P],
     rounds: u32,
-) -> Result<Measured, Fault> {
+) -> Result<Measured> {
     let nothing = EpollEvent::new(EventSet::empty(), 0);
     let mut buffer = vec![in bench.alloc; nothing; BATCH as usize]?;
     let mut count = 0u64;
@@ -49,9 +53,9 @@ fn measure_waits<P: Poller, R: Host>(
     })
 }
 
-/// Measures a reported event of the fixed poller, alone and recorded into a record of its own. `Answer` where one was left out.
-pub fn measure_records<R: Host>(bench: &Bench<R>) -> Result<(), Fault> {
-    if !bench.wanted.has_family(Family::Record) {
+/// Measures a reported event of the fixed poller, alone and recorded into a record of its own. Refused where one was left out.
+pub fn measure_records<R: Clock + Print>(bench: &Bench<R>) -> Result<()> {
+    if !bench.wanted.has_family(RECORD) {
         return Ok(());
     }
     let (alloc, rounds) = (bench.alloc, bench.rounds(WAITS));

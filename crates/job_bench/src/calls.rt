@@ -3,26 +3,34 @@
 //! Both wait without a limit, so whoever misses a wake-up or a reply waits for ever. The program's first thread looks on:
 //! where no reply has come for ten seconds, it ends the program with 1 and a line that says so.
 
-use crate::arguments::Family;
-use crate::bench::{Bench, Host, Measured};
-use crate::fault::{Fault, expect};
-use crate::jobs::CountOne;
+use crate::jobs::{CountOne, Counter};
 use crate::progress::Progress;
-use crate::subscribers::{Counter, FIRST};
-use crate::timing::{REPEATS, Times};
+use anyhow::{Result, bail};
 use event_manager::{
-    Error, EventManager, EventPoller, LoopWithSenders, Naming, RemoteEndpoint, Sender,
-    SubscriberId, SubscriberOps, with_senders,
+    EventManager, EventPoller, LoopWithSenders, Naming, RemoteEndpoint, Sender, SubscriberId,
+    SubscriberOps, with_senders,
 };
+use measures::arguments::Family;
+use measures::bench::{Bench, Measured, expect};
+use measures::timing::{REPEATS, Times};
 use std::alloc::Global;
 use std::sync::{Arc, Wait};
 use std::thread;
+use std::thread::Threads;
 use std::time::Clock;
 use vmm_sys::epoll::Epoll;
 use vmm_sys::eventfd::EventFd;
 
+/// What picks this measure.
+pub const CALL: Family = Family("call");
+
 /// How many jobs a repeat sends.
 const JOBS: u32 = 2000;
+
+/// What the measure needs of the runtime.
+pub trait Host: Threads + Wait + Clock + Print + Copy + Send + Sync + Drop + 'static {}
+
+impl<R: Threads + Wait + Clock + Print + Copy + Send + Sync + Drop + 'static> Host for R {}
 
 /// A loop with one counter, which is called so often in each repeat.
 #[derive(Drop)]
@@ -47,25 +55,21 @@ impl<'a, R: Wait + Clock> LoopWithSenders<Counter, CountOne, Caller<'a>, R> for 
         manager: &mut EventManager<Counter, CountOne, N, P>,
     ) -> event_manager::Result<Vec<Caller<'a>>> {
         let caller = Caller {
-            id: manager.add_subscriber(Counter::new(FIRST as i32, 0))?,
+            id: manager.add_subscriber(Counter { count: 0 })?,
             rounds: self.rounds,
             progress: self.progress,
         };
-        let mut callers = Vec::new(alloc);
-        match callers.push(caller) {
-            Ok(()) => Ok(callers),
-            Err(_refused) => Err(Error::OutOfMemory),
-        }
+        Ok(vec![in alloc; caller]?)
     }
 }
 
-impl<R: Wait + Clock> Sender<Counter, CountOne, Result<Times, Fault>, R> for Caller<'_> {
+impl<R: Wait + Clock> Sender<Counter, CountOne, Result<Times>, R> for Caller<'_> {
     /// Sends the jobs of all repeats.
     fn send<N: Naming>(
         self,
         endpoint: &RemoteEndpoint<Counter, CountOne, N>,
         rt: &R,
-    ) -> Result<Times, Fault> {
+    ) -> Result<Times> {
         let Caller {
             id,
             rounds,
@@ -82,7 +86,7 @@ fn call_often<N: Naming, R: Wait + Clock>(
     rounds: u32,
     progress: &Progress,
     rt: &R,
-) -> Result<(), Fault> {
+) -> Result<()> {
     for _ in 0..rounds {
         let _ = endpoint.call_blocking(CountOne(id), rt)??;
         progress.count_reply();
@@ -91,19 +95,14 @@ fn call_often<N: Naming, R: Wait + Clock>(
 }
 
 /// Makes the loop over the in-process table, and measures a call beside it.
-fn measure<R: Host>(
-    rt: &R,
-    alloc: Global,
-    rounds: u32,
-    progress: &Progress,
-) -> Result<Measured, Fault> {
+fn measure<R: Host>(rt: &R, alloc: Global, rounds: u32, progress: &Progress) -> Result<Measured> {
     let epoll = Epoll::new(*rt, alloc)?;
     let event_fd = EventFd::new(&epoll, 0, rt)?;
     let mut called = CalledLoop { rounds, progress };
     let ended = with_senders(rt, alloc, epoll, event_fd, &mut called)?;
     ended.ran?;
     let Some(times) = ended.sent.into_iter().next() else {
-        return Err(Fault::Thread);
+        bail!("the caller gave nothing");
     };
     Ok(Measured {
         times: times?,
@@ -118,16 +117,16 @@ fn measure_to_end<R: Host>(
     alloc: Global,
     rounds: u32,
     progress: &Progress,
-) -> Result<Measured, Fault> {
+) -> Result<Measured> {
     let measured = measure(&rt, alloc, rounds, progress);
     progress.end(&rt);
     measured
 }
 
-/// Measures a `call_blocking` from another thread than the loop's, where it is wanted. `NoReply`: one was lost, so the two
-/// threads are left alone, and end with the program.
-pub fn measure_calls<R: Host>(bench: &Bench<R>) -> Result<(), Fault> {
-    if !bench.wanted.has_family(Family::Call) {
+/// Measures a `call_blocking` from another thread than the loop's, where it is wanted. Refused where a reply
+/// was lost: so the two threads are left alone, and end with the program.
+pub fn measure_calls<R: Host>(bench: &Bench<R>) -> Result<()> {
+    if !bench.wanted.has_family(CALL) {
         return Ok(());
     }
     let (rt, alloc, rounds) = (bench.rt, bench.alloc, bench.rounds(JOBS));
@@ -135,7 +134,7 @@ pub fn measure_calls<R: Host>(bench: &Bench<R>) -> Result<(), Fault> {
     let theirs = Arc::try_clone(&progress)?;
     let measuring = thread::spawn(&rt, move || measure_to_end(rt, alloc, rounds, &theirs));
     let Ok(measuring) = measuring else {
-        return Err(Fault::Thread);
+        bail!("no thread can be started");
     };
     progress.wait_for_end(&rt)?;
     bench.print("call_blocking between two threads", measuring.join(&rt)?)

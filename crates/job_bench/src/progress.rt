@@ -1,6 +1,6 @@
 //! How far a measure on other threads has come, and the wait for its end.
 
-use crate::fault::Fault;
+use anyhow::{Result, bail};
 use std::sync::atomic::{AtomicU64, Ordering};
 use std::sync::{Condvar, Mutex, Wait};
 use std::time::{Clock, Duration};
@@ -49,8 +49,8 @@ impl Progress {
         *over
     }
 
-    /// Waits until the measure is over. `NoReply` where none comes for some ten seconds: then it may never be over.
-    pub fn wait_for_end<R: Wait + Clock>(&self, rt: &R) -> Result<(), Fault> {
+    /// Waits until the measure is over. Refused where no reply comes for some ten seconds: then it may never be over.
+    pub fn wait_for_end<R: Wait + Clock>(&self, rt: &R) -> Result<()> {
         let (mut seen, mut idle) = (0, 0u32);
         for _ in rt.forever() {
             if self.is_over_soon(rt) {
@@ -67,6 +67,6 @@ impl Progress {
                 break;
             }
         }
-        Err(Fault::NoReply { replies: seen })
+        bail!("no reply comes any more, after {seen} of them")
     }
 }

@@ -1,20 +1,22 @@
 //! What a job costs that the loop's own thread sends and runs.
 
-use crate::arguments::Family;
-use crate::bench::{Bench, Host, Measured};
-use crate::fault::{Fault, expect};
-use crate::jobs::CountOne;
-use crate::subscribers::{Counter, FIRST};
-use crate::timing::{REPEATS, Times};
+use crate::jobs::{CountOne, Counter};
+use anyhow::Result;
 use event_manager::{
     EventManager, EventPoller, Ledgers, Naming, RemoteEndpoint, SubscriberId, SubscriberOps,
     WithLedgers, with_ledgers,
 };
+use measures::arguments::Family;
+use measures::bench::{Bench, Measured, expect};
+use measures::timing::{REPEATS, Times};
 use std::alloc::Global;
 use std::sync::Wait;
 use std::time::Clock;
 use vmm_sys::epoll::Epoll;
 use vmm_sys::eventfd::EventFd;
+
+/// What picks this measure.
+pub const FIRE: Family = Family("fire");
 
 /// How many jobs a repeat sends.
 const JOBS: u32 = 20000;
@@ -29,9 +31,9 @@ struct FiredJobs<'a, R> {
 }
 
 impl<R: Wait + Clock + Copy + Send + Drop> WithLedgers for FiredJobs<'_, R> {
-    type Output = Result<Measured, Fault>;
+    type Output = Result<Measured>;
 
-    fn run<N: Naming + Send + Sync>(self, ledgers: Ledgers<N>) -> Result<Measured, Fault> {
+    fn run<N: Naming + Send + Sync>(self, ledgers: Ledgers<N>) -> Result<Measured> {
         let FiredJobs {
             epoll,
             endpoint,
@@ -43,9 +45,9 @@ impl<R: Wait + Clock + Copy + Send + Drop> WithLedgers for FiredJobs<'_, R> {
             alloc, epoll, endpoint, ledgers,
         )?;
         let endpoint = manager.remote_endpoint()?;
-        let id = manager.add_subscriber(Counter::new(FIRST as i32, 0))?;
+        let id = manager.add_subscriber(Counter { count: 0 })?;
         let times = Times::of(|| fire_and_run(&mut manager, &endpoint, id, rounds, rt), rt)?;
-        let count = manager.remove_subscriber(id)?.counted()?;
+        let count = manager.remove_subscriber(id)?.count;
         Ok(Measured {
             times,
             operations: rounds as u64,
@@ -61,7 +63,7 @@ fn fire_and_run<N: Naming, P: EventPoller, R: Wait + Clock>(
     id: SubscriberId,
     rounds: u32,
     rt: &R,
-) -> Result<(), Fault> {
+) -> Result<()> {
     for _ in 0..rounds {
         let _ticket = endpoint.fire(CountOne(id), rt)?;
         expect(manager.run(rt)? as u64, 1)?;
@@ -70,8 +72,8 @@ fn fire_and_run<N: Naming, P: EventPoller, R: Wait + Clock>(
 }
 
 /// Measures a `fire` with the run that does its job, where it is wanted.
-pub fn measure_fires<R: Host>(bench: &Bench<R>) -> Result<(), Fault> {
-    if !bench.wanted.has_family(Family::Fire) {
+pub fn measure_fires<R: Wait + Clock + Print + Copy + Send + Drop>(bench: &Bench<R>) -> Result<()> {
+    if !bench.wanted.has_family(FIRE) {
         return Ok(());
     }
     let (alloc, rt) = (bench.alloc, &bench.rt);

@@ -1,13 +1,17 @@
 //! What the calls of the in-process table cost.
 
-use crate::arguments::{Family, Size};
-use crate::bench::{Bench, Host, Measured};
-use crate::fault::{Fault, expect};
-use crate::fixed::BATCH;
-use crate::timing::{REPEATS, Times};
+use anyhow::Result;
+use measures::arguments::{Family, Size};
+use measures::bench::{Bench, Measured, expect};
+use measures::fixed::BATCH;
+use measures::timing::{REPEATS, Times};
 use std::alloc::Global;
+use std::time::Clock;
 use vmm_sys::epoll::{ControlOperation, EpollEvent, EventSet};
 use vmm_sys::table::Table;
+
+/// What picks these measures.
+pub const TABLE: Family = Family("table");
 
 /// How often a call of `ctl` is made in a repeat.
 const CONTROLS: u32 = 10000;
@@ -15,8 +19,8 @@ const CONTROLS: u32 = 10000;
 /// How often a repeat waits where one interest is ready.
 const WAITS_FOR_ONE: u32 = 2000;
 
-/// A table with so many counters of this value, and no interest. `Descriptor`.
-fn open_counters(count: u32, value: u64, alloc: Global) -> Result<Table, Fault> {
+/// A table with so many counters of this value, and no interest.
+fn open_counters(count: u32, value: u64, alloc: Global) -> Result<Table> {
     let mut table = Table::new(alloc);
     for _ in 0..count {
         let _ = table.add_counter(value)?;
@@ -24,8 +28,8 @@ fn open_counters(count: u32, value: u64, alloc: Global) -> Result<Table, Fault> 
     Ok(table)
 }
 
-/// Asks for `IN` of the descriptors from 0 up, so many, with the descriptor as word. `Descriptor`.
-fn add_interests(table: &mut Table, count: u32) -> Result<(), Fault> {
+/// Asks for `IN` of the descriptors from 0 up, so many, with the descriptor as word.
+fn add_interests(table: &mut Table, count: u32) -> Result<()> {
     for fd in 0..count {
         let event = EpollEvent::new(EventSet::IN, fd as u64);
         table.ctl(ControlOperation::Add, fd.cast_signed(), event)?;
@@ -33,25 +37,20 @@ fn add_interests(table: &mut Table, count: u32) -> Result<(), Fault> {
     Ok(())
 }
 
-/// A table with so many counters of this value, and an interest in each. `Descriptor`.
-fn filled(count: u32, value: u64, alloc: Global) -> Result<Table, Fault> {
+/// A table with so many counters of this value, and an interest in each.
+fn filled(count: u32, value: u64, alloc: Global) -> Result<Table> {
     let mut table = open_counters(count, value, alloc)?;
     add_interests(&mut table, count)?;
     Ok(table)
 }
 
-/// A buffer with room for so many entries. `Memory`.
-fn buffer(room: usize, alloc: Global) -> Result<Vec<EpollEvent>, Fault> {
+/// A buffer with room for so many entries.
+fn buffer(room: usize, alloc: Global) -> Result<Vec<EpollEvent>> {
     Ok(vec![in alloc; EpollEvent::new(EventSet::empty(), 0); room]?)
 }
 
 /// Waits so often, each of which must report `count` entries; answers how many were reported in all.
-fn wait(
-    table: &mut Table,
-    buffer: &mut [EpollEvent],
-    count: u64,
-    rounds: u32,
-) -> Result<u64, Fault> {
+fn wait(table: &mut Table, buffer: &mut [EpollEvent], count: u64, rounds: u32) -> Result<u64> {
     let mut reported = 0u64;
     for _ in 0..rounds {
         reported = reported.saturating_add(expect(table.wait(buffer)? as u64, count)?);
@@ -59,16 +58,16 @@ fn wait(
     Ok(reported)
 }
 
-/// Writes 1 to each of so many counters, from the highest descriptor down. `Descriptor`.
-fn write_in_reverse(table: &mut Table, count: u32) -> Result<(), Fault> {
+/// Writes 1 to each of so many counters, from the highest descriptor down.
+fn write_in_reverse(table: &mut Table, count: u32) -> Result<()> {
     for fd in (0..count).rev() {
         table.write(fd.cast_signed(), 1)?;
     }
     Ok(())
 }
 
-/// Reads each of so many counters. `Descriptor`.
-fn read_all(table: &mut Table, count: u32) -> Result<(), Fault> {
+/// Reads each of so many counters.
+fn read_all(table: &mut Table, count: u32) -> Result<()> {
     for fd in 0..count {
         let _read = table.read(fd.cast_signed())?;
     }
@@ -84,8 +83,8 @@ struct TableCalls<'a, R> {
     waits: u32,
 }
 
-impl<R: Host> TableCalls<'_, R> {
-    fn measure(&self) -> Result<(), Fault> {
+impl<R: Clock + Print> TableCalls<'_, R> {
+    fn measure(&self) -> Result<()> {
         self.measure_filling()?;
         self.measure_modify()?;
         self.measure_add_and_delete()?;
@@ -97,7 +96,7 @@ impl<R: Host> TableCalls<'_, R> {
     }
 
     /// Counts the interests that are then reported.
-    fn measure_filling(&self) -> Result<(), Fault> {
+    fn measure_filling(&self) -> Result<()> {
         let (alloc, interests) = (self.bench.alloc, self.interests);
         let mut buffer = buffer(interests as usize + 1, alloc)?;
         let mut tables = Vec::new(alloc);
@@ -122,7 +121,7 @@ impl<R: Host> TableCalls<'_, R> {
     }
 
     /// Counts the modifications, each of which has its number as word; the interest of the last is then reported with it.
-    fn measure_modify(&self) -> Result<(), Fault> {
+    fn measure_modify(&self) -> Result<()> {
         let (alloc, interests) = (self.bench.alloc, self.interests);
         let mut table = filled(interests, 1, alloc)?;
         let (rounds, highest) = (self.bench.rounds(CONTROLS), interests.saturating_sub(1));
@@ -155,7 +154,7 @@ impl<R: Host> TableCalls<'_, R> {
     }
 
     /// Counts the pairs; the others are then reported.
-    fn measure_add_and_delete(&self) -> Result<(), Fault> {
+    fn measure_add_and_delete(&self) -> Result<()> {
         let (alloc, interests) = (self.bench.alloc, self.interests);
         let mut table = filled(interests, 1, alloc)?;
         let fd = table.add_counter(1)?;
@@ -180,7 +179,7 @@ impl<R: Host> TableCalls<'_, R> {
     }
 
     /// Counts the entries that are reported.
-    fn measure_report(&self) -> Result<(), Fault> {
+    fn measure_report(&self) -> Result<()> {
         let (alloc, interests) = (self.bench.alloc, self.interests);
         let mut table = filled(interests, 1, alloc)?;
         let mut buffer = buffer(BATCH as usize, alloc)?;
@@ -199,7 +198,7 @@ impl<R: Host> TableCalls<'_, R> {
     }
 
     /// Counts the waits, each of which must report one entry.
-    fn measure_one_ready(&self) -> Result<(), Fault> {
+    fn measure_one_ready(&self) -> Result<()> {
         let (alloc, interests) = (self.bench.alloc, self.interests);
         let mut table = filled(interests, 0, alloc)?;
         table.write(interests.saturating_sub(1).cast_signed(), 1)?;
@@ -219,7 +218,7 @@ impl<R: Host> TableCalls<'_, R> {
     }
 
     /// Counts the writes to a counter that is ready all along.
-    fn measure_stays_ready(&self) -> Result<(), Fault> {
+    fn measure_stays_ready(&self) -> Result<()> {
         let (alloc, interests) = (self.bench.alloc, self.interests);
         let mut table = filled(interests, 1, alloc)?;
         let (rounds, fd) = (self.bench.rounds(CONTROLS), (interests / 2).cast_signed());
@@ -238,7 +237,7 @@ impl<R: Host> TableCalls<'_, R> {
     }
 
     /// Counts what is read of a counter that is idle and ready in turn, while all others are ready.
-    fn measure_turning(&self) -> Result<(), Fault> {
+    fn measure_turning(&self) -> Result<()> {
         let (alloc, interests) = (self.bench.alloc, self.interests);
         let mut table = filled(interests, 1, alloc)?;
         let (rounds, fd) = (self.bench.rounds(CONTROLS), (interests / 2).cast_signed());
@@ -258,7 +257,7 @@ impl<R: Host> TableCalls<'_, R> {
     }
 
     /// Counts the entries of waits between which all counters turn ready, the last in the queue first.
-    fn measure_reverse(&self) -> Result<(), Fault> {
+    fn measure_reverse(&self) -> Result<()> {
         let (alloc, interests) = (self.bench.alloc, self.interests);
         let mut table = filled(interests, 0, alloc)?;
         let mut buffer = buffer(interests as usize + 1, alloc)?;
@@ -279,8 +278,8 @@ impl<R: Host> TableCalls<'_, R> {
         self.print(name, times, rounds as u64 * interests as u64, count)
     }
 
-    /// Prints a line, where the repeats counted 5 times their operations; else `Answer`.
-    fn print(&self, name: String, times: Times, operations: u64, count: u64) -> Result<(), Fault> {
+    /// Prints a line, where the repeats counted 5 times their operations; refused otherwise.
+    fn print(&self, name: String, times: Times, operations: u64, count: u64) -> Result<()> {
         let count = expect(count, operations.saturating_mul(REPEATS as u64))?;
         self.bench.print(
             name.as_str(),
@@ -294,8 +293,8 @@ impl<R: Host> TableCalls<'_, R> {
 }
 
 /// Measures the calls of a table at each wanted size.
-pub fn measure_tables<R: Host>(bench: &Bench<R>) -> Result<(), Fault> {
-    if !bench.wanted.has_family(Family::Table) {
+pub fn measure_tables<R: Clock + Print>(bench: &Bench<R>) -> Result<()> {
+    if !bench.wanted.has_family(TABLE) {
         return Ok(());
     }
     for (size, interests, waits) in [

@@ -1,11 +1,12 @@
 //! The poller of the measures without descriptors.
 
-use crate::fault::Fault;
-use crate::subscribers::FIRST;
-use std::alloc::Global;
+use std::alloc::{AllocError, Global};
 use vmm_sys::epoll::{ControlOperation, EpollEvent, EventSet, RawFd};
 use vmm_sys::errno::Errno;
 use vmm_sys::poller::Poller;
+
+/// The lowest descriptor that is reported.
+pub const FIRST: u16 = 10;
 
 /// How many entries a whole batch has.
 pub const BATCH: u32 = 256;
@@ -18,18 +19,18 @@ pub struct Fixed {
 }
 
 impl Fixed {
-    /// Reports the first `count` of the descriptors from 10 up, each for `IN`. `Memory`.
-    pub fn first(count: u32, alloc: Global) -> Result<Fixed, Fault> {
+    /// Reports the first `count` of the descriptors from 10 up, each for `IN`.
+    pub fn first(count: u32, alloc: Global) -> Result<Fixed, AllocError> {
         Fixed::every(1, count, count, alloc)
     }
 
-    /// Reports 256 entries, spread evenly over `count` descriptors from 10 up, each for `IN`. `Memory`.
-    pub fn spread(count: u32, alloc: Global) -> Result<Fixed, Fault> {
+    /// Reports 256 entries, spread evenly over `count` descriptors from 10 up, each for `IN`.
+    pub fn spread(count: u32, alloc: Global) -> Result<Fixed, AllocError> {
         Fixed::every((count / BATCH).max(1), BATCH, count, alloc)
     }
 
     // Entry k has descriptor 10 + (k * stride) modulo `among`.
-    fn every(stride: u32, entries: u32, among: u32, alloc: Global) -> Result<Fixed, Fault> {
+    fn every(stride: u32, entries: u32, among: u32, alloc: Global) -> Result<Fixed, AllocError> {
         let among = among.max(1);
         let mut report = Vec::new(alloc);
         for k in 0..entries {

@@ -1,25 +1,12 @@
-//! What the measures share: what is wanted, and how what came of a measure is printed.
+//! What a measure is given, and how what came of it is printed.
 
 use crate::arguments::Wanted;
-use crate::fault::Fault;
 use crate::timing::Times;
+use anyhow::{Result, ensure};
 use std::alloc::Global;
-use std::sync::Wait;
-use std::thread::Threads;
-use std::time::Clock;
-use vmm_sys::epoll::Epoll;
-use vmm_sys::eventfd::EventFd;
-
-/// What the program needs of the runtime.
-pub trait Host: Threads + Wait + Clock + Print + Copy + Send + Sync + Drop + 'static {}
-
-impl<R: Threads + Wait + Clock + Print + Copy + Send + Sync + Drop + 'static> Host for R {}
 
 /// How many rounds each repeat has where the counts alone are wanted.
 const FEW: u32 = 3;
-
-/// How many counters are opened for the endpoint of a manager over the fixed poller: the last one has descriptor 9.
-const COUNTERS: u32 = 10;
 
 /// What came of a measure.
 #[derive(Clone, Copy)]
@@ -43,14 +30,14 @@ pub struct Bench<R> {
     pub wanted: Wanted,
 }
 
-impl<R: Host> Bench<R> {
+impl<R: Print> Bench<R> {
     /// How many rounds a repeat has that in full has so many.
     pub fn rounds(&self, full: u32) -> u32 {
         if self.wanted.checked { FEW } else { full }
     }
 
-    /// Prints the heading of the columns; nothing where counts are wanted in place of times. `System`.
-    pub fn print_heading(&self) -> Result<(), Fault> {
+    /// Prints the heading of the columns; nothing where counts are wanted in place of times.
+    pub fn print_heading(&self) -> Result<()> {
         if !self.wanted.checked {
             println!(self.rt;
                 "{:<44} {:>12} {:>12}",
@@ -61,8 +48,8 @@ impl<R: Host> Bench<R> {
     }
 
     /// Prints a line: the name, the least and the middle time of an operation, in nanoseconds; or, where counts are wanted,
-    /// the name and the count. `System`.
-    pub fn print(&self, name: &str, measured: Measured) -> Result<(), Fault> {
+    /// the name and the count.
+    pub fn print(&self, name: &str, measured: Measured) -> Result<()> {
         if self.wanted.checked {
             println!(self.rt; "{:<44} {:>10}", name, measured.count)?;
             return Ok(());
@@ -75,14 +62,13 @@ impl<R: Host> Bench<R> {
         )?;
         Ok(())
     }
+}
 
-    /// A counter of descriptor 9, in a table that nobody polls. `Descriptor`.
-    pub fn open_endpoint(&self) -> Result<EventFd, Fault> {
-        let epoll = Epoll::new(self.rt, self.alloc)?;
-        let mut endpoint = EventFd::new(&epoll, 0, &self.rt)?;
-        for _ in 1..COUNTERS {
-            endpoint = EventFd::new(&epoll, 0, &self.rt)?;
-        }
-        Ok(endpoint)
-    }
+/// Passes on what was answered; refused where it isn't what was expected.
+pub fn expect(answered: u64, expected: u64) -> Result<u64> {
+    ensure!(
+        answered == expected,
+        "answered {answered}, and not {expected}"
+    );
+    Ok(answered)
 }

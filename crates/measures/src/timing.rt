@@ -1,6 +1,6 @@
 //! How long repeats take.
 
-use crate::fault::Fault;
+use anyhow::Result;
 use std::time::{Clock, Instant};
 
 /// How often each measure is repeated.
@@ -13,11 +13,11 @@ pub struct Times {
 }
 
 impl Times {
-    /// Does the work 5 times, and looks at the clock before and after each. A fault of the work is passed on; `System`
-    /// where the clock can't be read.
-    pub fn of<F, R>(mut work: F, rt: &R) -> Result<Times, Fault>
+    /// Does the work 5 times, and looks at the clock before and after each. Refused as the work is, and where the clock
+    /// can't be read.
+    pub fn of<F, R>(mut work: F, rt: &R) -> Result<Times>
     where
-        F: FnMut() -> Result<(), Fault>,
+        F: FnMut() -> Result<()>,
         R: Clock,
         requires { F.IsAlwaysCallable work }
     {

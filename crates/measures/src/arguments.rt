@@ -1,0 +1,110 @@
+//! The words that pick what is measured.
+
+use anyhow::{Result, bail};
+use std::alloc::Global;
+use std::env;
+use std::rt::Env;
+
+/// A family of measures, by the word that picks it.
+#[derive(Clone, Copy, PartialEq, Eq)]
+pub struct Family(pub &'static str);
+
+/// How large what stands beside the work is: the first, second or third size of a family.
+#[derive(Clone, Copy, PartialEq, Eq)]
+pub enum Size {
+    /// The first, and of the counters the second too.
+    Small,
+    /// The second last.
+    Middle,
+    /// The last but those that are huge.
+    Large,
+    /// A million, of deliveries, the table and the counters, and of deliveries 65,536 too; measured only where it is picked.
+    Huge,
+}
+
+/// How many descriptors a subscriber has that joins and leaves.
+#[derive(Clone, Copy, PartialEq, Eq)]
+pub enum Share {
+    /// One.
+    Single,
+    /// 16.
+    Several,
+}
+
+/// What is measured, and how.
+#[derive(Drop)]
+pub struct Wanted {
+    /// Whether the fixed poller is held in a box.
+    pub boxed: bool,
+    /// Whether the rounds are few, and what they counted is printed in place of times.
+    pub checked: bool,
+    families: Vec<Family>,
+    sizes: Vec<Size>,
+    shares: Vec<Share>,
+}
+
+impl Wanted {
+    /// All of it, in full, with the poller as it is.
+    fn all(alloc: Global) -> Wanted {
+        Wanted {
+            boxed: false,
+            checked: false,
+            families: Vec::new(alloc),
+            sizes: Vec::new(alloc),
+            shares: Vec::new(alloc),
+        }
+    }
+
+    /// Heeds an argument, of this number. Refused where the word is none of those of `from_arguments`, or memory is.
+    fn pick(&mut self, word: &str, number: u64, families: &[Family]) -> Result<()> {
+        match word {
+            "boxed" => self.boxed = true,
+            "plain" => self.boxed = false,
+            "checked" => self.checked = true,
+            "small" => self.sizes.push(Size::Small)?,
+            "middle" => self.sizes.push(Size::Middle)?,
+            "large" => self.sizes.push(Size::Large)?,
+            "huge" => self.sizes.push(Size::Huge)?,
+            "single" => self.shares.push(Share::Single)?,
+            "several" => self.shares.push(Share::Several)?,
+            _ => match families.iter().find(|family| family.0 == word) {
+                Some(family) => self.families.push(*family)?,
+                None => bail!("argument {number} is none of the words"),
+            },
+        }
+        Ok(())
+    }
+
+    /// What the program's arguments pick: `boxed` or `plain`, `checked`, and any number of the families, of sizes and of
+    /// shares; of a kind of which none is picked, all are wanted but what is huge.
+    ///
+    /// Refused with the number of the first argument that is none of these; where the arguments can't be read; and where
+    /// memory is.
+    pub fn from_arguments<R: Env + AllocGlobal>(rt: &R, families: &[Family]) -> Result<Wanted> {
+        let mut wanted = Wanted::all(rt.alloc());
+        let mut number = 0u64;
+        for argument in env::args(rt)?.skip(1) {
+            number = number.saturating_add(1);
+            wanted.pick(argument.as_str(), number, families)?;
+        }
+        Ok(wanted)
+    }
+
+    /// Whether the family is wanted.
+    pub fn has_family(&self, family: Family) -> bool {
+        self.families.is_empty() || self.families.contains(&family)
+    }
+
+    /// Whether the size is wanted.
+    pub fn has_size(&self, size: Size) -> bool {
+        match size {
+            Size::Huge => self.sizes.contains(&size),
+            _ => self.sizes.is_empty() || self.sizes.contains(&size),
+        }
+    }
+
+    /// Whether the share is wanted.
+    pub fn has_share(&self, share: Share) -> bool {
+        self.shares.is_empty() || self.shares.contains(&share)
+    }
+}

@@ -1,0 +1,22 @@
+//! What the calls of the in-process table and of a recording poller cost: a line for each measure, with the least and the
+//! middle time of 5 repeats, in nanoseconds an operation. docs/PERFORMANCE.md says how to read them, and which words pick
+//! measures.
+#![tactic(auto)]
+
+mod record;
+mod table_calls;
+
+use anyhow::Result;
+use measures::arguments::Wanted;
+use measures::bench::Bench;
+use record::{RECORD, measure_records};
+use table_calls::{TABLE, measure_tables};
+
+fn main(rt: HostRuntime) -> Result<()> {
+    let wanted = Wanted::from_arguments(&rt, &[RECORD, TABLE])?;
+    let alloc = rt.alloc();
+    let bench = Bench { rt, alloc, wanted };
+    bench.print_heading()?;
+    measure_records(&bench)?;
+    measure_tables(&bench)
+}
