@@ -1,26 +1,27 @@
 //! What a close leaves of the jobs, the endpoint and its counter.
 
 use crate::courses::{Course, expect_course, expect_let_go, expect_over};
-use crate::expecting::{expect_noted, expect_ok, expect_pending, expect_same, fire_note};
-use crate::meetings::{Endpoint, Kind, Shared, meet};
+use crate::expecting::{expect_ok, expect_same};
+use crate::host::Host;
 use crate::refusals::{expect_after, expect_refusals};
-use crate::threads::{Looping, wait_until_pending};
-use crate::work::Notes;
-use event_manager::{Error, Naming, Ticket};
-use fixtures::parts::on_table;
+use event_manager::{Error, Naming, RemoteEndpoint, Ticket};
+use fixtures::parts::{Idle, on_table};
+use fixtures::work::{Notes, Work, fire_note};
 use std::sync::Arc;
 use vmm_sys::epoll::{AsRawFd, ControlOperation, EpollEvent, EventSet};
 use vmm_sys::poller::Poller;
 
+type Endpoint<N> = RemoteEndpoint<Idle, Work, N>;
+
 /// Sends two jobs that hold the notes.
-pub fn waiting<N: Naming, R: Looping>(rt: &R, endpoint: &Endpoint<N>, notes: &Notes) {
+pub fn waiting<N: Naming, R: Host>(rt: &R, endpoint: &Endpoint<N>, notes: &Notes) {
     expect_ok(rt, fire_note(rt, endpoint, notes, 1));
     expect_ok(rt, fire_note(rt, endpoint, notes, 2));
     expect_same(rt, &Arc::strong_count(notes), &3);
 }
 
 /// Expects of endpoints of a closed manager that each send is refused and a kick agreed, and that no job is left.
-pub fn expect_closed<N: Naming, R: Looping>(
+pub fn expect_closed<N: Naming, R: Host>(
     rt: &R,
     endpoints: &[Endpoint<N>; 2],
     notes: &Notes,
@@ -35,27 +36,6 @@ pub fn expect_closed<N: Naming, R: Looping>(
     let [endpoint, _] = endpoints;
     expect_same(rt, &endpoint.kick(rt), &Ok(()));
     expect_let_go(rt, notes);
-}
-
-/// Waits until two jobs wait, neither of which is taken before the close.
-pub fn wait_for_two<N: Naming, R: Looping>(rt: &R, endpoint: &Endpoint<N>) {
-    expect_same(rt, &wait_until_pending(rt, endpoint, 2), &true);
-}
-
-/// Sends two jobs, and a third once none waits any more, which is refused.
-pub fn send_round_a_close<N: Naming, R: Looping>(rt: &R, endpoint: &Endpoint<N>, shared: &Shared) {
-    expect_same(rt, &fire_note(rt, endpoint, &shared.notes, 1), &Ok(1));
-    expect_same(rt, &fire_note(rt, endpoint, &shared.notes, 2), &Ok(2));
-    expect_same(rt, &wait_until_pending(rt, endpoint, 0), &true);
-    let third = fire_note(rt, endpoint, &shared.notes, 3);
-    expect_same(rt, &third, &Err(Error::ChannelSend));
-    expect_noted(rt, &shared.notes, &[]);
-    expect_pending(rt, endpoint, 0);
-}
-
-#[test]
-fn a_sender_is_refused_after_a_close(rt: HostRuntime) {
-    meet(&rt, rt.alloc(), 0, Kind::CloseBesideSends, (2, 0));
 }
 
 #[test]

@@ -1,14 +1,14 @@
 //! Courses of calls of a manager of idle subscribers and of its endpoint, each ended by a close.
 
-use crate::expecting::{expect_ok, expect_same, new_notes};
-use crate::threads::{Host, Looping};
-use crate::work::{Notes, Work};
+use crate::expecting::{expect_ok, expect_same};
+use crate::host::Host;
 use crate::{closes, queue, refusals, reports, sends};
 use event_manager::{
     EventManager, EventPoller, Ledgers, Naming, RemoteEndpoint, Ticket, WithLedgers, with_ledgers,
 };
 use fixtures::making::make;
 use fixtures::parts::{Idle, Parts, on_table};
+use fixtures::work::{Notes, Work, new_notes};
 use std::alloc::Global;
 use std::process::Abort;
 use std::sync::Arc;
@@ -40,7 +40,7 @@ pub enum Course<'a> {
 }
 
 /// Follows the course.
-fn follow<N: Naming, P: EventPoller, R: Looping>(
+fn follow<N: Naming, P: EventPoller, R: Host>(
     rt: &R,
     manager: &mut EventManager<Idle, Work, N, P>,
     endpoint: &RemoteEndpoint<Idle, Work, N>,
@@ -62,7 +62,7 @@ fn follow<N: Naming, P: EventPoller, R: Looping>(
 }
 
 /// Sends one job more where jobs wait.
-fn send_more<N: Naming, R: Looping>(
+fn send_more<N: Naming, R: Host>(
     rt: &R,
     endpoint: &RemoteEndpoint<Idle, Work, N>,
     course: &Course<'_>,
@@ -74,7 +74,7 @@ fn send_more<N: Naming, R: Looping>(
 }
 
 /// Closes the manager, of which so many tickets were issued and so many jobs taken.
-fn expect_close<N: Naming, P: EventPoller + Drop, R: Looping>(
+fn expect_close<N: Naming, P: EventPoller + Drop, R: Host>(
     rt: &R,
     manager: EventManager<Idle, Work, N, P>,
     counts: (u64, u64),
@@ -95,7 +95,7 @@ fn endpoints_of<N: Naming, P: EventPoller, R: Abort>(
 }
 
 /// Follows the course by the first endpoint: the last ticket, if it may be shown.
-fn follow_and_send<N: Naming, P: EventPoller, R: Looping>(
+fn follow_and_send<N: Naming, P: EventPoller, R: Host>(
     rt: &R,
     manager: &mut EventManager<Idle, Work, N, P>,
     endpoints: &[RemoteEndpoint<Idle, Work, N>; 2],
@@ -116,7 +116,7 @@ struct Run<'a, R, P> {
     counts: (u64, u64),
 }
 
-impl<R: Looping, P: EventPoller + Drop> WithLedgers for Run<'_, R, P> {
+impl<R: Host, P: EventPoller + Drop> WithLedgers for Run<'_, R, P> {
     type Output = ();
 
     fn run<N: Naming + Send + Sync>(self, ledgers: Ledgers<N>) {
@@ -137,13 +137,13 @@ impl<R: Looping, P: EventPoller + Drop> WithLedgers for Run<'_, R, P> {
 
 /// Runs the course over these parts, and closes: so many tickets must then be issued and jobs taken, no job be left, and
 /// each send be refused.
-pub fn expect_over<R: Looping, P: EventPoller + Drop>(
+pub fn expect_over<R: Host, P: EventPoller + Drop>(
     rt: &R,
     parts: Parts<P>,
     course: &Course<'_>,
     counts: (u64, u64),
 ) {
-    let notes = new_notes(rt, parts.alloc);
+    let notes = expect_ok(rt, new_notes(parts.alloc));
     let run = Run {
         rt,
         parts,
@@ -167,6 +167,6 @@ pub fn expect_course<R: Host>(
 }
 
 /// Expects that nobody holds the notes but the test.
-pub fn expect_let_go<R: Looping>(rt: &R, notes: &Notes) {
+pub fn expect_let_go<R: Host>(rt: &R, notes: &Notes) {
     expect_same(rt, &Arc::strong_count(notes), &1);
 }

@@ -1,13 +1,12 @@
 //! What the bodies of tests do again and again, each time with a word on what must come of it.
 
-use crate::work::{Notes, Work};
 use event_manager::{
     EventManager, EventPoller, Job, MutEventSubscriber, Naming, RemoteEndpoint, Result,
 };
-use std::alloc::Global;
+use fixtures::work::Notes;
 use std::fmt::Debug;
 use std::process::Abort;
-use std::sync::{Arc, Mutex, Wait};
+use std::sync::Wait;
 use std::time::Clock;
 
 /// Expects that the two are equal.
@@ -18,25 +17,6 @@ pub fn expect_same<A: PartialEq + Debug, R: Abort>(rt: &R, found: &A, expected: 
 /// What a call answers that must succeed.
 pub fn expect_ok<A, E: Debug + Drop, R: Abort>(rt: &R, answer: std::result::Result<A, E>) -> A {
     answer.expect(rt, "it succeeds")
-}
-
-/// No note yet.
-pub fn new_notes<R: Abort>(rt: &R, alloc: Global) -> Notes {
-    expect_ok(rt, Arc::new(alloc, Mutex::new(Vec::new(alloc))))
-}
-
-/// Sends a job that notes this: the number of its ticket.
-pub fn fire_note<S: MutEventSubscriber, N: Naming, R: Wait + Clock + Abort>(
-    rt: &R,
-    endpoint: &RemoteEndpoint<S, Work, N>,
-    notes: &Notes,
-    number: u64,
-) -> Result<u64> {
-    let notes = expect_ok(rt, notes.clone());
-    match endpoint.fire(Work::Note(notes, number), rt) {
-        Ok(ticket) => Ok(ticket.number()),
-        Err(error) => Err(error),
-    }
 }
 
 /// Expects this answer of a run without a limit.
@@ -84,13 +64,4 @@ pub fn expect_pending<S: MutEventSubscriber, J: Job<S>, N: Naming, R: Abort>(
 /// Expects that this was noted.
 pub fn expect_noted<R: Wait + Abort>(rt: &R, notes: &Notes, expected: &[u64]) {
     expect_same(rt, &notes.lock(rt).as_slice(), &expected);
-}
-
-/// Expects that 1, 2, 3 and so on were noted, so many numbers.
-pub fn expect_counted<R: Wait + Abort>(rt: &R, notes: &Notes, count: usize) {
-    let seen = notes.lock(rt);
-    expect_same(rt, &seen.len(), &count);
-    for (number, noted) in (1u64..).zip(seen.iter()) {
-        expect_same(rt, noted, &number);
-    }
 }

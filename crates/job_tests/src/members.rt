@@ -1,15 +1,15 @@
 //! Jobs that change which subscribers there are.
 
-use crate::expecting::{expect_noted, expect_ok, expect_run, expect_run_within, new_notes};
-use crate::noting::{Noting, add_noting, make_noting};
-use crate::threads::{Host, Looping};
-use crate::work::Notes;
+use crate::expecting::{expect_noted, expect_ok, expect_run, expect_run_within};
+use crate::host::Host;
 use event_manager::{
     EventManager, EventPoller, EventSet, Events, Job, Naming, Registry, RemoteEndpoint, Result,
     SubscriberId, SubscriberOps,
 };
 use fixtures::making::{WithEndpoint, with_endpoint};
+use fixtures::noting::{Noting, add_noting, make_noting};
 use fixtures::parts::{OnTable, on_table};
+use fixtures::work::{Notes, new_notes};
 use std::sync::Wait;
 use std::time::Clock;
 use vmm_sys::eventfd::EventFd;
@@ -24,7 +24,7 @@ impl<R: Wait + Drop> Job<Noting<R>> for Join<R> {
     ghost use Rattle.std.specs.Prelude.{◌≡◌, [], ◌∷◌};
     ghost use Rattle.event_manager.specs.Registry.{Step};
     ghost use Rattle.event_manager.specs.LoopState.{IsJoin};
-    ghost use Rattle.endpoint_tests.specs.declared.noting.Noting.{Noting};
+    ghost use Rattle.fixtures.specs.declared.noting.Noting.{Noting};
 
     ghost may = { λ self steps reply. (step : Step (Noting R)) × (steps ≡ step ∷ []) × IsJoin self.0 reply step };
 
@@ -49,7 +49,7 @@ impl<R: Wait + Drop> Job<Noting<R>> for Leave {
     ghost use Rattle.std.specs.Prelude.{◌≡◌, [], ◌∷◌};
     ghost use Rattle.event_manager.specs.Registry.{Step};
     ghost use Rattle.event_manager.specs.LoopState.{IsLeave};
-    ghost use Rattle.endpoint_tests.specs.declared.noting.Noting.{Noting};
+    ghost use Rattle.fixtures.specs.declared.noting.Noting.{Noting};
 
     ghost may = { λ self steps reply. (step : Step (Noting R)) × (steps ≡ step ∷ []) × IsLeave self.0 reply step };
 
@@ -76,7 +76,7 @@ impl<R: Wait + Drop> Job<Noting<R>> for Renumber {
 
     ghost use Rattle.std.specs.Prelude.{◌≡◌, [], ◌∷◌, ◌⊎◌};
     ghost use Rattle.event_manager.specs.Registry.{Step, Replaced, NotReplaced};
-    ghost use Rattle.endpoint_tests.specs.declared.noting.Noting.{Noting};
+    ghost use Rattle.fixtures.specs.declared.noting.Noting.{Noting};
 
     ghost may = { λ self steps reply. ((old : Noting R) × (steps ≡ Replaced self.id old (record old { number = self.number }) ∷ [])) ⊎ (steps ≡ NotReplaced self.id ∷ []) };
 
@@ -114,7 +114,7 @@ struct Joining<'a, R> {
     notes: &'a Notes,
 }
 
-impl<R: Looping> WithEndpoint for Joining<'_, R> {
+impl<R: Host> WithEndpoint for Joining<'_, R> {
     type Subscriber = Noting<R>;
 
     type Job = Join<R>;
@@ -127,7 +127,7 @@ impl<R: Looping> WithEndpoint for Joining<'_, R> {
         endpoint: &RemoteEndpoint<Noting<R>, Join<R>, N>,
     ) -> Result<()> {
         expect_run_within(self.rt, manager, 0, Ok(0));
-        let subscriber = make_noting(self.rt, self.own, DELIVERED, self.notes);
+        let subscriber = make_noting(self.rt, self.own, DELIVERED, self.notes)?;
         expect_ok(self.rt, endpoint.fire(Join(subscriber), self.rt));
         expect_run(self.rt, manager, Ok(1));
         expect_noted(self.rt, self.notes, &[]);
@@ -139,7 +139,7 @@ impl<R: Looping> WithEndpoint for Joining<'_, R> {
 
 #[test]
 fn a_job_joins_a_subscriber(rt: HostRuntime) {
-    let notes = new_notes(&rt, rt.alloc());
+    let notes = expect_ok(&rt, new_notes(rt.alloc()));
     let parts = expect_ok(&rt, on_table(rt, rt.alloc(), 0));
     let body = Joining {
         rt: &rt,
@@ -157,7 +157,7 @@ struct Leaving<'a, R> {
     notes: &'a Notes,
 }
 
-impl<R: Looping> WithEndpoint for Leaving<'_, R> {
+impl<R: Host> WithEndpoint for Leaving<'_, R> {
     type Subscriber = Noting<R>;
 
     type Job = Leave;
@@ -169,7 +169,7 @@ impl<R: Looping> WithEndpoint for Leaving<'_, R> {
         manager: &mut EventManager<Noting<R>, Leave, N, P>,
         endpoint: &RemoteEndpoint<Noting<R>, Leave, N>,
     ) -> Result<()> {
-        let id = add_noting(self.rt, manager, self.own, DELIVERED, self.notes);
+        let id = add_noting(self.rt, manager, self.own, DELIVERED, self.notes)?;
         expect_ok(self.rt, endpoint.fire(Leave(id), self.rt));
         expect_run(self.rt, manager, Ok(2));
         expect_noted(self.rt, self.notes, &[DELIVERED]);
@@ -181,7 +181,7 @@ impl<R: Looping> WithEndpoint for Leaving<'_, R> {
 
 #[test]
 fn a_job_lets_a_subscriber_leave(rt: HostRuntime) {
-    let notes = new_notes(&rt, rt.alloc());
+    let notes = expect_ok(&rt, new_notes(rt.alloc()));
     let parts = expect_ok(&rt, on_table(rt, rt.alloc(), 0));
     let body = Leaving {
         rt: &rt,
@@ -199,7 +199,7 @@ struct Renumbering<'a, R> {
     notes: &'a Notes,
 }
 
-impl<R: Looping> WithEndpoint for Renumbering<'_, R> {
+impl<R: Host> WithEndpoint for Renumbering<'_, R> {
     type Subscriber = Noting<R>;
 
     type Job = Renumber;
@@ -211,7 +211,7 @@ impl<R: Looping> WithEndpoint for Renumbering<'_, R> {
         manager: &mut EventManager<Noting<R>, Renumber, N, P>,
         endpoint: &RemoteEndpoint<Noting<R>, Renumber, N>,
     ) -> Result<()> {
-        let id = add_noting(self.rt, manager, self.own, DELIVERED, self.notes);
+        let id = add_noting(self.rt, manager, self.own, DELIVERED, self.notes)?;
         expect_ok(self.rt, endpoint.fire(Renumber { id, number: 2 }, self.rt));
         expect_run(self.rt, manager, Ok(2));
         expect_run_within(self.rt, manager, 0, Ok(1));
@@ -222,7 +222,7 @@ impl<R: Looping> WithEndpoint for Renumbering<'_, R> {
 
 #[test]
 fn a_job_changes_a_subscriber(rt: HostRuntime) {
-    let notes = new_notes(&rt, rt.alloc());
+    let notes = expect_ok(&rt, new_notes(rt.alloc()));
     let parts = expect_ok(&rt, on_table(rt, rt.alloc(), 0));
     let body = Renumbering {
         rt: &rt,

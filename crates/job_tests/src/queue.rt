@@ -2,30 +2,29 @@
 
 use crate::courses::{Course, expect_course};
 use crate::expecting::{
-    expect_counted, expect_noted, expect_ok, expect_pending, expect_run, expect_run_within,
-    expect_same, fire_note, new_notes,
+    expect_noted, expect_ok, expect_pending, expect_run, expect_run_within, expect_same,
 };
-use crate::threads::Looping;
-use crate::work::{Notes, Work};
+use crate::host::Host;
 use event_manager::{
     EventManager, EventPoller, Ledgers, Naming, RemoteEndpoint, WithLedgers, with_ledgers,
 };
 use fixtures::making::make;
 use fixtures::parts::{Idle, OnTable, on_table};
+use fixtures::work::{Notes, Work, count_of, fire_note, new_notes};
 
 type Sender<N> = RemoteEndpoint<Idle, Work, N>;
 
 type Loop<N, P> = EventManager<Idle, Work, N, P>;
 
 /// Sends jobs that note 1, 2, 3 and so on, so many: each must have the ticket of its number.
-fn fire_counting<N: Naming, R: Looping>(rt: &R, endpoint: &Sender<N>, notes: &Notes, count: u64) {
+fn fire_counting<N: Naming, R: Host>(rt: &R, endpoint: &Sender<N>, notes: &Notes, count: u64) {
     for number in 1..=count {
         expect_same(rt, &fire_note(rt, endpoint, notes, number), &Ok(number));
     }
 }
 
 /// Sends five thousand jobs, and runs twice.
-pub fn thousands<N: Naming, P: EventPoller, R: Looping>(
+pub fn thousands<N: Naming, P: EventPoller, R: Host>(
     rt: &R,
     manager: &mut Loop<N, P>,
     endpoint: &Sender<N>,
@@ -33,7 +32,7 @@ pub fn thousands<N: Naming, P: EventPoller, R: Looping>(
 ) {
     fire_counting(rt, endpoint, notes, 5000);
     expect_run(rt, manager, Ok(1));
-    expect_counted(rt, notes, 5000);
+    expect_same(rt, &count_of(rt, notes), &Some(5000));
     expect_run_within(rt, manager, 0, Ok(0));
 }
 
@@ -43,17 +42,13 @@ fn five_thousand_jobs_wait_and_are_run(rt: HostRuntime) {
 }
 
 /// Sends two jobs by an endpoint that is then dropped.
-fn fire_and_drop<N: Naming, P: EventPoller, R: Looping>(
-    rt: &R,
-    manager: &Loop<N, P>,
-    notes: &Notes,
-) {
+fn fire_and_drop<N: Naming, P: EventPoller, R: Host>(rt: &R, manager: &Loop<N, P>, notes: &Notes) {
     let endpoint = expect_ok(rt, manager.remote_endpoint());
     fire_counting(rt, &endpoint, notes, 2);
 }
 
 /// Drops an endpoint while its jobs wait.
-pub fn dropped_endpoint<N: Naming, P: EventPoller, R: Looping>(
+pub fn dropped_endpoint<N: Naming, P: EventPoller, R: Host>(
     rt: &R,
     manager: &mut Loop<N, P>,
     notes: &Notes,
@@ -69,7 +64,7 @@ fn jobs_outlive_their_endpoint(rt: HostRuntime) {
 }
 
 /// Expects of two endpoints how many jobs wait.
-fn expect_both_pending<N: Naming, M: Naming, R: Looping>(
+fn expect_both_pending<N: Naming, M: Naming, R: Host>(
     rt: &R,
     endpoints: (&Sender<N>, &Sender<M>),
     counts: (usize, usize),
@@ -79,19 +74,14 @@ fn expect_both_pending<N: Naming, M: Naming, R: Looping>(
 }
 
 /// Sends by the two in turn, three jobs.
-fn fire_in_turn<N: Naming, R: Looping>(
-    rt: &R,
-    first: &Sender<N>,
-    second: &Sender<N>,
-    notes: &Notes,
-) {
+fn fire_in_turn<N: Naming, R: Host>(rt: &R, first: &Sender<N>, second: &Sender<N>, notes: &Notes) {
     for (number, endpoint) in [(1, first), (2, second), (3, first)] {
         expect_same(rt, &fire_note(rt, endpoint, notes, number), &Ok(number));
     }
 }
 
 /// Sends by two endpoints of one manager.
-pub fn two_endpoints<N: Naming, P: EventPoller, R: Looping>(
+pub fn two_endpoints<N: Naming, P: EventPoller, R: Host>(
     rt: &R,
     manager: &mut Loop<N, P>,
     endpoint: &Sender<N>,
@@ -101,7 +91,7 @@ pub fn two_endpoints<N: Naming, P: EventPoller, R: Looping>(
     fire_in_turn(rt, endpoint, &second, notes);
     expect_both_pending(rt, (endpoint, &second), (3, 3));
     expect_run(rt, manager, Ok(1));
-    expect_counted(rt, notes, 3);
+    expect_same(rt, &count_of(rt, notes), &Some(3));
     expect_both_pending(rt, (endpoint, &second), (0, 0));
 }
 
@@ -111,7 +101,7 @@ fn an_endpoint_is_of_its_manager(rt: HostRuntime) {
 }
 
 /// Sends to a manager beside an endpoint of another, for which two jobs wait.
-fn run_beside<N: Naming, P: EventPoller, M: Naming, R: Looping>(
+fn run_beside<N: Naming, P: EventPoller, M: Naming, R: Host>(
     rt: &R,
     manager: &mut Loop<N, P>,
     other: &Sender<M>,
@@ -122,7 +112,7 @@ fn run_beside<N: Naming, P: EventPoller, M: Naming, R: Looping>(
     expect_both_pending(rt, (&endpoint, other), (1, 2));
     expect_run(rt, manager, Ok(1));
     expect_both_pending(rt, (&endpoint, other), (0, 2));
-    expect_counted(rt, notes, 1);
+    expect_same(rt, &count_of(rt, notes), &Some(1));
 }
 
 /// A manager beside an endpoint of another.
@@ -133,7 +123,7 @@ struct Beside<'a, R, M: Naming> {
     notes: &'a Notes,
 }
 
-impl<R: Looping + Send, M: Naming> WithLedgers for Beside<'_, R, M> {
+impl<R: Host, M: Naming> WithLedgers for Beside<'_, R, M> {
     type Output = ();
 
     fn run<N: Naming + Send + Sync>(self, ledgers: Ledgers<N>) {
@@ -149,13 +139,13 @@ impl<R: Looping + Send, M: Naming> WithLedgers for Beside<'_, R, M> {
 }
 
 /// Runs for the two jobs that wait.
-fn expect_two_run<N: Naming, P: EventPoller, R: Looping>(
+fn expect_two_run<N: Naming, P: EventPoller, R: Host>(
     rt: &R,
     manager: &mut Loop<N, P>,
     notes: &Notes,
 ) {
     expect_run(rt, manager, Ok(1));
-    expect_counted(rt, notes, 2);
+    expect_same(rt, &count_of(rt, notes), &Some(2));
 }
 
 /// Two managers.
@@ -167,7 +157,7 @@ struct TwoManagers<'a, R> {
     other_notes: &'a Notes,
 }
 
-impl<R: Looping + Send> WithLedgers for TwoManagers<'_, R> {
+impl<R: Host> WithLedgers for TwoManagers<'_, R> {
     type Output = ();
 
     fn run<N: Naming + Send + Sync>(self, ledgers: Ledgers<N>) {
@@ -194,7 +184,10 @@ impl<R: Looping + Send> WithLedgers for TwoManagers<'_, R> {
 #[test]
 fn endpoints_of_two_managers_are_apart(rt: HostRuntime) {
     let alloc = rt.alloc();
-    let (notes, other_notes) = (new_notes(&rt, alloc), new_notes(&rt, alloc));
+    let (notes, other_notes) = (
+        expect_ok(&rt, new_notes(alloc)),
+        expect_ok(&rt, new_notes(alloc)),
+    );
     with_ledgers(TwoManagers {
         rt: &rt,
         parts: expect_ok(&rt, on_table(rt, alloc, 0)),

@@ -2,10 +2,10 @@
 
 use crate::courses::{Course, expect_course};
 use crate::expecting::{expect_ok, expect_pending, expect_run, expect_same};
-use crate::threads::Looping;
-use crate::work::Work;
+use crate::host::Host;
 use event_manager::{Error, EventManager, EventPoller, Naming, RemoteEndpoint, Result, Ticket};
 use fixtures::parts::Idle;
+use fixtures::work::Work;
 use vmm_sys::errno::Errno;
 
 /// The largest value of an `EventFd`.
@@ -14,13 +14,13 @@ const FULL: u64 = 18446744073709551614;
 type Sender<N> = RemoteEndpoint<Idle, Work, N>;
 
 /// Expects this answer of a job: the number of its ticket.
-fn expect_fire<N: Naming, R: Looping>(rt: &R, endpoint: &Sender<N>, answer: Result<u64>) {
+fn expect_fire<N: Naming, R: Host>(rt: &R, endpoint: &Sender<N>, answer: Result<u64>) {
     let number = endpoint.fire(Work::Own(1), rt).map(|t| t.number());
     expect_same(rt, &number, &answer);
 }
 
 /// Expects that a job and a call are refused with this, and that so many jobs wait then.
-pub fn expect_refusals<N: Naming, R: Looping>(
+pub fn expect_refusals<N: Naming, R: Host>(
     rt: &R,
     endpoint: &Sender<N>,
     refusal: Error,
@@ -32,7 +32,7 @@ pub fn expect_refusals<N: Naming, R: Looping>(
 }
 
 /// Expects this answer of a job after the shown ticket, and that so many jobs wait then.
-pub fn expect_after<N: Naming, R: Looping>(
+pub fn expect_after<N: Naming, R: Host>(
     rt: &R,
     endpoint: &Sender<N>,
     shown: &Ticket<N>,
@@ -47,7 +47,7 @@ pub fn expect_after<N: Naming, R: Looping>(
 }
 
 /// Expects that each call is refused while the counter is full, and that a job is taken after the next run.
-pub fn full<N: Naming, P: EventPoller, R: Looping>(
+pub fn full<N: Naming, P: EventPoller, R: Host>(
     rt: &R,
     manager: &mut EventManager<Idle, Work, N, P>,
     endpoint: &Sender<N>,
@@ -65,7 +65,7 @@ fn a_full_counter_refuses_the_send(rt: HostRuntime) {
 }
 
 /// Expects that a job after another is refused while the counter is full, and taken after the next run.
-pub fn nearly_full<N: Naming, P: EventPoller, R: Looping>(
+pub fn nearly_full<N: Naming, P: EventPoller, R: Host>(
     rt: &R,
     manager: &mut EventManager<Idle, Work, N, P>,
     endpoint: &Sender<N>,

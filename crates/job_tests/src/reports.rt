@@ -2,15 +2,14 @@
 
 use crate::courses::{Course, expect_over};
 use crate::expecting::{
-    expect_noted, expect_ok, expect_pending, expect_run, expect_run_within, expect_same, fire_note,
-    new_notes,
+    expect_noted, expect_ok, expect_pending, expect_run, expect_run_within, expect_same,
 };
-use crate::noting::{Noting, add_noting};
-use crate::threads::{Host, Looping};
-use crate::work::{Notes, Work};
+use crate::host::Host;
 use event_manager::{EventManager, EventPoller, EventSet, Events, Naming, RemoteEndpoint, Result};
 use fixtures::making::{WithEndpoint, with_endpoint};
+use fixtures::noting::{Noting, add_noting};
 use fixtures::parts::{Idle, Parts, on_table};
+use fixtures::work::{Notes, Work, fire_note, new_notes};
 use std::alloc::Global;
 use std::process::Abort;
 use vmm_sys::epoll::EpollEvent;
@@ -32,7 +31,7 @@ struct OneRun<'a, R> {
     noted: &'a [u64],
 }
 
-impl<R: Looping> WithEndpoint for OneRun<'_, R> {
+impl<R: Host> WithEndpoint for OneRun<'_, R> {
     type Subscriber = Noting<R>;
 
     type Job = Work;
@@ -45,7 +44,7 @@ impl<R: Looping> WithEndpoint for OneRun<'_, R> {
         endpoint: &RemoteEndpoint<Noting<R>, Work, N>,
     ) -> Result<()> {
         let own = Events::new_raw(3, EventSet::IN);
-        add_noting(self.rt, manager, own, DELIVERED, self.notes);
+        add_noting(self.rt, manager, own, DELIVERED, self.notes)?;
         expect_ok(self.rt, fire_note(self.rt, endpoint, self.notes, RAN));
         expect_run(self.rt, manager, Ok(self.count));
         expect_noted(self.rt, self.notes, self.noted);
@@ -78,7 +77,7 @@ fn on_script<R: Host>(
 
 /// Expects that this was noted in a run over this report. The endpoint has descriptor 0, and the subscriber 3.
 fn expect_one_run<R: Host>(rt: &R, alloc: Global, report: &[(u64, EventSet)], noted: &[u64]) {
-    let notes = new_notes(rt, alloc);
+    let notes = expect_ok(rt, new_notes(alloc));
     let parts = on_script(*rt, alloc, script_of(rt, alloc, report), 0);
     let body = OneRun {
         rt,
@@ -110,7 +109,7 @@ fn reports_of_an_endpoint_event_of_any_set(rt: HostRuntime) {
 }
 
 /// Fires a job, lets somebody else read the endpoint's counter, and runs once over a script.
-pub fn behind_read<N: Naming, P: EventPoller, R: Looping>(
+pub fn behind_read<N: Naming, P: EventPoller, R: Host>(
     rt: &R,
     manager: &mut EventManager<Idle, Work, N, P>,
     endpoint: &RemoteEndpoint<Idle, Work, N>,
@@ -132,7 +131,7 @@ fn jobs_are_run_where_the_counter_has_nothing(rt: HostRuntime) {
 }
 
 /// Runs over a script, kicks, and runs again: the first run has an event of the endpoint, and the second none.
-pub fn behind_kick<N: Naming, P: EventPoller, R: Looping>(
+pub fn behind_kick<N: Naming, P: EventPoller, R: Host>(
     rt: &R,
     manager: &mut EventManager<Idle, Work, N, P>,
     endpoint: &RemoteEndpoint<Idle, Work, N>,
@@ -162,7 +161,7 @@ struct Kicked<'a, R> {
     notes: &'a Notes,
 }
 
-impl<R: Looping> WithEndpoint for Kicked<'_, R> {
+impl<R: Host> WithEndpoint for Kicked<'_, R> {
     type Subscriber = Noting<R>;
 
     type Job = Work;
@@ -174,7 +173,7 @@ impl<R: Looping> WithEndpoint for Kicked<'_, R> {
         manager: &mut EventManager<Noting<R>, Work, N, P>,
         endpoint: &RemoteEndpoint<Noting<R>, Work, N>,
     ) -> Result<()> {
-        add_noting(self.rt, manager, self.silent, DELIVERED, self.notes);
+        add_noting(self.rt, manager, self.silent, DELIVERED, self.notes)?;
         expect_same(self.rt, &endpoint.kick(self.rt), &Ok(()));
         expect_run_within(self.rt, manager, 5000, Ok(1));
         expect_run_within(self.rt, manager, 0, Ok(0));
@@ -187,7 +186,7 @@ impl<R: Looping> WithEndpoint for Kicked<'_, R> {
 
 #[test]
 fn a_kick_ends_a_wait(rt: HostRuntime) {
-    let notes = new_notes(&rt, rt.alloc());
+    let notes = expect_ok(&rt, new_notes(rt.alloc()));
     let parts = expect_ok(&rt, on_table(rt, rt.alloc(), 0));
     let silent = expect_ok(&rt, EventFd::new(&parts.poller, 0, &rt));
     let body = Kicked {

@@ -1,17 +1,18 @@
 //! Callers on threads of their own, with jobs without callers between theirs: which reply each gets by a run, or by a
 //! close, that wakes it.
 
-use crate::courses::expect_let_go;
 use crate::ending::beside_senders;
-use crate::expecting::{expect_noted, expect_ok, expect_run_within, expect_same, new_notes};
-use crate::threads::{Host, Looping, wait_until_pending};
-use crate::work::{Notes, Work};
+use crate::expecting::{expect_noted, expect_ok, expect_run_within, expect_same};
+use crate::threads::{Host, Looping};
 use event_manager::{
     Error, EventManager, EventPoller, LoopWithSenders, Naming, RemoteEndpoint, Result, Sender,
     Senders,
 };
 use fixtures::parts::{Idle, on_table};
+use fixtures::waits::wait_until_pending;
+use fixtures::work::{Notes, Work, new_notes};
 use std::alloc::Global;
+use std::sync::Arc;
 use std::thread;
 use std::time::Duration;
 
@@ -102,7 +103,7 @@ impl<'a, R: Looping> LoopWithSenders<Idle, Work, Caller<'a>, R> for Lined<'a> {
 
 /// Expects what the line says of a new manager.
 fn expect_line<R: Host>(rt: &R, alloc: Global, line: &Line<'_>) {
-    let notes = new_notes(rt, alloc);
+    let notes = expect_ok(rt, new_notes(alloc));
     let parts = expect_ok(rt, on_table(*rt, alloc, 0));
     let mut body = Lined {
         line: &*line,
@@ -113,7 +114,7 @@ fn expect_line<R: Host>(rt: &R, alloc: Global, line: &Line<'_>) {
     let issued = line.jobs.len() as u64;
     let taken = if line.is_run { issued } else { 0 };
     expect_same(rt, &(ended.issued, ended.taken), &(issued, taken));
-    expect_let_go(rt, &notes);
+    expect_same(rt, &Arc::strong_count(&notes), &1);
     expect_same(rt, &ended.sent.len(), &line.jobs.len());
     for (given, (_number, reply)) in ended.sent.iter().zip(line.jobs.iter()) {
         expect_same(rt, given, reply);

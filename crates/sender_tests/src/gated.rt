@@ -1,12 +1,10 @@
 //! A job that waits while another thread sends.
 
-use crate::expecting::{
-    expect_noted, expect_ok, expect_pending, expect_run_within, expect_same, fire_note,
-};
+use crate::expecting::{expect_noted, expect_ok, expect_pending, expect_run_within, expect_same};
 use crate::meetings::{Endpoint, Kind, Loop, Shared, meet};
 use crate::threads::Looping;
-use crate::work::Work;
 use event_manager::{EventPoller, Naming};
+use fixtures::work::{Work, fire_note};
 
 /// Sends a job that waits at the gate, and one that notes 2.
 pub fn fire_at_gate<N: Naming, R: Looping>(rt: &R, endpoint: &Endpoint<N>, shared: &Shared) {

@@ -3,8 +3,8 @@
 use crate::expecting::{expect_ok, expect_same};
 use crate::meetings::{Endpoint, Kind, Shared, meet};
 use crate::threads::Looping;
-use crate::work::Work;
 use event_manager::Naming;
+use fixtures::work::Work;
 use std::sync::atomic::Ordering;
 
 /// How often a thread looks, and how often the other sends, at most: for seconds.

@@ -1,17 +1,18 @@
 //! Loops and their senders: who runs when, what ends a loop, and what its senders then get.
 
-use crate::ending::{
-    beside_senders, is_counted_within, wait_until_counted, wait_until_ended, wait_until_noted,
-};
-use crate::expecting::{expect_noted, expect_ok, expect_run, expect_same, fire_note, new_notes};
-use crate::noting::{Noting, add_noting};
-use crate::threads::{Host, Looping, wait_until_pending};
-use crate::work::{Notes, Work};
+use crate::ending::beside_senders;
+use crate::expecting::{expect_noted, expect_ok, expect_run, expect_same};
+use crate::threads::{Host, Looping};
 use event_manager::{
     Error, EventManager, EventPoller, EventSet, Events, LoopWithSenders, Naming, NoJob,
     RemoteEndpoint, Result, Sender, Senders, SubscriberOps,
 };
+use fixtures::noting::{Noting, add_noting};
 use fixtures::parts::{Idle, Parts, on_table, silent_parts};
+use fixtures::waits::{
+    is_counted_within, wait_until_counted, wait_until_ended, wait_until_noted, wait_until_pending,
+};
+use fixtures::work::{Notes, Work, fire_note, new_notes};
 use std::alloc::Global;
 use std::process::Abort;
 use std::sync::atomic::{AtomicU64, Ordering};
@@ -224,7 +225,7 @@ impl<'a, R: Looping> LoopWithSenders<Noting<R>, NoJob, Causing<'a>, R> for Joini
     ) -> Result<Vec<Causing<'a>>> {
         expect_same(rt, &self.course.waits.load(Ordering::SeqCst), &0);
         let own = Events::new(self.counter, EventSet::IN);
-        add_noting(rt, manager, own, 1, self.notes);
+        add_noting(rt, manager, own, 1, self.notes)?;
         let sender = Causing {
             counter: self.counter,
             notes: self.notes,
@@ -237,7 +238,7 @@ impl<'a, R: Looping> LoopWithSenders<Noting<R>, NoJob, Causing<'a>, R> for Joini
 fn a_loop_runs_behind_its_begin_and_serves_who_joined_there(rt: HostRuntime) {
     let course = Course::new();
     let parts = on_counted_table(&rt, rt.alloc(), &course);
-    let notes = new_notes(&rt, rt.alloc());
+    let notes = expect_ok(&rt, new_notes(rt.alloc()));
     let counter = expect_ok(&rt, EventFd::new(&parts.poller.poller, 0, &rt));
     let mut body = Joining {
         course: &course,
@@ -319,7 +320,7 @@ fn script_of_one<R: Abort>(rt: &R, alloc: Global) -> ScriptPoller {
 fn expect_closed<R: Host>(rt: &R, alloc: Global, is_refused: bool, answer: Result<()>) {
     let script = script_of_one(rt, alloc);
     let parts = expect_ok(rt, silent_parts(*rt, alloc, script));
-    let notes = new_notes(rt, alloc);
+    let notes = expect_ok(rt, new_notes(alloc));
     let mut body = Leaving {
         notes: &notes,
         is_refused,
@@ -382,7 +383,7 @@ impl<'a, R: Looping> LoopWithSenders<Idle, Work, Firing<'a>, R> for Late<'a> {
 #[test]
 fn what_the_last_sender_fired_is_run(rt: HostRuntime) {
     let parts = expect_ok(&rt, on_table(rt, rt.alloc(), 0));
-    let notes = new_notes(&rt, rt.alloc());
+    let notes = expect_ok(&rt, new_notes(rt.alloc()));
     let ended = expect_ok(&rt, beside_senders(&rt, parts, &mut Late { notes: &notes }));
     expect_same(&rt, &ended.ran, &Ok(()));
     expect_same(&rt, &(ended.issued, ended.taken), &(1, 1));
@@ -443,7 +444,7 @@ fn ready_counters<R: Looping>(rt: &R, alloc: Global, poller: &Epoll<R>) -> Vec<E
 #[test]
 fn what_a_full_batch_leaves_out_is_run(rt: HostRuntime) {
     let parts = expect_ok(&rt, on_table(rt, rt.alloc(), 0));
-    let notes = new_notes(&rt, rt.alloc());
+    let notes = expect_ok(&rt, new_notes(rt.alloc()));
     let mut crowded = Crowded {
         notes: &notes,
         ready: ready_counters(&rt, rt.alloc(), &parts.poller),

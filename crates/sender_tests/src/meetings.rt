@@ -1,14 +1,15 @@
 //! The loop's thread and a sender's, at a manager and an endpoint of it.
 
-use crate::ending::{beside_senders, wait_until_ended};
-use crate::expecting::{expect_ok, expect_pending, expect_same, new_notes};
+use crate::ending::beside_senders;
+use crate::expecting::{expect_ok, expect_pending, expect_same};
 use crate::threads::{Host, Looping};
-use crate::work::{Gate, Notes, Work};
-use crate::{closes, gated, looks};
+use crate::{closed, gated, looks};
 use event_manager::{
     EventManager, EventPoller, LoopWithSenders, Naming, RemoteEndpoint, Result, Sender, Senders,
 };
 use fixtures::parts::{Idle, on_table};
+use fixtures::waits::wait_until_ended;
+use fixtures::work::{Gate, Notes, Work, new_notes};
 use std::alloc::Global;
 use std::sync::Arc;
 use std::sync::atomic::AtomicBool;
@@ -49,7 +50,7 @@ impl<R: Looping> Sender<Idle, Work, (), R> for Meeting<'_> {
         match kind {
             Kind::AtGate => gated::send_meanwhile(rt, endpoint, shared),
             Kind::LooksBesideSends => looks::send_in_vain(rt, endpoint, shared),
-            Kind::CloseBesideSends => closes::send_round_a_close(rt, endpoint, shared),
+            Kind::CloseBesideSends => closed::send_round_a_close(rt, endpoint, shared),
         }
     }
 }
@@ -97,7 +98,7 @@ impl<'a, R: Looping> LoopWithSenders<Idle, Work, Meeting<'a>, R> for Meeting<'a>
                 looks::look(rt, &endpoint, self.shared);
                 expect_behind(rt, &endpoint, senders, 1);
             }
-            Kind::CloseBesideSends => closes::wait_for_two(rt, &endpoint),
+            Kind::CloseBesideSends => closed::wait_for_two(rt, &endpoint),
         }
         Ok(())
     }
@@ -108,7 +109,7 @@ impl<'a, R: Looping> LoopWithSenders<Idle, Work, Meeting<'a>, R> for Meeting<'a>
 pub fn meet<R: Host>(rt: &R, alloc: Global, value: u64, kind: Kind, counts: (u64, u64)) {
     let shared = Shared {
         gate: expect_ok(rt, Arc::new(alloc, Gate::new())),
-        notes: new_notes(rt, alloc),
+        notes: expect_ok(rt, new_notes(alloc)),
         is_over: AtomicBool::new(false),
     };
     let parts = expect_ok(rt, on_table(*rt, alloc, value));

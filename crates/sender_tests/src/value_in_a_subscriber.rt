@@ -4,12 +4,13 @@ ghost use Rattle.std.specs.Prelude.{◌≡◌};
 
 use crate::ending::beside_senders;
 use crate::expecting::{expect_ok, expect_run_within, expect_same};
-use crate::threads::{Looping, wait_until_pending};
+use crate::threads::Looping;
 use event_manager::{
     Error, EventManager, EventOps, EventPoller, Events, Job, LoopWithSenders, MutEventSubscriber,
     Naming, Registry, RemoteEndpoint, Result, Sender, Senders, SubscriberId, SubscriberOps,
 };
 use fixtures::parts::on_table;
+use fixtures::waits::wait_until_pending;
 use std::alloc::Global;
 use std::sync::Wait;
 use std::time::Clock;
@@ -68,7 +69,7 @@ impl Job<Stoppable> for Order {
 
     ghost use Rattle.std.specs.Prelude.{◌≡◌, [], ◌∷◌, ◌⊎◌, Ok};
     ghost use Rattle.event_manager.specs.Registry.{Replaced, NotReplaced};
-    ghost use Rattle.endpoint_tests.specs.declared.value_in_a_subscriber.Stoppable.{Stoppable};
+    ghost use Rattle.sender_tests.specs.declared.value_in_a_subscriber.Stoppable.{Stoppable};
 
     ghost may = { λ self steps reply. ((old new : Stoppable) × (steps ≡ Replaced self.id old new ∷ []) × (reply ≡ Ok old.value)) ⊎ (steps ≡ NotReplaced self.id ∷ []) };
 

@@ -6,14 +6,13 @@
 
 ghost use Rattle.std.specs.Prelude.{◌≡◌};
 
-use crate::expecting::{
-    expect_counted, expect_ok, expect_pending, expect_run, expect_same, new_notes,
-};
-use crate::threads::{Host, LIMIT, wait_until_pending};
-use crate::work::{Notes, Work};
+use crate::expecting::{expect_ok, expect_same};
+use crate::host::Host;
 use event_manager::{Closed, EventManager, Ledgers, Naming, RemoteEndpoint, Result, Ticket};
 use fixtures::making::make;
 use fixtures::parts::{Idle, OnTable, on_table};
+use fixtures::waits::wait_until_pending;
+use fixtures::work::{LIMIT, Notes, Work, count_of, new_notes};
 use std::alloc::Global;
 use std::marker::Brand;
 use std::sync::Mutex;
@@ -120,7 +119,7 @@ fn run_behind<N: Naming, R: Host>(
     total: usize,
 ) {
     expect_same(rt, &wait_until_pending(rt, endpoint, total), &true);
-    expect_run(rt, manager, Ok(1));
+    expect_same(rt, &manager.run(rt), &Ok(1));
 }
 
 /// Runs until so many senders have ended and no job waits.
@@ -172,7 +171,7 @@ fn send_beside_loop<N: Naming + Send + Sync, R: Host>(
         || send_all(rt, alloc, endpoint, sending, plan.count),
         || run_planned(rt, manager, endpoint, sending, plan),
     );
-    expect_pending(rt, endpoint, 0);
+    expect_same(rt, &endpoint.pending(), &Some(0));
 }
 
 /// Expects that these are all the tickets, or that they aren't.
@@ -235,7 +234,7 @@ fn expect_sent<R: Host>(rt: &R, alloc: Global, notes: &[Notes], plan: Plan) {
     let tickets = Blank::new(9223372036854775808);
     send_on::<Brand, R>(rt, parts, notes, plan, tickets, Blank::new(1));
     for noted in notes {
-        expect_counted(rt, noted, plan.count as usize);
+        expect_same(rt, &count_of(rt, noted), &Some(plan.count as usize));
     }
 }
 
@@ -245,8 +244,12 @@ fn two_threads_send_fifty_each(rt: HostRuntime) {
         count: 50,
         runs_beside: false,
     };
-    let notes = [new_notes(&rt, rt.alloc()), new_notes(&rt, rt.alloc())];
-    expect_sent(&rt, rt.alloc(), &notes, plan);
+    let alloc = rt.alloc();
+    let notes = [
+        expect_ok(&rt, new_notes(alloc)),
+        expect_ok(&rt, new_notes(alloc)),
+    ];
+    expect_sent(&rt, alloc, &notes, plan);
 }
 
 #[test]
@@ -257,9 +260,9 @@ fn three_threads_send_a_thousand_each(rt: HostRuntime) {
     };
     let alloc = rt.alloc();
     let notes = [
-        new_notes(&rt, alloc),
-        new_notes(&rt, alloc),
-        new_notes(&rt, alloc),
+        expect_ok(&rt, new_notes(alloc)),
+        expect_ok(&rt, new_notes(alloc)),
+        expect_ok(&rt, new_notes(alloc)),
     ];
     expect_sent(&rt, alloc, &notes, plan);
 }

@@ -1,16 +1,17 @@
 //! What another thread sees while a job, a reply, a subscriber or a poller is dropped.
 
-use crate::ending::{beside_senders, wait_until_ended};
 use crate::expecting::{expect_ok, expect_same};
-use crate::threads::{Host, Looping, wait_until_pending};
+use crate::host::{Host, Looping, Rounds};
 use crate::watched::{Drops, Guest, Reporter, Task, Watched};
 use event_manager::{
     Error, EventManager, EventPoller, LoopWithSenders, Naming, RemoteEndpoint, Result, Sender,
-    Senders, SubscriberOps, Ticket,
+    Senders, SubscriberOps, Ticket, with_senders,
 };
 use fixtures::parts::{Parts, on_table};
+use fixtures::waits::{wait_until_ended, wait_until_pending};
 use std::alloc::Global;
 use std::sync::{Arc, Mutex, Wait};
+use std::thread;
 use std::time::Clock;
 use vmm_sys::errno::Errno;
 
@@ -212,17 +213,30 @@ fn expect_seen<R: Host>(rt: &R, alloc: Global, act: Act) {
         guest: Some(guest),
         second: &second,
     };
-    let parts = Parts::new(alloc, poller, event_fd);
-    let ended = expect_ok(rt, beside_senders(rt, parts, &mut acting));
+    let ended = expect_ok(rt, with_senders(rt, alloc, poller, event_fd, &mut acting));
     expect_same(rt, &ended.ran, &Ok(()));
     expect_same(rt, &drops.count(), &1);
 }
 
 /// Expects it of each of these acts.
-fn expect_each_seen<R: Host>(rt: &R, alloc: Global, acts: &[Act]) {
+fn expect_all_seen<R: Host>(rt: &R, alloc: Global, acts: &[Act], rounds: &Rounds) {
     for act in acts {
         expect_seen(rt, alloc, *act);
+        rounds.count();
     }
+}
+
+/// Expects it of each of these acts, none of which may last too long.
+fn expect_each_seen<R: Host>(rt: &R, alloc: Global, acts: &[Act]) {
+    let rounds = Rounds::new();
+    thread::join(
+        rt,
+        || rounds.look_on(rt),
+        || {
+            expect_all_seen(rt, alloc, acts, &rounds);
+            rounds.end();
+        },
+    );
 }
 
 #[test]

@@ -1,7 +1,7 @@
 //! Values whose drop is counted, and lasts until another thread has looked on; what may hold one.
 
-use crate::threads::LIMIT;
 use event_manager::{EventOps, EventPoller, Events, Job, MutEventSubscriber, Registry};
+use fixtures::work::LIMIT;
 use std::alloc::{AllocError, Global};
 use std::sync::atomic::{AtomicBool, AtomicU64, Ordering};
 use std::sync::{Arc, Wait};

@@ -1,6 +1,6 @@
 use Rattle.std.proofs.Common.{refl, [], ◌∷◌}
 use Rattle.event_manager.proofs.OneStep.{one_step}
-use Rattle.endpoint_tests.proofs.members.LeaveJobNoting.call.Goals as goal
+use Rattle.job_tests.proofs.members.LeaveJobNoting.call.Goals as goal
 
 pub returns-clause-stepped : goal.returns-clause-stepped
 returns-clause-stepped g c =

@@ -1,7 +1,7 @@
 use Rattle.std.proofs.Common.{refl, [], ◌∷◌, inl, inr}
 use Rattle.event_manager.specs.Registry.{Replaced, NotReplaced}
 use Rattle.event_manager.proofs.OneStep.{replaced_step, not_replaced_step}
-use Rattle.endpoint_tests.proofs.members.RenumberJobNoting.call.Goals as goal
+use Rattle.job_tests.proofs.members.RenumberJobNoting.call.Goals as goal
 
 pub returns-in-Ok-clause-stepped : goal.returns-in-Ok-clause-stepped
 returns-in-Ok-clause-stepped g c =

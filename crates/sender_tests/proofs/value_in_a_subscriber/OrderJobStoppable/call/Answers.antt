@@ -1,7 +1,7 @@
 use Rattle.std.proofs.Common.{rules, refl, [], ◌∷◌, inl, inr}
 use Rattle.event_manager.specs.Registry.{Replaced, NotReplaced}
 use Rattle.event_manager.proofs.OneStep.{replaced_step, not_replaced_step}
-use Rattle.endpoint_tests.proofs.value_in_a_subscriber.OrderJobStoppable.call.Goals as goal
+use Rattle.sender_tests.proofs.value_in_a_subscriber.OrderJobStoppable.call.Goals as goal
 
 pub returns-in-Ok-clause-stepped : goal.returns-in-Ok-clause-stepped
 returns-in-Ok-clause-stepped g c =
