@@ -2,7 +2,7 @@
 //! close, that wakes it.
 
 use crate::ending::beside_senders;
-use crate::expecting::{expect_noted, expect_ok, expect_run_within, expect_same};
+use crate::expecting::{expect_noted, expect_ok, expect_same};
 use crate::threads::{Host, Looping};
 use event_manager::{
     Error, EventManager, EventPoller, LoopWithSenders, Naming, RemoteEndpoint, Result, Sender,
@@ -95,7 +95,7 @@ impl<'a, R: Looping> LoopWithSenders<Idle, Work, Caller<'a>, R> for Lined<'a> {
         expect_same(rt, &wait_until_pending(rt, &endpoint, all), &true);
         thread::sleep(rt, Duration::from_millis(TO_SLEEP));
         if self.line.is_run {
-            expect_run_within(rt, manager, 0, Ok(1));
+            expect_same(rt, &manager.run_with_timeout(0, rt), &Ok(1));
         }
         Ok(())
     }

@@ -1,6 +1,6 @@
 //! A sender beside a close.
 
-use crate::expecting::{expect_noted, expect_pending, expect_same};
+use crate::expecting::{expect_noted, expect_same};
 use crate::meetings::{Endpoint, Kind, Shared, meet};
 use crate::threads::Looping;
 use event_manager::{Error, Naming};
@@ -20,7 +20,7 @@ pub fn send_round_a_close<N: Naming, R: Looping>(rt: &R, endpoint: &Endpoint<N>,
     let third = fire_note(rt, endpoint, &shared.notes, 3);
     expect_same(rt, &third, &Err(Error::ChannelSend));
     expect_noted(rt, &shared.notes, &[]);
-    expect_pending(rt, endpoint, 0);
+    expect_same(rt, &endpoint.pending(), &Some(0));
 }
 
 #[test]

@@ -1,6 +1,6 @@
 //! A job that waits while another thread sends.
 
-use crate::expecting::{expect_noted, expect_ok, expect_pending, expect_run_within, expect_same};
+use crate::expecting::{expect_noted, expect_ok, expect_same};
 use crate::meetings::{Endpoint, Kind, Loop, Shared, meet};
 use crate::threads::Looping;
 use event_manager::{EventPoller, Naming};
@@ -17,7 +17,7 @@ pub fn fire_at_gate<N: Naming, R: Looping>(rt: &R, endpoint: &Endpoint<N>, share
 /// Sends while a job waits at the gate and no other waits, and then lets it go on.
 pub fn send_meanwhile<N: Naming, R: Looping>(rt: &R, endpoint: &Endpoint<N>, shared: &Shared) {
     expect_same(rt, &shared.gate.wait_for(1, rt), &true);
-    expect_pending(rt, endpoint, 0);
+    expect_same(rt, &endpoint.pending(), &Some(0));
     expect_same(rt, &fire_note(rt, endpoint, &shared.notes, 3), &Ok(3));
     shared.gate.set(2, rt);
 }
@@ -28,9 +28,9 @@ pub fn run_twice<N: Naming, P: EventPoller, R: Looping>(
     manager: &mut Loop<N, P>,
     shared: &Shared,
 ) {
-    expect_run_within(rt, manager, 1000, Ok(1));
+    expect_same(rt, &manager.run_with_timeout(1000, rt), &Ok(1));
     expect_noted(rt, &shared.notes, &[1, 2]);
-    expect_run_within(rt, manager, 0, Ok(1));
+    expect_same(rt, &manager.run_with_timeout(0, rt), &Ok(1));
     expect_noted(rt, &shared.notes, &[1, 2, 3]);
 }
 

@@ -1,7 +1,7 @@
 //! Loops and their senders: who runs when, what ends a loop, and what its senders then get.
 
 use crate::ending::beside_senders;
-use crate::expecting::{expect_noted, expect_ok, expect_run, expect_same};
+use crate::expecting::{expect_noted, expect_ok, expect_same};
 use crate::threads::{Host, Looping};
 use event_manager::{
     Error, EventManager, EventPoller, EventSet, Events, LoopWithSenders, Naming, NoJob,
@@ -297,7 +297,7 @@ impl<'a, R: Looping> LoopWithSenders<Idle, Work, Staying<'a>, R> for Leaving<'a>
     ) -> Result<()> {
         let endpoint = expect_ok(rt, manager.remote_endpoint());
         expect_same(rt, &wait_until_pending(rt, &endpoint, 2), &true);
-        expect_run(rt, manager, Ok(1));
+        expect_same(rt, &manager.run(rt), &Ok(1));
         expect_same(rt, &wait_until_pending(rt, &endpoint, 1), &true);
         if self.is_refused {
             return senders.run_until_ended(manager, rt);

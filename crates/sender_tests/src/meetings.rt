@@ -1,7 +1,7 @@
 //! The loop's thread and a sender's, at a manager and an endpoint of it.
 
 use crate::ending::beside_senders;
-use crate::expecting::{expect_ok, expect_pending, expect_same};
+use crate::expecting::{expect_ok, expect_same};
 use crate::threads::{Host, Looping};
 use crate::{closed, gated, looks};
 use event_manager::{
@@ -63,7 +63,7 @@ fn expect_behind<N: Naming, R: Looping>(
     pending: usize,
 ) {
     expect_same(rt, &wait_until_ended(rt, senders), &true);
-    expect_pending(rt, endpoint, pending);
+    expect_same(rt, &endpoint.pending(), &Some(pending));
 }
 
 impl<'a, R: Looping> LoopWithSenders<Idle, Work, Meeting<'a>, R> for Meeting<'a> {

@@ -3,7 +3,7 @@
 ghost use Rattle.std.specs.Prelude.{◌≡◌};
 
 use crate::ending::beside_senders;
-use crate::expecting::{expect_ok, expect_run_within, expect_same};
+use crate::expecting::{expect_ok, expect_same};
 use crate::threads::Looping;
 use event_manager::{
     Error, EventManager, EventOps, EventPoller, Events, Job, LoopWithSenders, MutEventSubscriber,
@@ -148,7 +148,7 @@ impl<R: Looping> LoopWithSenders<Stoppable, Order, Caller, R> for Called {
         for _change in CHANGES {
             expect_same(rt, &is_stopped(manager, id), &Ok(false));
             expect_same(rt, &wait_until_pending(rt, &endpoint, 1), &true);
-            expect_run_within(rt, manager, 0, Ok(1));
+            expect_same(rt, &manager.run_with_timeout(0, rt), &Ok(1));
         }
         expect_same(rt, &is_stopped(manager, id), &Ok(true));
         Ok(())
