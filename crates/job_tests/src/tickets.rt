@@ -1,4 +1,4 @@
-//! Tickets and counts over ledgers that a body is given.
+//! Tickets over ledgers that a body is given.
 
 use crate::expecting::expect_same;
 use job_tickets::ledgers::{Ledgers, WithLedgers, with_ledgers};
@@ -42,24 +42,4 @@ impl WithLedgers for Gathering {
 fn all_tickets_are_gathered_and_sorted(rt: HostRuntime) {
     let gathered = with_ledgers(Gathering { alloc: rt.alloc() });
     expect_same(&rt, &gathered, &Some((false, true, [1, 2, 3])));
-}
-
-/// Counts five jobs, and then two.
-#[derive(Drop)]
-struct Counting;
-
-impl WithLedgers for Counting {
-    type Output = u64;
-
-    fn run<N: Naming + Send + Sync>(self, ledgers: Ledgers<N>) -> u64 {
-        let (_, mut book, mut count) = ledgers.open();
-        count.add(&mut book, 5);
-        count.add(&mut book, 2);
-        count.count()
-    }
-}
-
-#[test]
-fn taken_jobs_add_up(rt: HostRuntime) {
-    expect_same(&rt, &with_ledgers(Counting), &7);
 }
