@@ -1,4 +1,5 @@
-//! Tests of what other threads do beside a loop, in thousands of rounds each.
+//! Tests of what several threads do at once: who sends beside a loop, in thousands of rounds, and who looks on while a value is
+//! dropped.
 #![tactic(auto)]
 
 #[cfg(test)]
@@ -10,4 +11,10 @@ mod fixture;
 #[cfg(test)]
 mod host;
 #[cfg(test)]
+mod senders;
+#[cfg(test)]
 mod sending;
+#[cfg(test)]
+mod unlocked;
+#[cfg(test)]
+mod watched;

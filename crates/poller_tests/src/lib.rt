@@ -1,0 +1,23 @@
+//! Tests of the event manager at its poller: what it asks, and what comes of refusals and of reports of any kind.
+#![tactic(auto)]
+
+#[cfg(test)]
+mod endpoint;
+#[cfg(test)]
+mod events;
+#[cfg(test)]
+mod expecting;
+#[cfg(test)]
+mod faults;
+#[cfg(test)]
+mod hostile;
+#[cfg(test)]
+mod making;
+#[cfg(test)]
+mod parts;
+#[cfg(test)]
+mod removals;
+#[cfg(test)]
+mod requests;
+#[cfg(test)]
+mod sizes;

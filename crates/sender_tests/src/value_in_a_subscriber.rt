@@ -1,0 +1,164 @@
+//! A caller that sets and reads a value of a subscriber, and stops it.
+
+ghost use Rattle.std.specs.Prelude.{◌≡◌};
+
+use crate::ending::beside_senders;
+use crate::expecting::{expect_ok, expect_same};
+use crate::threads::Looping;
+use event_manager::{
+    Error, EventManager, EventOps, EventPoller, Events, Job, LoopWithSenders, MutEventSubscriber,
+    Naming, Registry, RemoteEndpoint, Result, Sender, Senders, SubscriberId, SubscriberOps,
+};
+use fixtures::parts::on_table;
+use fixtures::waits::wait_until_pending;
+use std::alloc::Global;
+use std::sync::Wait;
+use std::time::Clock;
+
+/// Has a value, and may be stopped.
+#[derive(Drop)]
+struct Stoppable {
+    value: u64,
+    is_stopped: bool,
+}
+
+impl MutEventSubscriber for Stoppable {
+    ghost use Rattle.std.specs.Prelude.{◌≡◌, []};
+
+    ghost begins = { λ v exchanges w. exchanges ≡ [] };
+
+    ghost serves = { λ v event exchanges w. exchanges ≡ [] };
+
+    fn process<P: EventPoller>(&mut self, _events: Events, _ops: &mut EventOps<P>) {}
+
+    fn init<P: EventPoller>(&mut self, _ops: &mut EventOps<P>) {}
+}
+
+/// What is done to a subscriber.
+#[derive(Clone, Copy)]
+enum Change {
+    Set(u64),
+    Read,
+    Stop,
+}
+
+impl Stoppable {
+    /// Makes the change: the value before it.
+    fn make(&mut self, change: Change) -> u64
+        ensures { result ≡ self.old.value }
+    {
+        let value = self.value;
+        match change {
+            Change::Set(to) => self.value = to,
+            Change::Read => {}
+            Change::Stop => self.is_stopped = true,
+        }
+        value
+    }
+}
+
+/// Makes a change of a subscriber, and replies its value before.
+#[derive(Clone, Copy)]
+struct Order {
+    id: SubscriberId,
+    change: Change,
+}
+
+impl Job<Stoppable> for Order {
+    type Reply = Result<u64>;
+
+    ghost use Rattle.std.specs.Prelude.{◌≡◌, [], ◌∷◌, ◌⊎◌, Ok};
+    ghost use Rattle.event_manager.specs.Registry.{Replaced, NotReplaced};
+    ghost use Rattle.sender_tests.specs.declared.value_in_a_subscriber.Stoppable.{Stoppable};
+
+    ghost may = { λ self steps reply. ((old new : Stoppable) × (steps ≡ Replaced self.id old new ∷ []) × (reply ≡ Ok old.value)) ⊎ (steps ≡ NotReplaced self.id ∷ []) };
+
+    ghost replies = { λ reply. Unit {0} };
+
+    fn call<P: EventPoller, W: Wait + Clock>(
+        self,
+        registry: &mut Registry<Stoppable, P>,
+        _rt: &W,
+    ) -> Result<u64> {
+        match registry.subscriber_mut(self.id) {
+            Ok(subscriber) => Ok(subscriber.make(self.change)),
+            Err(e) => Err(e),
+        }
+    }
+}
+
+/// What the caller does, and the value that it is answered each time.
+const CHANGES: [(Change, u64); 3] = [(Change::Set(7), 0), (Change::Read, 7), (Change::Stop, 7)];
+
+/// Makes the changes of a subscriber, each by a job.
+#[derive(Drop)]
+struct Caller(SubscriberId);
+
+impl<R: Looping> Sender<Stoppable, Order, (), R> for Caller {
+    fn send<N: Naming>(self, endpoint: &RemoteEndpoint<Stoppable, Order, N>, rt: &R) {
+        let Caller(id) = self;
+        for (change, value) in CHANGES {
+            let reply = endpoint.call_blocking(Order { id, change }, rt);
+            expect_same(rt, &reply, &Ok(Ok(value)));
+        }
+    }
+}
+
+/// A loop with one subscriber, and a caller beside it.
+#[derive(Drop)]
+struct Called {
+    id: Option<SubscriberId>,
+}
+
+/// Whether the subscriber is stopped.
+fn is_stopped<N: Naming, P: EventPoller>(
+    manager: &EventManager<Stoppable, Order, N, P>,
+    id: SubscriberId,
+) -> Result<bool> {
+    match manager.subscriber(id) {
+        Ok(subscriber) => Ok(subscriber.is_stopped),
+        Err(error) => Err(error),
+    }
+}
+
+impl<R: Looping> LoopWithSenders<Stoppable, Order, Caller, R> for Called {
+    fn begin<N: Naming, P: EventPoller>(
+        &mut self,
+        rt: &R,
+        alloc: Global,
+        manager: &mut EventManager<Stoppable, Order, N, P>,
+    ) -> Result<Vec<Caller>> {
+        let joined = manager.add_subscriber(Stoppable {
+            value: 0,
+            is_stopped: false,
+        });
+        let id = expect_ok(rt, joined);
+        self.id = Some(id);
+        Ok(expect_ok(rt, Vec::from_array(alloc, [Caller(id)])))
+    }
+
+    fn run<N: Naming, P: EventPoller>(
+        &mut self,
+        rt: &R,
+        manager: &mut EventManager<Stoppable, Order, N, P>,
+        _senders: &Senders,
+    ) -> Result<()> {
+        let id = self.id.ok_or(Error::InvalidId)?;
+        let endpoint = expect_ok(rt, manager.remote_endpoint());
+        for _change in CHANGES {
+            expect_same(rt, &is_stopped(manager, id), &Ok(false));
+            expect_same(rt, &wait_until_pending(rt, &endpoint, 1), &true);
+            expect_same(rt, &manager.run_with_timeout(0, rt), &Ok(1));
+        }
+        expect_same(rt, &is_stopped(manager, id), &Ok(true));
+        Ok(())
+    }
+}
+
+#[test]
+fn a_caller_sets_and_reads_a_value_of_a_subscriber(rt: HostRuntime) {
+    let parts = expect_ok(&rt, on_table(rt, rt.alloc(), 0));
+    let ended = expect_ok(&rt, beside_senders(&rt, parts, &mut Called { id: None }));
+    expect_same(&rt, &ended.ran, &Ok(()));
+    expect_same(&rt, &(ended.issued, ended.taken), &(3, 3));
+}

@@ -1,0 +1,196 @@
+//! Subscribers in cells and under locks.
+
+use crate::counting::{SharedCounting, shared_counting};
+use crate::expecting::{expect, expect_ok, expect_same};
+use crate::served::{served, two_reports};
+use event_manager::{EventManager, EventPoller, Locked, Naming, NoJob, SubscriberOps};
+use fixtures::counting::{Counting, counting_on};
+use fixtures::making::{WithManager, no_memory, with_manager};
+use fixtures::parts::{Parts, silent_parts};
+use fixtures::runs::{Failure, run_alone};
+use std::cell::RefCell;
+use std::process::Abort;
+use std::rc::Rc;
+use std::sync::atomic::{AtomicU64, Ordering};
+use std::sync::{Arc, Wait};
+use std::thread;
+use std::time::{Clock, Duration};
+use vmm_sys::epoll::EventSet;
+use vmm_sys::script_poller::ScriptPoller;
+
+/// How many events the subscriber in the cell has counted; `None` where the cell is busy.
+fn count_in(cell: &RefCell<Counting>) -> Option<u64> {
+    cell.try_borrow().map(|held| held.count).ok()
+}
+
+#[test]
+fn free_cell_is_called_and_left_free(rt: HostRuntime) {
+    let cell = expect_ok(&rt, Rc::new(rt.alloc(), RefCell::new(counting_on(3))));
+    let held = expect_ok(&rt, cell.clone());
+    served(rt, rt.alloc(), EventSet::IN, 0, held);
+    expect_same(&rt, &count_in(&cell), &Some(2));
+}
+
+#[test]
+fn owned_cell_is_called(rt: HostRuntime) {
+    let cell = served(
+        rt,
+        rt.alloc(),
+        EventSet::IN,
+        0,
+        RefCell::new(counting_on(3)),
+    );
+    expect_same(&rt, &count_in(&cell), &Some(2));
+}
+
+/// Runs while the cell is busy, and again when it is free.
+#[derive(Drop)]
+struct BusyThenFree<'a, R> {
+    rt: &'a R,
+    cell: Rc<RefCell<Counting>>,
+}
+
+impl<R: Wait + Clock + Abort> WithManager for BusyThenFree<'_, R> {
+    type Subscriber = Rc<RefCell<Counting>>;
+
+    type Output = ();
+
+    fn run<N: Naming, P: EventPoller>(
+        self,
+        manager: &mut EventManager<Rc<RefCell<Counting>>, NoJob, N, P>,
+    ) -> event_manager::Result<()> {
+        let BusyThenFree { rt, cell } = self;
+        manager.add_subscriber(cell.clone().map_err(no_memory)?)?;
+        {
+            let held = cell.try_borrow_mut();
+            expect(rt, held.is_ok());
+            expect_same(rt, &manager.run(rt), &Ok(1));
+            expect_same(rt, &held.map(|counting| counting.count).ok(), &Some(0));
+        }
+        expect_same(rt, &manager.run(rt), &Ok(1));
+        Ok(())
+    }
+}
+
+#[test]
+fn busy_cell_skips_the_call(rt: HostRuntime) {
+    let cell = expect_ok(&rt, Rc::new(rt.alloc(), RefCell::new(counting_on(3))));
+    let body = BusyThenFree {
+        rt: &rt,
+        cell: expect_ok(&rt, cell.clone()),
+    };
+    let poller = expect_ok(&rt, two_reports(rt.alloc(), EventSet::IN, 0));
+    let parts = expect_ok(&rt, silent_parts(rt, rt.alloc(), poller));
+    expect_ok(&rt, with_manager(parts, body));
+    expect_same(&rt, &count_in(&cell), &Some(1));
+}
+
+// Ends the test unless the turn, or a later one, comes within 10,000 looks, a millisecond apart.
+fn expect_turn<R: Clock + Abort>(rt: &R, turn: &AtomicU64, wanted: u64) {
+    for _turn in 0..10000 {
+        if turn.load(Ordering::SeqCst) >= wanted {
+            return;
+        }
+        thread::sleep(rt, Duration::from_millis(1));
+    }
+    panic!(rt; "the turn {wanted} does not come");
+}
+
+/// At each odd turn calls the subscriber, first its `init` and then its `process`, and ends the turn when that is done.
+#[derive(Drop)]
+struct Turns<'a, R> {
+    rt: &'a R,
+    locked: Arc<Locked<Counting, R>>,
+    turn: &'a AtomicU64,
+}
+
+impl<R: Wait + Clock + Abort + Drop> WithManager for Turns<'_, R> {
+    type Subscriber = Arc<Locked<Counting, R>>;
+
+    type Output = ();
+
+    fn run<N: Naming, P: EventPoller>(
+        self,
+        manager: &mut EventManager<Arc<Locked<Counting, R>>, NoJob, N, P>,
+    ) -> event_manager::Result<()> {
+        let Turns { rt, locked, turn } = self;
+        expect_turn(rt, turn, 1);
+        manager.add_subscriber(locked)?;
+        turn.store(2, Ordering::SeqCst);
+        for odd in [3, 5] {
+            expect_turn(rt, turn, odd);
+            expect_same(rt, &manager.run(rt), &Ok(1));
+            turn.store(odd + 1, Ordering::SeqCst);
+        }
+        Ok(())
+    }
+}
+
+#[test]
+fn lock_is_waited_for_and_left_free(rt: HostRuntime) {
+    let locked = expect_ok(&rt, Arc::new(rt.alloc(), Locked::new(counting_on(3), rt)));
+    let turn = expect_ok(&rt, Arc::new(rt.alloc(), AtomicU64::new(0)));
+    let script = expect_ok(&rt, two_reports(rt.alloc(), EventSet::IN, 0));
+    let parts = expect_ok(&rt, silent_parts(rt, rt.alloc(), script));
+    let (their_locked, their_turn) = (expect_ok(&rt, locked.clone()), expect_ok(&rt, turn.clone()));
+    let runner = expect_ok(
+        &rt,
+        thread::spawn(&rt, move || {
+            let body = Turns {
+                rt: &rt,
+                locked: their_locked,
+                turn: &their_turn,
+            };
+            let done = with_manager(parts, body);
+            // Also where a call was refused: then no turn is waited for.
+            their_turn.store(u64::MAX, Ordering::SeqCst);
+            done
+        }),
+    );
+    for odd in [1, 3, 5] {
+        let Some(held) = locked.mutex.try_lock() else {
+            panic!(rt; "the lock is kept");
+        };
+        turn.fetch_max(odd, Ordering::SeqCst);
+        thread::sleep(&rt, Duration::from_millis(20));
+        expect_same(&rt, &turn.load(Ordering::SeqCst), &odd);
+        drop(held);
+        expect_turn(&rt, &turn, odd + 1);
+    }
+    expect_same(&rt, &runner.join(&rt), &Ok(()));
+    expect_same(
+        &rt,
+        &locked.mutex.try_lock().map(|held| held.count),
+        &Some(2),
+    );
+}
+
+/// Serves a subscriber under a lock the two reports, and sets the flag when that is done.
+fn serve_locked<R: Wait + Clock + Abort + Drop>(
+    rt: R,
+    parts: Parts<ScriptPoller>,
+    locked: Locked<SharedCounting, R>,
+    over: &AtomicU64,
+) -> Result<(), Failure> {
+    let ran = run_alone(&rt, parts, locked, &[(None, Ok(1)), (None, Ok(1))]);
+    over.store(1, Ordering::SeqCst);
+    ran?;
+    Ok(())
+}
+
+#[test]
+fn subscriber_under_a_lock_counts_in_an_atomic(rt: HostRuntime) {
+    let count = expect_ok(&rt, Arc::new(rt.alloc(), AtomicU64::new(0)));
+    let locked = Locked::new(expect_ok(&rt, shared_counting(&count)), rt);
+    let over = expect_ok(&rt, Arc::new(rt.alloc(), AtomicU64::new(0)));
+    let theirs = expect_ok(&rt, over.clone());
+    let script = expect_ok(&rt, two_reports(rt.alloc(), EventSet::IN, 0));
+    let parts = expect_ok(&rt, silent_parts(rt, rt.alloc(), script));
+    let runner = expect_ok(
+        &rt,
+        thread::spawn(&rt, move || serve_locked(rt, parts, locked, &theirs)),
+    );
+    expect_turn(&rt, &over, 1);
+    expect_same(&rt, &runner.join(&rt), &Ok(()));
+    expect_same(&rt, &count.load(Ordering::SeqCst), &2);
+}

@@ -1,0 +1,209 @@
+//! Subscribers of each form that docs/GUIDE.md shows: none has a line of proof by hand.
+
+use event_manager::{
+    EventOps, EventPoller, EventSet, Events, MutEventSubscriber, Request, StepInput, StepSubscriber,
+};
+use std::sync::atomic::{AtomicU64, Ordering};
+use std::sync::{Arc, Wait};
+use vmm_sys::eventfd::EventFd;
+
+/// Asks for its descriptor when it joins, and for nothing at an event.
+#[derive(Drop)]
+pub struct Counting {
+    pub own: Events,
+    pub seen: u64,
+}
+
+impl MutEventSubscriber for Counting {
+    ghost use Rattle.std.specs.Prelude.{◌≡◌};
+    ghost use Rattle.event_manager.specs.CounterEvents.{next_count};
+    ghost use Rattle.event_manager.specs.Exchange.{AsksNothing, AsksToAdd};
+
+    ghost begins = { λ v exchanges w. AsksToAdd v.own exchanges × (w ≡ v) };
+
+    ghost serves = { λ v event exchanges w. AsksNothing exchanges × (w ≡ record v { seen = next_count v.seen }) };
+
+    fn process<P: EventPoller>(&mut self, _events: Events, _ops: &mut EventOps<P>) {
+        self.seen = self.seen.saturating_add(1);
+    }
+
+    fn init<P: EventPoller>(&mut self, ops: &mut EventOps<P>) {
+        let _ = ops.add(self.own);
+    }
+}
+
+/// Adds up what it reads of its counter, and removes it once that comes to 10 or more.
+#[derive(Drop)]
+pub struct Filling<R> {
+    pub own: Events,
+    pub counter: EventFd,
+    pub total: u64,
+    pub rt: R,
+}
+
+impl<R: Wait> MutEventSubscriber for Filling<R> {
+    ghost use Rattle.std.specs.Prelude.{ℕ, ◌≡◌, ◌+◌, min, nat_le, MatchBool};
+    ghost use Rattle.event_manager.specs.Exchange.{AsksNothing, AsksToAdd, AsksToRemove};
+
+    ghost begins = { λ v exchanges w. AsksToAdd v.own exchanges × (w ≡ v) };
+
+    ghost serves = { λ v event exchanges w. (read : ℕ) × (w ≡ record v { total = min (v.total + read) 18446744073709551615 }) × MatchBool (nat_le 10 w.total) (AsksToRemove v.own exchanges) (AsksNothing exchanges) };
+
+    fn process<P: EventPoller>(&mut self, _events: Events, ops: &mut EventOps<P>) {
+        let read = self.counter.read(&self.rt).unwrap_or(0);
+        self.total = self.total.saturating_add(read);
+        if self.total >= 10 {
+            let _ = ops.remove(self.own);
+        }
+    }
+
+    fn init<P: EventPoller>(&mut self, ops: &mut EventOps<P>) {
+        let _ = ops.add(self.own);
+    }
+}
+
+/// Removes the descriptor of an event whose set is `HANG_UP` and nothing else.
+#[derive(Drop)]
+pub struct Leaving {
+    pub own: Events,
+    pub seen: u64,
+}
+
+impl MutEventSubscriber for Leaving {
+    ghost use Rattle.std.specs.Prelude.{◌==◌, MatchBool};
+    ghost use Rattle.event_manager.specs.Exchange.{AsksNothing, AsksToAdd, AsksToRemove};
+
+    ghost begins = { λ v exchanges w. AsksToAdd v.own exchanges };
+
+    ghost serves = { λ v event exchanges w. MatchBool (event.set == 16) (AsksToRemove event exchanges) (AsksNothing exchanges) };
+
+    fn process<P: EventPoller>(&mut self, events: Events, ops: &mut EventOps<P>) {
+        self.seen = self.seen.saturating_add(1);
+        if events.event_set() == EventSet::HANG_UP {
+            let _ = ops.remove(events);
+        }
+    }
+
+    fn init<P: EventPoller>(&mut self, ops: &mut EventOps<P>) {
+        let _ = ops.add(self.own);
+    }
+}
+
+/// Removes the descriptor of an event whose data is 0.
+#[derive(Drop)]
+pub struct Numbered {
+    pub own: Events,
+    pub seen: u64,
+}
+
+impl MutEventSubscriber for Numbered {
+    ghost use Rattle.std.specs.Prelude.{◌==◌, MatchBool};
+    ghost use Rattle.event_manager.specs.Exchange.{AsksNothing, AsksToAdd, AsksToRemove};
+
+    ghost begins = { λ v exchanges w. AsksToAdd v.own exchanges };
+
+    ghost serves = { λ v event exchanges w. MatchBool (event.payload == 0) (AsksToRemove event exchanges) (AsksNothing exchanges) };
+
+    fn process<P: EventPoller>(&mut self, events: Events, ops: &mut EventOps<P>) {
+        self.seen = self.seen.saturating_add(1);
+        if events.data() == 0 {
+            let _ = ops.remove(events);
+        }
+    }
+
+    fn init<P: EventPoller>(&mut self, ops: &mut EventOps<P>) {
+        let _ = ops.add(self.own);
+    }
+}
+
+/// At each event removes its descriptor and adds it again.
+#[derive(Drop)]
+pub struct Renewing {
+    pub own: Events,
+    pub seen: u64,
+}
+
+impl MutEventSubscriber for Renewing {
+    ghost use Rattle.std.specs.Prelude.{◌≡◌, [], ◌∷◌};
+    ghost use Rattle.event_manager.specs.Exchange.{Answer, AsksToAdd};
+    ghost use Rattle.event_manager.specs.Request.TheVariants.{Add, Remove};
+
+    ghost begins = { λ v exchanges w. AsksToAdd v.own exchanges };
+
+    ghost serves = { λ v event exchanges w. (first second : Answer) × (exchanges ≡ (Remove v.own, first) ∷ (Add v.own, second) ∷ []) };
+
+    fn process<P: EventPoller>(&mut self, _events: Events, ops: &mut EventOps<P>) {
+        self.seen = self.seen.saturating_add(1);
+        let _ = ops.request_both(Request::Remove(self.own), Request::Add(self.own));
+    }
+
+    fn init<P: EventPoller>(&mut self, ops: &mut EventOps<P>) {
+        let _ = ops.add(self.own);
+    }
+}
+
+/// Asks for three descriptors when it joins, and lets them all go at its first event.
+#[derive(Drop)]
+pub struct Group {
+    pub own: [Events; 3],
+    pub seen: u64,
+}
+
+impl MutEventSubscriber for Group {
+    ghost use Rattle.std.specs.Prelude.{◌≡◌, map};
+    ghost use Rattle.event_manager.specs.Exchange.{requests_of};
+    ghost use Rattle.event_manager.specs.Request.TheVariants.{Add, Remove};
+
+    ghost begins = { λ v exchanges w. requests_of exchanges ≡ map Add v.own };
+
+    ghost serves = { λ v event exchanges w. requests_of exchanges ≡ map Remove v.own };
+
+    fn process<P: EventPoller>(&mut self, _events: Events, ops: &mut EventOps<P>) {
+        self.seen = self.seen.saturating_add(1);
+        let [first, second, third] = self.own;
+        let _ = ops.request_all(&[
+            Request::Remove(first),
+            Request::Remove(second),
+            Request::Remove(third),
+        ]);
+    }
+
+    fn init<P: EventPoller>(&mut self, ops: &mut EventOps<P>) {
+        let [first, second, third] = self.own;
+        let _ = ops.request_all(&[
+            Request::Add(first),
+            Request::Add(second),
+            Request::Add(third),
+        ]);
+    }
+}
+
+/// To be boxed: asks for its descriptor when it joins, and removes it at an event whose set is `HANG_UP` and nothing else.
+#[derive(Drop)]
+pub struct Boxable {
+    pub own: Events,
+    pub seen: Arc<AtomicU64>,
+}
+
+impl StepSubscriber for Boxable {
+    ghost use Rattle.subscriber_tests.specs.Boxable.{boxable_wants};
+
+    ghost requests = { boxable_wants };
+
+    ghost requests_left = { λ v. 0 };
+
+    fn next(&mut self, input: StepInput) -> Option<Request> {
+        match input {
+            StepInput::Init => Some(Request::Add(self.own)),
+            StepInput::Event(events) => {
+                self.seen.fetch_add(1, Ordering::SeqCst);
+                if events.event_set() == EventSet::HANG_UP {
+                    Some(Request::Remove(events))
+                } else {
+                    None
+                }
+            }
+            StepInput::Answer(_) => None,
+        }
+    }
+}

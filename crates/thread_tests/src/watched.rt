@@ -1,0 +1,147 @@
+//! Values whose drop is counted, and lasts until another thread has looked on; what may hold one.
+
+use event_manager::{EventOps, EventPoller, Events, Job, MutEventSubscriber, Registry};
+use fixtures::work::LIMIT;
+use std::alloc::{AllocError, Global};
+use std::sync::atomic::{AtomicBool, AtomicU64, Ordering};
+use std::sync::{Arc, Wait};
+use std::thread;
+use std::time::{Clock, Duration};
+use vmm_sys::epoll::{ControlOperation, EpollEvent, EventSet};
+use vmm_sys::errno::Errno;
+
+/// How many drops have begun, and whether they may end.
+#[derive(Drop)]
+pub struct Drops {
+    begun: AtomicU64,
+    may_end: AtomicBool,
+}
+
+impl Drops {
+    pub fn new() -> Self {
+        Drops {
+            begun: AtomicU64::new(0),
+            may_end: AtomicBool::new(false),
+        }
+    }
+
+    /// How many have begun.
+    pub fn count(&self) -> u64 {
+        self.begun.load(Ordering::SeqCst)
+    }
+
+    /// Waits until one has begun, and says whether one has.
+    pub fn wait_for_one<R: Clock>(&self, rt: &R) -> bool {
+        for _turn in 0..LIMIT {
+            if self.count() > 0 {
+                return true;
+            }
+            thread::sleep(rt, Duration::from_millis(1));
+        }
+        false
+    }
+
+    pub fn let_end(&self) {
+        self.may_end.store(true, Ordering::SeqCst);
+    }
+
+    /// Counts one more, and waits until it may end.
+    fn begin<R: Clock>(&self, rt: &R) {
+        self.begun.fetch_add(1, Ordering::SeqCst);
+        for _turn in 0..LIMIT {
+            if self.may_end.load(Ordering::SeqCst) {
+                break;
+            }
+            thread::sleep(rt, Duration::from_millis(1));
+        }
+    }
+}
+
+/// A value whose drop is one of these.
+pub struct Watched<R: Clock + Drop> {
+    drops: Arc<Drops, Global>,
+    rt: R,
+}
+
+impl<R: Clock + Drop> Drop for Watched<R> {
+    fn drop(self) {
+        let Watched { drops, rt } = self;
+        drops.begin(&rt);
+    }
+}
+
+impl<R: Clock + Drop> Watched<R> {
+    pub fn new(drops: &Arc<Drops, Global>, rt: R) -> Result<Self, AllocError> {
+        let drops = Arc::try_clone(drops)?;
+        Ok(Watched { drops, rt })
+    }
+}
+
+/// A job that holds a value, or replies it.
+#[derive(Drop)]
+pub enum Task<R: Clock + Drop> {
+    Nothing,
+    Hold(Watched<R>),
+    Reply(Watched<R>),
+}
+
+impl<S: MutEventSubscriber, R: Clock + Drop> Job<S> for Task<R> {
+    type Reply = Option<Watched<R>>;
+
+    ghost use Rattle.std.specs.Prelude.{◌≡◌, []};
+
+    ghost may = { λ self steps reply. steps ≡ [] };
+
+    ghost replies = { λ reply. Unit {0} };
+
+    fn call<P: EventPoller, W: Wait + Clock>(
+        self,
+        _registry: &mut Registry<S, P>,
+        _rt: &W,
+    ) -> Option<Watched<R>> {
+        match self {
+            Task::Nothing | Task::Hold(_) => None,
+            Task::Reply(watched) => Some(watched),
+        }
+    }
+}
+
+/// A subscriber that holds a value, and asks for nothing.
+#[derive(Drop)]
+pub struct Guest<R: Clock + Drop>(pub Option<Watched<R>>);
+
+impl<R: Clock + Drop> MutEventSubscriber for Guest<R> {
+    ghost use Rattle.std.specs.Prelude.{◌≡◌, []};
+
+    ghost begins = { λ v exchanges w. exchanges ≡ [] };
+
+    ghost serves = { λ v event exchanges w. exchanges ≡ [] };
+
+    fn process<P: EventPoller>(&mut self, _events: Events, _ops: &mut EventOps<P>) {}
+
+    fn init<P: EventPoller>(&mut self, _ops: &mut EventOps<P>) {}
+}
+
+/// A poller that holds a value, agrees to all, and reports the descriptor 0 at each wait.
+#[derive(Drop)]
+pub struct Reporter<R: Clock + Drop>(pub Option<Watched<R>>);
+
+impl<R: Clock + Drop> EventPoller for Reporter<R> {
+    ghost controls = { λ v op fd event answer w. Unit {0} };
+
+    ghost waits = { λ v ms capacity answer w. Unit {0} };
+
+    fn ctl(&mut self, _op: ControlOperation, _fd: u32, _event: Events) -> Result<(), Errno> {
+        Ok(())
+    }
+
+    fn wait(&mut self, _ms: i32, buffer: &mut [EpollEvent]) -> Result<usize, Errno> {
+        match buffer.first_mut() {
+            Some(entry) => {
+                *entry = EpollEvent::new(EventSet::IN, 0);
+                Ok(1)
+            }
+            None => Ok(0),
+        }
+    }
+}
