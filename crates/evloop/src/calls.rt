@@ -5,12 +5,13 @@ ghost use Rattle.event_manager.specs.Driven.{IsDriven};
 ghost use Rattle.event_manager.specs.Manager.{state_of};
 ghost use Rattle.evloop.specs.Calls.{IsReplyTo, Joins, Leaves, Asks, Runs};
 
-use crate::output::{Out, OutputLine, Printer};
 use event_manager::{
     Call, Error, EventManager, EventPoller, Job, MutEventSubscriber, Naming, Reply, Request,
     SubscriberId, drive,
 };
 use evloop_script::fault::Fault;
+use evloop_script::output::{Out, OutputLine, Printer};
+use evloop_script::requests::print_replies;
 use std::alloc::Global;
 use std::sync::Wait;
 use std::time::Clock;
@@ -118,22 +119,6 @@ where
         }
         Reply::Asked(Err(error)) => printer.print(&OutputLine::AskRefused { name, error }),
         _ => unreachable!(),
-    }
-}
-
-// Prints each request with its answer. A line that can't be written is dropped.
-fn print_replies<O: Out>(
-    name: &str,
-    requests: &[Request],
-    answers: &[Result<(), Error>],
-    printer: &mut Printer<O>,
-) {
-    for (request, answer) in requests.iter().zip(answers) {
-        let _ = printer.print(&OutputLine::Reply {
-            name,
-            request: *request,
-            answer: *answer,
-        });
     }
 }
 

@@ -3,23 +3,10 @@
 #![tactic(auto)]
 
 pub mod calls;
-#[cfg(test)]
-mod expecting;
-pub mod output;
-pub mod requests;
 pub mod run;
-pub mod subscriber;
 
-use output::Out;
 use run::run_script;
-use std::io::Stdout;
 use std::process::ExitCode;
-
-impl Out for Stdout {
-    fn try_clone(&self) -> Option<Stdout> {
-        Some(*self)
-    }
-}
 
 fn main(rt: HostRuntime) -> ExitCode {
     match run_script(&rt, rt.alloc(), rt.stdin(), rt.stdout()) {

@@ -6,16 +6,16 @@ ghost use Rattle.evloop.specs.ScriptedPoller.{empty, answer_of, with_waits, with
 ghost use Rattle.vmm_sys.specs.ScriptPoller.{with_answer};
 
 use crate::calls::{ask, join, leave, run_once};
-use crate::output::{Out, Printer};
-use crate::subscriber::Subscriber;
 use event_manager::{
     BoxedPoller, Error, EventManager, EventPoller, Job, Ledgers, Naming, NoJob, SubscriberId,
     WithLedgers, with_ledgers,
 };
 use evloop_script::fault::Fault;
 use evloop_script::input::read_text;
+use evloop_script::output::{Out, Printer};
 use evloop_script::reactions::Reactions;
 use evloop_script::script::{Call, Refusal, Wait as ScriptedWait, parse};
+use evloop_script::subscriber::Subscriber;
 use std::alloc::Global;
 use std::io::Read;
 use std::sync::Wait;
@@ -198,6 +198,3 @@ fn id_of(ids: &[Option<SubscriberId>], join: usize) -> Result<SubscriberId, Erro
         _ => Err(Error::InvalidId),
     }
 }
-
-#[cfg(test)]
-mod tests;

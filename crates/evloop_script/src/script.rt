@@ -1,8 +1,6 @@
 //! The script: what its lines say, and the reading of a whole text.
 
 mod line;
-#[cfg(test)]
-mod tests;
 
 use crate::fault::Fault;
 use crate::reactions::Reactions;

@@ -1,12 +1,12 @@
 //! Calls of a manager that take no memory, each between two looks at the clock.
 
-use crate::call_name::CallName;
-use crate::descriptors::open_counter;
-use crate::fault::{Fault, Refusal, expect, named};
-use crate::host::{Host, Loop, mark, tell};
-use crate::joins::{ask_with_priority, heard, join};
-use crate::making::{Body, Manager, open_table, over_table};
 use event_manager::{EventOps, EventPoller, EventSet, Events, Naming, SubscriberId, SubscriberOps};
+use refused_calls::call_name::CallName;
+use refused_calls::descriptors::open_counter;
+use refused_calls::fault::{Fault, Refusal, expect, named};
+use refused_calls::host::{Host, Loop, mark, tell};
+use refused_calls::making::{Body, Manager, open_table, over_table};
+use refused_calls::subscribers::{ask_with_priority, heard, join};
 use std::alloc::Global;
 use vmm_sys::eventfd::EventFd;
 

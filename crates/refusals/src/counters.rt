@@ -1,11 +1,11 @@
 //! The counting subscriber whose counts are handed out as a list.
 
-use crate::again::again;
-use crate::call_name::CallName;
-use crate::descriptors::{make_epoll, open_counter};
-use crate::fault::{Fault, expect_unchanged, named};
-use crate::host::Host;
 use event_manager::utilities::subscribers::CounterSubscriberWithData;
+use refused_calls::again;
+use refused_calls::call_name::CallName;
+use refused_calls::descriptors::{make_epoll, open_counter};
+use refused_calls::fault::{Fault, named};
+use refused_calls::host::Host;
 use std::alloc::Global;
 
 /// Asks a new counting subscriber for its three counts.

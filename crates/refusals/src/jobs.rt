@@ -1,14 +1,14 @@
 //! Jobs that the loop's own thread sends and runs.
 
-use crate::again::again;
-use crate::call_name::CallName;
-use crate::echo::Echo;
-use crate::fault::{Fault, expect, expect_unchanged, named};
-use crate::host::{Host, Loop, mark, tell};
-use crate::making::{Body, Manager, copy_counter, open_table, over_table};
-use crate::watcher::Watcher;
 use event_manager::jobs::{Bell, JobQueue};
 use event_manager::{Closed, EventPoller, Naming, RemoteEndpoint, Ticket};
+use refused_calls::again;
+use refused_calls::call_name::CallName;
+use refused_calls::echo::Echo;
+use refused_calls::fault::{Fault, expect, named};
+use refused_calls::host::{Host, Loop, mark, tell};
+use refused_calls::making::{Body, Manager, copy_counter, open_table, over_table};
+use refused_calls::watcher::Watcher;
 use std::alloc::Global;
 use std::sync::Wait;
 use std::time::Clock;

@@ -1,132 +1,19 @@
 //! Subscribers that join, and their requests.
 
-use crate::again::again;
-use crate::call_name::CallName;
-use crate::descriptors::open_counter;
-use crate::fault::{Fault, Refusal, expect, expect_unchanged, named};
-use crate::host::{Host, Loop};
-use crate::making::{Body, Manager, open_table, over_table};
-use crate::watcher::Watcher;
-use event_manager::{
-    Error, EventPoller, EventSet, Events, Naming, Priority, SubscriberId, SubscriberOps,
-};
+use event_manager::{EventPoller, EventSet, Events, Naming, SubscriberId};
+use refused_calls::again;
+use refused_calls::call_name::CallName;
+use refused_calls::descriptors::open_counter;
+use refused_calls::fault::{Fault, expect, named};
+use refused_calls::host::{Host, Loop};
+use refused_calls::making::{Body, Manager, open_table, over_table};
+use refused_calls::subscribers::{ask, heard, join};
 use std::alloc::Global;
 use vmm_sys::epoll::{Epoll, RawFd};
-use vmm_sys::errno::Errno;
 use vmm_sys::eventfd::EventFd;
 
 /// How many subscribers join, and how many descriptors the first one then asks for beside.
 const COUNT: RawFd = 20;
-
-fn add_watcher<N: Naming, P: EventPoller>(
-    manager: &mut Manager<N, P>,
-    own: Events,
-    alloc: Global,
-) -> event_manager::Result<SubscriberId> {
-    manager.add_subscriber(Watcher::new(own, alloc))
-}
-
-/// `Memory` where the request of its `init` was refused twice, and `Changed` where the first refusal changed something.
-fn expect_joined<N: Naming, P: EventPoller>(
-    manager: &mut Manager<N, P>,
-    id: SubscriberId,
-) -> Result<(), Fault> {
-    let name = CallName::EventOpsAddInit;
-    match manager.subscriber_mut(id) {
-        Ok(watcher) => {
-            expect_unchanged(name, watcher.is_unchanged())?;
-            named(name, watcher.joined())
-        }
-        Err(error) => Err(error.of_call(name)),
-    }
-}
-
-fn add_again<N: Naming, P: EventPoller>(
-    manager: &mut Manager<N, P>,
-    own: Events,
-    alloc: Global,
-) -> Result<SubscriberId, Fault> {
-    again!(CallName::AddSubscriber, add_watcher(manager, own, alloc))
-}
-
-/// Takes a subscriber of this descriptor in. Had a refused join asked for the descriptor, the second one's request would
-/// be refused.
-pub fn join<N: Naming, P: EventPoller>(
-    manager: &mut Manager<N, P>,
-    own: Events,
-    alloc: Global,
-) -> Result<SubscriberId, Fault> {
-    let id = add_again(manager, own, alloc)?;
-    expect_joined(manager, id)?;
-    Ok(id)
-}
-
-fn add<N: Naming, P: EventPoller>(
-    manager: &mut Manager<N, P>,
-    id: SubscriberId,
-    events: Events,
-) -> event_manager::Result<()> {
-    manager.event_ops(id)?.add(events)
-}
-
-/// Whether the id doesn't own the descriptor.
-fn is_not_own<N: Naming, P: EventPoller>(
-    manager: &mut Manager<N, P>,
-    id: SubscriberId,
-    events: Events,
-) -> bool {
-    match manager.event_ops(id) {
-        Ok(ops) => ops.modify(events) == Err(Error::Epoll(Errno::ENOENT)),
-        Err(_) => false,
-    }
-}
-
-/// Adds the descriptor for the subscriber, from outside a batch.
-pub fn ask<N: Naming, P: EventPoller>(
-    manager: &mut Manager<N, P>,
-    id: SubscriberId,
-    events: Events,
-) -> Result<(), Fault> {
-    again!(
-        CallName::EventOpsAdd,
-        add(manager, id, events),
-        is_not_own(manager, id, events)
-    )
-}
-
-fn add_with_priority<N: Naming, P: EventPoller>(
-    manager: &mut Manager<N, P>,
-    id: SubscriberId,
-    events: Events,
-) -> event_manager::Result<()> {
-    manager
-        .event_ops(id)?
-        .add_with_priority(events, Priority::High)
-}
-
-/// Adds the descriptor for the subscriber at a priority, from outside a batch.
-pub fn ask_with_priority<N: Naming, P: EventPoller>(
-    manager: &mut Manager<N, P>,
-    id: SubscriberId,
-    events: Events,
-) -> Result<(), Fault> {
-    again!(
-        CallName::EventOpsAddWithPriority,
-        add_with_priority(manager, id, events),
-        is_not_own(manager, id, events)
-    )
-}
-
-/// How many events the subscriber was given.
-pub fn heard<N: Naming, P: EventPoller>(
-    manager: &mut Manager<N, P>,
-    id: SubscriberId,
-) -> Result<u64, Fault> {
-    match manager.subscriber_mut(id) {
-        Ok(watcher) => Ok(watcher.heard()),
-        Err(error) => Err(error.of_call(CallName::SubscriberMut)),
-    }
-}
 
 /// Joins, requests and a delivery over a table.
 #[derive(Drop)]

@@ -1,17 +1,17 @@
 //! Lists of calls, and lists of steps of a queue.
 
-use crate::again::again;
-use crate::call_name::CallName;
-use crate::fault::{Fault, expect, expect_unchanged, named};
-use crate::host::{Host, Loop};
-use crate::joins::{heard, join};
-use crate::making::{Body, Manager, over_script};
-use crate::tables::event_of;
-use crate::watcher::Watcher;
 use event_manager::jobs::{Outcome, Step, replay};
 use event_manager::{
     Call, Error, EventPoller, EventSet, Events, Naming, Reply, SubscriberId, drive,
 };
+use refused_calls::again;
+use refused_calls::call_name::CallName;
+use refused_calls::fault::{Fault, expect, named};
+use refused_calls::host::{Host, Loop};
+use refused_calls::making::{Body, Manager, over_script};
+use refused_calls::reports::event_of;
+use refused_calls::subscribers::{heard, join};
+use refused_calls::watcher::Watcher;
 use std::alloc::Global;
 
 /// A list of calls over a script.

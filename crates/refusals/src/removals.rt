@@ -2,15 +2,15 @@
 
 ghost use Rattle.std.specs.Prelude.{◌≤ℤ◌, pos};
 
-use crate::again::again;
-use crate::call_name::CallName;
-use crate::fault::{Fault, Refusal, expect_unchanged, named};
-use crate::host::{Host, Loop, mark};
-use crate::joins::{ask, heard, join};
-use crate::making::{Body, Manager, over_script};
-use crate::tables::event_of;
-use crate::watcher::Watcher;
 use event_manager::{EventPoller, EventSet, Events, Naming, Request, SubscriberId, SubscriberOps};
+use refused_calls::again;
+use refused_calls::call_name::CallName;
+use refused_calls::fault::{Fault, Refusal, named};
+use refused_calls::host::{Host, Loop, mark};
+use refused_calls::making::{Body, Manager, over_script};
+use refused_calls::reports::event_of;
+use refused_calls::subscribers::{ask, heard, join};
+use refused_calls::watcher::Watcher;
 use std::alloc::Global;
 use vmm_sys::epoll::{EpollEvent, RawFd};
 

@@ -1,15 +1,15 @@
 //! Jobs that threads call beside a loop, all of it by one call.
 
-use crate::again::again;
-use crate::call_name::CallName;
-use crate::descriptors::{copy_epoll, is_taken_out};
-use crate::echo::Echo;
-use crate::fault::{Fault, expect, expect_unchanged, named};
-use crate::host::Host;
 use crate::jobs::Endpoint;
-use crate::making::{Manager, OnTable, copy_counter, open_table};
-use crate::watcher::Watcher;
 use event_manager::{Ended, EventPoller, LoopWithSenders, Naming, Sender, with_senders};
+use refused_calls::again;
+use refused_calls::call_name::CallName;
+use refused_calls::descriptors::{copy_epoll, is_taken_out};
+use refused_calls::echo::Echo;
+use refused_calls::fault::{Fault, expect, named};
+use refused_calls::host::Host;
+use refused_calls::making::{Manager, OnTable, copy_counter, open_table};
+use refused_calls::watcher::Watcher;
 use std::alloc::Global;
 use std::thread::Threads;
 

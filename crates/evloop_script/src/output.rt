@@ -1,0 +1,175 @@
+//! What the program writes.
+
+use crate::fault::Fault;
+use crate::names::SetNames;
+use event_loop::{Error, Events, Request, SubscriberId};
+use std::alloc::{AllocError, Global};
+use std::fmt;
+use std::fmt::Display;
+use std::io::{Stdout, Write};
+
+/// An output that can be written to by several.
+pub trait Out: Write {
+    /// A second handle on the same output; `None` where memory for it is refused.
+    fn try_clone(&self) -> Option<Self>
+    where
+        Self: Sized;
+}
+
+impl Out for Stdout {
+    fn try_clone(&self) -> Option<Stdout> {
+        Some(*self)
+    }
+}
+
+/// A line of the output.
+#[derive(Clone, Copy)]
+pub enum OutputLine<'a> {
+    /// An event is handed to the subscriber of this name.
+    Deliver {
+        name: &'a str,
+        events: Events,
+    },
+    /// A request of the subscriber of this name, with its answer.
+    Reply {
+        name: &'a str,
+        request: Request,
+        answer: Result<(), Error>,
+    },
+    /// A join.
+    Joined {
+        name: &'a str,
+        answer: Result<SubscriberId, Error>,
+    },
+    /// A list of requests that is refused as a whole.
+    AskRefused {
+        name: &'a str,
+        error: Error,
+    },
+    /// A leave.
+    Left {
+        name: &'a str,
+        answer: Result<(), Error>,
+    },
+    /// An iteration of the loop.
+    Ran {
+        answer: Result<usize, Error>,
+    },
+}
+
+// The word of a request, as the script has it.
+fn operation(request: &Request) -> &'static str {
+    match request {
+        Request::Add(_) => "add",
+        Request::AddWithPriority(..) => "addp",
+        Request::Modify(_) => "modify",
+        Request::Remove(_) => "remove",
+    }
+}
+
+fn descriptor(request: &Request) -> i32 {
+    match request {
+        Request::Add(events) => events.fd(),
+        Request::AddWithPriority(events, _) => events.fd(),
+        Request::Modify(events) => events.fd(),
+        Request::Remove(events) => events.fd(),
+    }
+}
+
+impl Display for OutputLine<'_> {
+    fn fmt<W: fmt::Write>(&self, f: &mut fmt::Formatter<W>) -> fmt::Result {
+        match self {
+            OutputLine::Deliver { name, events } => {
+                let fd = events.fd();
+                let set = SetNames(events.event_set());
+                let data = events.data();
+                write!(f, "deliver {name} {fd} {set} {data}")
+            }
+            OutputLine::Reply {
+                name,
+                request,
+                answer,
+            } => {
+                let operation = operation(request);
+                let fd = descriptor(request);
+                match answer {
+                    Ok(()) => write!(f, "reply {name} {operation} {fd}: ok"),
+                    Err(error) => write!(f, "reply {name} {operation} {fd}: {error}"),
+                }
+            }
+            OutputLine::Joined { name, answer } => match answer {
+                Ok(id) => {
+                    let number = id.number();
+                    write!(f, "sub {name}: {number}")
+                }
+                Err(error) => write!(f, "sub {name}: {error}"),
+            },
+            OutputLine::AskRefused { name, error } => write!(f, "ask {name}: {error}"),
+            OutputLine::Left { name, answer } => match answer {
+                Ok(()) => write!(f, "drop {name}: ok"),
+                Err(error) => write!(f, "drop {name}: {error}"),
+            },
+            OutputLine::Ran { answer } => match answer {
+                Ok(count) => write!(f, "run: {count}"),
+                Err(error) => write!(f, "run: {error}"),
+            },
+        }
+    }
+}
+
+/// No line is longer, in bytes.
+const LINE_CAPACITY: usize = 256;
+
+/// Writes lines to an output, each whole and at once.
+#[derive(Drop)]
+pub struct Printer<O> {
+    out: O,
+    line: String,
+}
+
+impl<O: Out> Printer<O> {
+    /// A printer with room for a line, so that printing takes no memory.
+    pub fn new(alloc: Global, out: O) -> Result<Printer<O>, AllocError>
+    where
+        O: Drop,
+    {
+        Ok(Printer {
+            line: String::with_capacity(alloc, LINE_CAPACITY)?,
+            out,
+        })
+    }
+
+    /// A second printer on the same output.
+    ///
+    /// # Errors
+    ///
+    /// `OutOfMemory`.
+    pub fn try_clone(&self, alloc: Global) -> Result<Printer<O>, Fault>
+    where
+        O: Drop,
+    {
+        match self.out.try_clone() {
+            Some(out) => Printer::new(alloc, out).map_err(|_| Fault::OutOfMemory),
+            None => Err(Fault::OutOfMemory),
+        }
+    }
+
+    /// Writes the line: all of it, however little the output takes at a time. A write that is interrupted
+    /// is tried again.
+    ///
+    /// # Errors
+    ///
+    /// `CannotWrite` where the output refuses it. What the output took before stays written, and the next
+    /// line goes right behind it.
+    pub fn print(&mut self, line: &OutputLine<'_>) -> Result<(), Fault> {
+        self.line.clear();
+        match writeln!(self.line, "{line}") {
+            Ok(()) => {}
+            Err(_) => return Err(Fault::OutOfMemory),
+        }
+        match self.out.write_all(self.line.as_bytes()) {
+            Ok(()) => Ok(()),
+            Err(_) => Err(Fault::CannotWrite),
+        }
+    }
+}

@@ -1,0 +1,62 @@
+//! The subscribers of a script.
+
+ghost use Rattle.std.specs.Prelude.{◌≡◌};
+ghost use Rattle.event_loop.specs.Exchange.{requests_of};
+ghost use Rattle.evloop_script.specs.Coming.{Reacts};
+
+use crate::output::{Out, OutputLine, Printer};
+use crate::reactions::Reactions;
+use crate::requests::make_requests;
+use event_loop::{EventOps, EventPoller, Events, MutEventSubscriber, Request};
+
+/// A subscriber of a script. It asks for what its lines say, and prints what happens to it. A line that
+/// can't be written is dropped.
+#[derive(Drop)]
+pub struct Subscriber<'a, O> {
+    name: &'a str,
+    first: Vec<Request>,
+    reactions: Reactions,
+    printer: Printer<O>,
+}
+
+impl<'a, O: Out> Subscriber<'a, O> {
+    /// A subscriber of this name. Its `init` makes the requests of `first`, and each `process` the next
+    /// ones of `reactions` for the event's descriptor.
+    pub fn new(
+        name: &'a str,
+        first: Vec<Request>,
+        reactions: Reactions,
+        printer: Printer<O>,
+    ) -> Subscriber<'a, O>
+        ensures name { result.name.now ≡ name.now }
+        ensures first { result.first ≡ first }
+        ensures reactions { result.reactions ≡ reactions }
+    {
+        Subscriber {
+            name,
+            first,
+            reactions,
+            printer,
+        }
+    }
+}
+
+impl<O: Out> MutEventSubscriber for Subscriber<'_, O> {
+    ghost begins = { λ v exchanges w. (requests_of exchanges ≡ v.first.items) × (w.first ≡ v.first) × (w.reactions ≡ v.reactions) };
+
+    ghost serves = { λ v event exchanges w. Reacts v.reactions.queues event.fd exchanges w.reactions.queues };
+
+    fn process<P: EventPoller>(&mut self, events: Events, ops: &mut EventOps<P>) {
+        let _ = self.printer.print(&OutputLine::Deliver {
+            name: self.name,
+            events,
+        });
+        if let Some(requests) = self.reactions.next(events) {
+            make_requests(self.name, &requests, ops, &mut self.printer);
+        }
+    }
+
+    fn init<P: EventPoller>(&mut self, ops: &mut EventOps<P>) {
+        make_requests(self.name, &self.first, ops, &mut self.printer);
+    }
+}

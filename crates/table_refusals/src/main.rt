@@ -1,0 +1,32 @@
+//! Makes each call of tables, scripts and records that requests memory, and prints what it finally answered: the calls of
+//! `vmm_sys` ([`refused_calls`] says how).
+#![tactic(auto)]
+
+pub mod descriptors;
+pub mod recording;
+pub mod tables;
+
+use descriptors::open_descriptors;
+use recording::record_and_replay;
+use refused_calls::fault::Fault;
+use refused_calls::host::Host;
+use std::alloc::Global;
+use std::process::ExitCode;
+use tables::{push_a_script, wait_on_a_table};
+
+fn make_all_calls<R: Host>(rt: &R, alloc: Global) -> Result<(), Fault> {
+    open_descriptors(rt, alloc)?;
+    wait_on_a_table(rt, alloc)?;
+    push_a_script(rt, alloc)?;
+    record_and_replay(rt, alloc)
+}
+
+fn main(rt: HostRuntime) -> ExitCode {
+    match make_all_calls(&rt, rt.alloc()) {
+        Ok(()) => ExitCode::SUCCESS,
+        Err(fault) => {
+            let _ = eprintln!(rt; "table_refusals: {fault}");
+            ExitCode::FAILURE
+        }
+    }
+}
