@@ -1,17 +1,15 @@
 //! What a close leaves of the jobs, the endpoint and its counter.
 
-use crate::courses::{Course, expect_course, expect_let_go, expect_over};
+use crate::courses::{Course, Endpoint, expect_course, expect_let_go, expect_over};
 use crate::expecting::{expect_ok, expect_same};
 use crate::host::Host;
 use crate::refusals::{expect_after, expect_refusals};
-use event_manager::{Error, Naming, RemoteEndpoint, Ticket};
-use fixtures::parts::{Idle, on_table};
-use fixtures::work::{Notes, Work, fire_note};
+use event_manager::{Error, Naming, Ticket};
+use fixtures::parts::on_table;
+use fixtures::work::{Notes, fire_note};
 use std::sync::Arc;
 use vmm_sys::epoll::{AsRawFd, ControlOperation, EpollEvent, EventSet};
 use vmm_sys::poller::Poller;
-
-type Endpoint<N> = RemoteEndpoint<Idle, Work, N>;
 
 /// Sends two jobs that hold the notes.
 pub fn waiting<N: Naming, R: Host>(rt: &R, endpoint: &Endpoint<N>, notes: &Notes) {

@@ -14,6 +14,12 @@ use std::process::Abort;
 use std::sync::Arc;
 use vmm_sys::eventfd::EventFd;
 
+/// The manager of a course.
+pub type Loop<N, P> = EventManager<Idle, Work, N, P>;
+
+/// An endpoint of it.
+pub type Endpoint<N> = RemoteEndpoint<Idle, Work, N>;
+
 /// What is done before the close.
 #[derive(Drop)]
 pub enum Course<'a> {
@@ -42,8 +48,8 @@ pub enum Course<'a> {
 /// Follows the course.
 fn follow<N: Naming, P: EventPoller, R: Host>(
     rt: &R,
-    manager: &mut EventManager<Idle, Work, N, P>,
-    endpoint: &RemoteEndpoint<Idle, Work, N>,
+    manager: &mut Loop<N, P>,
+    endpoint: &Endpoint<N>,
     notes: &Notes,
     course: &Course<'_>,
 ) {
@@ -64,7 +70,7 @@ fn follow<N: Naming, P: EventPoller, R: Host>(
 /// Sends one job more where jobs wait.
 fn send_more<N: Naming, R: Host>(
     rt: &R,
-    endpoint: &RemoteEndpoint<Idle, Work, N>,
+    endpoint: &Endpoint<N>,
     course: &Course<'_>,
 ) -> Option<Ticket<N>> {
     match course {
@@ -76,7 +82,7 @@ fn send_more<N: Naming, R: Host>(
 /// Closes the manager, of which so many tickets were issued and so many jobs taken.
 fn expect_close<N: Naming, P: EventPoller + Drop, R: Host>(
     rt: &R,
-    manager: EventManager<Idle, Work, N, P>,
+    manager: Loop<N, P>,
     counts: (u64, u64),
 ) {
     let closed = manager.close(rt);
@@ -86,8 +92,8 @@ fn expect_close<N: Naming, P: EventPoller + Drop, R: Host>(
 /// Two endpoints of the manager.
 fn endpoints_of<N: Naming, P: EventPoller, R: Abort>(
     rt: &R,
-    manager: &EventManager<Idle, Work, N, P>,
-) -> [RemoteEndpoint<Idle, Work, N>; 2] {
+    manager: &Loop<N, P>,
+) -> [Endpoint<N>; 2] {
     [
         expect_ok(rt, manager.remote_endpoint()),
         expect_ok(rt, manager.remote_endpoint()),
@@ -97,8 +103,8 @@ fn endpoints_of<N: Naming, P: EventPoller, R: Abort>(
 /// Follows the course by the first endpoint: the last ticket, if it may be shown.
 fn follow_and_send<N: Naming, P: EventPoller, R: Host>(
     rt: &R,
-    manager: &mut EventManager<Idle, Work, N, P>,
-    endpoints: &[RemoteEndpoint<Idle, Work, N>; 2],
+    manager: &mut Loop<N, P>,
+    endpoints: &[Endpoint<N>; 2],
     notes: &Notes,
     course: &Course<'_>,
 ) -> Option<Ticket<N>> {

@@ -1,23 +1,17 @@
 //! Many jobs, several endpoints, and an endpoint that is dropped.
 
-use crate::courses::{Course, expect_course};
+use crate::courses::{Course, Endpoint, Loop, expect_course};
 use crate::expecting::{
     expect_noted, expect_ok, expect_pending, expect_run, expect_run_within, expect_same,
 };
 use crate::host::Host;
-use event_manager::{
-    EventManager, EventPoller, Ledgers, Naming, RemoteEndpoint, WithLedgers, with_ledgers,
-};
+use event_manager::{EventPoller, Ledgers, Naming, WithLedgers, with_ledgers};
 use fixtures::making::make;
 use fixtures::parts::{Idle, OnTable, on_table};
 use fixtures::work::{Notes, Work, count_of, fire_note, new_notes};
 
-type Sender<N> = RemoteEndpoint<Idle, Work, N>;
-
-type Loop<N, P> = EventManager<Idle, Work, N, P>;
-
 /// Sends jobs that note 1, 2, 3 and so on, so many: each must have the ticket of its number.
-fn fire_counting<N: Naming, R: Host>(rt: &R, endpoint: &Sender<N>, notes: &Notes, count: u64) {
+fn fire_counting<N: Naming, R: Host>(rt: &R, endpoint: &Endpoint<N>, notes: &Notes, count: u64) {
     for number in 1..=count {
         expect_same(rt, &fire_note(rt, endpoint, notes, number), &Ok(number));
     }
@@ -27,7 +21,7 @@ fn fire_counting<N: Naming, R: Host>(rt: &R, endpoint: &Sender<N>, notes: &Notes
 pub fn thousands<N: Naming, P: EventPoller, R: Host>(
     rt: &R,
     manager: &mut Loop<N, P>,
-    endpoint: &Sender<N>,
+    endpoint: &Endpoint<N>,
     notes: &Notes,
 ) {
     fire_counting(rt, endpoint, notes, 5000);
@@ -66,7 +60,7 @@ fn jobs_outlive_their_endpoint(rt: HostRuntime) {
 /// Expects of two endpoints how many jobs wait.
 fn expect_both_pending<N: Naming, M: Naming, R: Host>(
     rt: &R,
-    endpoints: (&Sender<N>, &Sender<M>),
+    endpoints: (&Endpoint<N>, &Endpoint<M>),
     counts: (usize, usize),
 ) {
     expect_pending(rt, endpoints.0, counts.0);
@@ -74,7 +68,12 @@ fn expect_both_pending<N: Naming, M: Naming, R: Host>(
 }
 
 /// Sends by the two in turn, three jobs.
-fn fire_in_turn<N: Naming, R: Host>(rt: &R, first: &Sender<N>, second: &Sender<N>, notes: &Notes) {
+fn fire_in_turn<N: Naming, R: Host>(
+    rt: &R,
+    first: &Endpoint<N>,
+    second: &Endpoint<N>,
+    notes: &Notes,
+) {
     for (number, endpoint) in [(1, first), (2, second), (3, first)] {
         expect_same(rt, &fire_note(rt, endpoint, notes, number), &Ok(number));
     }
@@ -84,7 +83,7 @@ fn fire_in_turn<N: Naming, R: Host>(rt: &R, first: &Sender<N>, second: &Sender<N
 pub fn two_endpoints<N: Naming, P: EventPoller, R: Host>(
     rt: &R,
     manager: &mut Loop<N, P>,
-    endpoint: &Sender<N>,
+    endpoint: &Endpoint<N>,
     notes: &Notes,
 ) {
     let second = expect_ok(rt, endpoint.try_clone());
@@ -104,7 +103,7 @@ fn an_endpoint_is_of_its_manager(rt: HostRuntime) {
 fn run_beside<N: Naming, P: EventPoller, M: Naming, R: Host>(
     rt: &R,
     manager: &mut Loop<N, P>,
-    other: &Sender<M>,
+    other: &Endpoint<M>,
     notes: &Notes,
 ) {
     let endpoint = expect_ok(rt, manager.remote_endpoint());
@@ -119,7 +118,7 @@ fn run_beside<N: Naming, P: EventPoller, M: Naming, R: Host>(
 struct Beside<'a, R, M: Naming> {
     rt: &'a R,
     parts: OnTable<R>,
-    other: &'a Sender<M>,
+    other: &'a Endpoint<M>,
     notes: &'a Notes,
 }
 

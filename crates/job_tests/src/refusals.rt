@@ -1,20 +1,17 @@
 //! Sends that are refused.
 
-use crate::courses::{Course, expect_course};
+use crate::courses::{Course, Endpoint, Loop, expect_course};
 use crate::expecting::{expect_ok, expect_pending, expect_run, expect_same};
 use crate::host::Host;
-use event_manager::{Error, EventManager, EventPoller, Naming, RemoteEndpoint, Result, Ticket};
-use fixtures::parts::Idle;
+use event_manager::{Error, EventPoller, Naming, Result, Ticket};
 use fixtures::work::Work;
 use vmm_sys::errno::Errno;
 
 /// The largest value of an `EventFd`.
 const FULL: u64 = 18446744073709551614;
 
-type Sender<N> = RemoteEndpoint<Idle, Work, N>;
-
 /// Expects this answer of a job: the number of its ticket.
-fn expect_fire<N: Naming, R: Host>(rt: &R, endpoint: &Sender<N>, answer: Result<u64>) {
+fn expect_fire<N: Naming, R: Host>(rt: &R, endpoint: &Endpoint<N>, answer: Result<u64>) {
     let number = endpoint.fire(Work::Own(1), rt).map(|t| t.number());
     expect_same(rt, &number, &answer);
 }
@@ -22,7 +19,7 @@ fn expect_fire<N: Naming, R: Host>(rt: &R, endpoint: &Sender<N>, answer: Result<
 /// Expects that a job and a call are refused with this, and that so many jobs wait then.
 pub fn expect_refusals<N: Naming, R: Host>(
     rt: &R,
-    endpoint: &Sender<N>,
+    endpoint: &Endpoint<N>,
     refusal: Error,
     pending: usize,
 ) {
@@ -34,7 +31,7 @@ pub fn expect_refusals<N: Naming, R: Host>(
 /// Expects this answer of a job after the shown ticket, and that so many jobs wait then.
 pub fn expect_after<N: Naming, R: Host>(
     rt: &R,
-    endpoint: &Sender<N>,
+    endpoint: &Endpoint<N>,
     shown: &Ticket<N>,
     answer: Result<u64>,
     pending: usize,
@@ -49,8 +46,8 @@ pub fn expect_after<N: Naming, R: Host>(
 /// Expects that each call is refused while the counter is full, and that a job is taken after the next run.
 pub fn full<N: Naming, P: EventPoller, R: Host>(
     rt: &R,
-    manager: &mut EventManager<Idle, Work, N, P>,
-    endpoint: &Sender<N>,
+    manager: &mut Loop<N, P>,
+    endpoint: &Endpoint<N>,
 ) {
     let refusal = Error::EventFd(Errno::EAGAIN);
     expect_refusals(rt, endpoint, refusal, 0);
@@ -67,8 +64,8 @@ fn a_full_counter_refuses_the_send(rt: HostRuntime) {
 /// Expects that a job after another is refused while the counter is full, and taken after the next run.
 pub fn nearly_full<N: Naming, P: EventPoller, R: Host>(
     rt: &R,
-    manager: &mut EventManager<Idle, Work, N, P>,
-    endpoint: &Sender<N>,
+    manager: &mut Loop<N, P>,
+    endpoint: &Endpoint<N>,
 ) {
     let shown = expect_ok(rt, endpoint.fire(Work::Own(1), rt));
     let refusal = Err(Error::EventFd(Errno::EAGAIN));

@@ -1,6 +1,6 @@
 //! When a report runs the jobs that wait, and what ends a wait without a job.
 
-use crate::courses::{Course, expect_over};
+use crate::courses::{Course, Endpoint, Loop, expect_over};
 use crate::expecting::{
     expect_noted, expect_ok, expect_pending, expect_run, expect_run_within, expect_same,
 };
@@ -8,7 +8,7 @@ use crate::host::Host;
 use event_manager::{EventManager, EventPoller, EventSet, Events, Naming, RemoteEndpoint, Result};
 use fixtures::making::{WithEndpoint, with_endpoint};
 use fixtures::noting::{Noting, add_noting};
-use fixtures::parts::{Idle, Parts, on_table};
+use fixtures::parts::{Parts, on_table};
 use fixtures::work::{Notes, Work, fire_note, new_notes};
 use std::alloc::Global;
 use std::process::Abort;
@@ -111,8 +111,8 @@ fn reports_of_an_endpoint_event_of_any_set(rt: HostRuntime) {
 /// Fires a job, lets somebody else read the endpoint's counter, and runs once over a script.
 pub fn behind_read<N: Naming, P: EventPoller, R: Host>(
     rt: &R,
-    manager: &mut EventManager<Idle, Work, N, P>,
-    endpoint: &RemoteEndpoint<Idle, Work, N>,
+    manager: &mut Loop<N, P>,
+    endpoint: &Endpoint<N>,
     notes: &Notes,
     counter: &EventFd,
 ) {
@@ -133,8 +133,8 @@ fn jobs_are_run_where_the_counter_has_nothing(rt: HostRuntime) {
 /// Runs over a script, kicks, and runs again: the first run has an event of the endpoint, and the second none.
 pub fn behind_kick<N: Naming, P: EventPoller, R: Host>(
     rt: &R,
-    manager: &mut EventManager<Idle, Work, N, P>,
-    endpoint: &RemoteEndpoint<Idle, Work, N>,
+    manager: &mut Loop<N, P>,
+    endpoint: &Endpoint<N>,
     counter: &EventFd,
 ) {
     expect_run(rt, manager, Ok(1));

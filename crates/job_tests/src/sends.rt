@@ -1,17 +1,16 @@
 //! What is sent, and when it is run.
 
-use crate::courses::{Course, expect_course};
+use crate::courses::{Course, Endpoint, Loop, expect_course};
 use crate::expecting::{expect_noted, expect_pending, expect_run, expect_run_within, expect_same};
 use crate::host::Host;
-use event_manager::{EventManager, EventPoller, Naming, RemoteEndpoint};
-use fixtures::parts::Idle;
-use fixtures::work::{Notes, Work, fire_note};
+use event_manager::{EventPoller, Naming};
+use fixtures::work::{Notes, fire_note};
 
 /// Fires two jobs, and runs twice.
 pub fn two_jobs<N: Naming, P: EventPoller, R: Host>(
     rt: &R,
-    manager: &mut EventManager<Idle, Work, N, P>,
-    endpoint: &RemoteEndpoint<Idle, Work, N>,
+    manager: &mut Loop<N, P>,
+    endpoint: &Endpoint<N>,
     notes: &Notes,
 ) {
     expect_same(rt, &fire_note(rt, endpoint, notes, 1), &Ok(1));
