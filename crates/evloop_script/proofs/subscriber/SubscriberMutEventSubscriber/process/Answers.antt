@@ -1,6 +1,6 @@
 use Rattle.std.proofs.Common.{[], ◌≡◌, List, refl, subst, sym}
 use Rattle.event_loop.proofs.ExchangeLemmas.{none_made}
-use Rattle.event_loop.specs.Request.{Request}
+use Rattle.event_loop.specs.declared.events.Request.{Request}
 use Rattle.evloop_script.specs.Coming.{AreFirst}
 use Rattle.evloop_script.proofs.subscriber.SubscriberMutEventSubscriber.process.Goals as goal
 
