@@ -127,7 +127,10 @@ impl<R: Host> WithEndpoint for Joining<'_, R> {
         endpoint: &RemoteEndpoint<Noting<R>, Join<R>, N>,
     ) -> Result<()> {
         expect_run_within(self.rt, manager, 0, Ok(0));
-        let subscriber = make_noting(self.rt, self.own, DELIVERED, self.notes)?;
+        let subscriber = expect_ok(
+            self.rt,
+            make_noting(self.rt, self.own, DELIVERED, self.notes),
+        );
         expect_ok(self.rt, endpoint.fire(Join(subscriber), self.rt));
         expect_run(self.rt, manager, Ok(1));
         expect_noted(self.rt, self.notes, &[]);
@@ -169,7 +172,10 @@ impl<R: Host> WithEndpoint for Leaving<'_, R> {
         manager: &mut EventManager<Noting<R>, Leave, N, P>,
         endpoint: &RemoteEndpoint<Noting<R>, Leave, N>,
     ) -> Result<()> {
-        let id = add_noting(self.rt, manager, self.own, DELIVERED, self.notes)?;
+        let id = expect_ok(
+            self.rt,
+            add_noting(self.rt, manager, self.own, DELIVERED, self.notes),
+        );
         expect_ok(self.rt, endpoint.fire(Leave(id), self.rt));
         expect_run(self.rt, manager, Ok(2));
         expect_noted(self.rt, self.notes, &[DELIVERED]);
@@ -211,7 +217,10 @@ impl<R: Host> WithEndpoint for Renumbering<'_, R> {
         manager: &mut EventManager<Noting<R>, Renumber, N, P>,
         endpoint: &RemoteEndpoint<Noting<R>, Renumber, N>,
     ) -> Result<()> {
-        let id = add_noting(self.rt, manager, self.own, DELIVERED, self.notes)?;
+        let id = expect_ok(
+            self.rt,
+            add_noting(self.rt, manager, self.own, DELIVERED, self.notes),
+        );
         expect_ok(self.rt, endpoint.fire(Renumber { id, number: 2 }, self.rt));
         expect_run(self.rt, manager, Ok(2));
         expect_run_within(self.rt, manager, 0, Ok(1));

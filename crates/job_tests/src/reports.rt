@@ -44,7 +44,10 @@ impl<R: Host> WithEndpoint for OneRun<'_, R> {
         endpoint: &RemoteEndpoint<Noting<R>, Work, N>,
     ) -> Result<()> {
         let own = Events::new_raw(3, EventSet::IN);
-        add_noting(self.rt, manager, own, DELIVERED, self.notes)?;
+        expect_ok(
+            self.rt,
+            add_noting(self.rt, manager, own, DELIVERED, self.notes),
+        );
         expect_ok(self.rt, fire_note(self.rt, endpoint, self.notes, RAN));
         expect_run(self.rt, manager, Ok(self.count));
         expect_noted(self.rt, self.notes, self.noted);
@@ -173,7 +176,10 @@ impl<R: Host> WithEndpoint for Kicked<'_, R> {
         manager: &mut EventManager<Noting<R>, Work, N, P>,
         endpoint: &RemoteEndpoint<Noting<R>, Work, N>,
     ) -> Result<()> {
-        add_noting(self.rt, manager, self.silent, DELIVERED, self.notes)?;
+        expect_ok(
+            self.rt,
+            add_noting(self.rt, manager, self.silent, DELIVERED, self.notes),
+        );
         expect_same(self.rt, &endpoint.kick(self.rt), &Ok(()));
         expect_run_within(self.rt, manager, 5000, Ok(1));
         expect_run_within(self.rt, manager, 0, Ok(0));

@@ -225,7 +225,7 @@ impl<'a, R: Looping> LoopWithSenders<Noting<R>, NoJob, Causing<'a>, R> for Joini
     ) -> Result<Vec<Causing<'a>>> {
         expect_same(rt, &self.course.waits.load(Ordering::SeqCst), &0);
         let own = Events::new(self.counter, EventSet::IN);
-        add_noting(rt, manager, own, 1, self.notes)?;
+        expect_ok(rt, add_noting(rt, manager, own, 1, self.notes));
         let sender = Causing {
             counter: self.counter,
             notes: self.notes,
