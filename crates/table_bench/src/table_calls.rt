@@ -122,8 +122,12 @@ impl<R: Clock + Print> TableCalls<'_, R> {
 
     /// Counts the modifications, each of which has its number as word; the interest of the last is then reported with it.
     fn measure_modify(&self) -> Result<()> {
+        let mut table = filled(self.interests, 1, self.bench.alloc)?;
+        self.modify_in_turn(&mut table)
+    }
+
+    fn modify_in_turn(&self, table: &mut Table) -> Result<()> {
         let (alloc, interests) = (self.bench.alloc, self.interests);
-        let mut table = filled(interests, 1, alloc)?;
         let (rounds, highest) = (self.bench.rounds(CONTROLS), interests.saturating_sub(1));
         let (mut count, mut last, mut next) = (0u64, 0u32, 0u32);
         let times = Times::of(
@@ -155,8 +159,12 @@ impl<R: Clock + Print> TableCalls<'_, R> {
 
     /// Counts the pairs; the others are then reported.
     fn measure_add_and_delete(&self) -> Result<()> {
+        let mut table = filled(self.interests, 1, self.bench.alloc)?;
+        self.add_and_delete_one(&mut table)
+    }
+
+    fn add_and_delete_one(&self, table: &mut Table) -> Result<()> {
         let (alloc, interests) = (self.bench.alloc, self.interests);
-        let mut table = filled(interests, 1, alloc)?;
         let fd = table.add_counter(1)?;
         let rounds = self.bench.rounds(CONTROLS);
         let mut count = 0u64;
@@ -180,14 +188,18 @@ impl<R: Clock + Print> TableCalls<'_, R> {
 
     /// Counts the entries that are reported.
     fn measure_report(&self) -> Result<()> {
+        let mut table = filled(self.interests, 1, self.bench.alloc)?;
+        self.report_all(&mut table)
+    }
+
+    fn report_all(&self, table: &mut Table) -> Result<()> {
         let (alloc, interests) = (self.bench.alloc, self.interests);
-        let mut table = filled(interests, 1, alloc)?;
         let mut buffer = buffer(BATCH as usize, alloc)?;
         let (rounds, reported) = (self.bench.rounds(self.waits), (interests as u64).min(256));
         let mut count = 0u64;
         let times = Times::of(
             || {
-                let entries = wait(&mut table, buffer.as_mut_slice(), reported, rounds)?;
+                let entries = wait(table, buffer.as_mut_slice(), reported, rounds)?;
                 count = count.saturating_add(entries);
                 Ok(())
             },
@@ -199,15 +211,19 @@ impl<R: Clock + Print> TableCalls<'_, R> {
 
     /// Counts the waits, each of which must report one entry.
     fn measure_one_ready(&self) -> Result<()> {
+        let mut table = filled(self.interests, 0, self.bench.alloc)?;
+        self.report_one(&mut table)
+    }
+
+    fn report_one(&self, table: &mut Table) -> Result<()> {
         let (alloc, interests) = (self.bench.alloc, self.interests);
-        let mut table = filled(interests, 0, alloc)?;
         table.write(interests.saturating_sub(1).cast_signed(), 1)?;
         let mut buffer = buffer(BATCH as usize, alloc)?;
         let rounds = self.bench.rounds(WAITS_FOR_ONE);
         let mut count = 0u64;
         let times = Times::of(
             || {
-                let entries = wait(&mut table, buffer.as_mut_slice(), 1, rounds)?;
+                let entries = wait(table, buffer.as_mut_slice(), 1, rounds)?;
                 count = count.saturating_add(entries);
                 Ok(())
             },
@@ -219,8 +235,12 @@ impl<R: Clock + Print> TableCalls<'_, R> {
 
     /// Counts the writes to a counter that is ready all along.
     fn measure_stays_ready(&self) -> Result<()> {
+        let mut table = filled(self.interests, 1, self.bench.alloc)?;
+        self.write_to_one(&mut table)
+    }
+
+    fn write_to_one(&self, table: &mut Table) -> Result<()> {
         let (alloc, interests) = (self.bench.alloc, self.interests);
-        let mut table = filled(interests, 1, alloc)?;
         let (rounds, fd) = (self.bench.rounds(CONTROLS), (interests / 2).cast_signed());
         let times = Times::of(
             || {
@@ -238,8 +258,12 @@ impl<R: Clock + Print> TableCalls<'_, R> {
 
     /// Counts what is read of a counter that is idle and ready in turn, while all others are ready.
     fn measure_turning(&self) -> Result<()> {
+        let mut table = filled(self.interests, 1, self.bench.alloc)?;
+        self.turn_one(&mut table)
+    }
+
+    fn turn_one(&self, table: &mut Table) -> Result<()> {
         let (alloc, interests) = (self.bench.alloc, self.interests);
-        let mut table = filled(interests, 1, alloc)?;
         let (rounds, fd) = (self.bench.rounds(CONTROLS), (interests / 2).cast_signed());
         let mut count = 0u64;
         let times = Times::of(
@@ -258,17 +282,21 @@ impl<R: Clock + Print> TableCalls<'_, R> {
 
     /// Counts the entries of waits between which all counters turn ready, the last in the queue first.
     fn measure_reverse(&self) -> Result<()> {
+        let mut table = filled(self.interests, 0, self.bench.alloc)?;
+        self.report_in_reverse(&mut table)
+    }
+
+    fn report_in_reverse(&self, table: &mut Table) -> Result<()> {
         let (alloc, interests) = (self.bench.alloc, self.interests);
-        let mut table = filled(interests, 0, alloc)?;
         let mut buffer = buffer(interests as usize + 1, alloc)?;
         let rounds = self.bench.rounds(self.waits);
         let mut count = 0u64;
         let times = Times::of(
             || {
                 for _ in 0..rounds {
-                    write_in_reverse(&mut table, interests)?;
+                    write_in_reverse(table, interests)?;
                     count = count.saturating_add(table.wait(buffer.as_mut_slice())? as u64);
-                    read_all(&mut table, interests)?;
+                    read_all(table, interests)?;
                 }
                 Ok(())
             },
