@@ -14,6 +14,8 @@ use event_loop::{EventLoop, EventPoller, EventSet, SubscriberOps};
 use guest::{Absent, Guest, Present};
 use poller_records::text::{read_record, write_record};
 use std::alloc::Global;
+use std::sync::Wait;
+use std::time::Clock;
 use vmm_sys::epoll::Epoll;
 use vmm_sys::recording_poller::RecordingPoller;
 use vmm_sys::replay_poller::ReplayPoller;
@@ -70,18 +72,38 @@ fn replay<R: Print>(text: &str, devices: (Device, Device), rt: &R, alloc: Global
     Ok(())
 }
 
-fn main(rt: HostRuntime) -> Result<()> {
-    let alloc = rt.alloc();
-    let epoll = Epoll::new(rt, alloc)?;
-    let guest = Present::new(&epoll, rt)?;
-    let poller = RecordingPoller::new(epoll, alloc, MOST_ENTRIES)?;
-    let mut event_loop = EventLoop::new(alloc, poller)?;
-    println!(rt; "in production:")?;
-    drive(&mut event_loop, guest.devices(EventSet::IN), &guest, &rt)?;
+/// Runs devices beside the guest, prints the text of the record, and answers it.
+fn record<R: Wait + Clock + Clone + Send + Print + Drop>(
+    event_loop: &mut EventLoop<Device, RecordingPoller<Epoll<R>>>,
+    guest: &Present<R>,
+    rt: &R,
+    alloc: Global,
+) -> Result<String> {
+    drive(event_loop, guest.devices(EventSet::IN), guest, rt)?;
     let recording = event_loop.poller();
     println!(rt; "its record, complete: {}", recording.is_complete())?;
     let text = write_record(alloc, recording.record())?;
     print!(rt; "{text}")?;
+    Ok(text)
+}
+
+fn run_in_production<R: Wait + Clock + Clone + Send + Print + Drop>(
+    epoll: Epoll<R>,
+    guest: &Present<R>,
+    rt: &R,
+    alloc: Global,
+) -> Result<String> {
+    let poller = RecordingPoller::new(epoll, alloc, MOST_ENTRIES)?;
+    let mut event_loop = EventLoop::new(alloc, poller)?;
+    record(&mut event_loop, guest, rt, alloc)
+}
+
+fn main(rt: HostRuntime) -> Result<()> {
+    let alloc = rt.alloc();
+    let epoll = Epoll::new(rt, alloc)?;
+    let guest = Present::new(&epoll, rt)?;
+    println!(rt; "in production:")?;
+    let text = run_in_production(epoll, &guest, &rt, alloc)?;
     println!(rt; "on a desk:")?;
     replay(&text, guest.devices(EventSet::IN), &rt, alloc)?;
     println!(rt; "on a desk, with a queue that wants OUT too:")?;
