@@ -7,8 +7,8 @@ use crate::jobs::{CountOne, Counter};
 use crate::progress::Progress;
 use anyhow::{Result, bail};
 use event_manager::{
-    EventManager, EventPoller, LoopWithSenders, Naming, RemoteEndpoint, Sender, SubscriberId,
-    SubscriberOps, with_senders,
+    Error, EventManager, EventPoller, LoopWithSenders, Naming, RemoteEndpoint, Sender,
+    SubscriberId, SubscriberOps, with_senders,
 };
 use measures::arguments::Family;
 use measures::bench::{Bench, Measured, expect};
@@ -59,7 +59,11 @@ impl<'a, R: Wait + Clock> LoopWithSenders<Counter, CountOne, Caller<'a>, R> for 
             rounds: self.rounds,
             progress: self.progress,
         };
-        Ok(vec![in alloc; caller]?)
+        let mut callers = Vec::new(alloc);
+        match callers.push(caller) {
+            Ok(()) => Ok(callers),
+            Err(_refused) => Err(Error::OutOfMemory),
+        }
     }
 }
 
