@@ -161,7 +161,7 @@ pub fn expect_over<R: Host, P: EventPoller + Drop>(
 }
 
 /// The same over a new table, where the endpoint's counter has this value.
-pub fn expect_course<R: Host>(
+pub fn expect_course<R: Host + Send>(
     rt: R,
     alloc: Global,
     value: u64,

@@ -4,7 +4,7 @@ use std::process::Abort;
 use std::sync::Wait;
 use std::time::Clock;
 
-/// No test starts a thread.
-pub trait Host: Wait + Clock + Abort + Copy + Send + Drop {}
+/// No test starts a thread. A method of a trait calls functions with this bound alone, so it has no `Send`.
+pub trait Host: Wait + Clock + Abort + Copy + Drop {}
 
-impl<R: Wait + Clock + Abort + Copy + Send + Drop> Host for R {}
+impl<R: Wait + Clock + Abort + Copy + Drop> Host for R {}

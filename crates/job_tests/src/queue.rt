@@ -122,7 +122,7 @@ struct Beside<'a, R, M: Naming> {
     notes: &'a Notes,
 }
 
-impl<R: Host, M: Naming> WithLedgers for Beside<'_, R, M> {
+impl<R: Host + Send, M: Naming> WithLedgers for Beside<'_, R, M> {
     type Output = ();
 
     fn run<N: Naming + Send + Sync>(self, ledgers: Ledgers<N>) {
@@ -156,7 +156,7 @@ struct TwoManagers<'a, R> {
     other_notes: &'a Notes,
 }
 
-impl<R: Host> WithLedgers for TwoManagers<'_, R> {
+impl<R: Host + Send> WithLedgers for TwoManagers<'_, R> {
     type Output = ();
 
     fn run<N: Naming + Send + Sync>(self, ledgers: Ledgers<N>) {

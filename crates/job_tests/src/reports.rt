@@ -68,7 +68,7 @@ fn script_of<R: Abort>(rt: &R, alloc: Global, report: &[(u64, EventSet)]) -> Scr
 }
 
 /// The parts over a script, whose endpoint has descriptor 0 and this value.
-fn on_script<R: Host>(
+fn on_script<R: Host + Send>(
     rt: R,
     alloc: Global,
     script: ScriptPoller,
@@ -79,7 +79,12 @@ fn on_script<R: Host>(
 }
 
 /// Expects that this was noted in a run over this report. The endpoint has descriptor 0, and the subscriber 3.
-fn expect_one_run<R: Host>(rt: &R, alloc: Global, report: &[(u64, EventSet)], noted: &[u64]) {
+fn expect_one_run<R: Host + Send>(
+    rt: &R,
+    alloc: Global,
+    report: &[(u64, EventSet)],
+    noted: &[u64],
+) {
     let notes = expect_ok(rt, new_notes(alloc));
     let parts = on_script(*rt, alloc, script_of(rt, alloc, report), 0);
     let body = OneRun {
