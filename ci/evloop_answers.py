@@ -3,13 +3,15 @@
 `answers(script, seen)` gives the lines. Where memory was refused the program says so in one of its lines, in place of the
 answer that was due: a join or an `add` may be answered so. Which one was, is taken from the lines that were seen; all that
 follows from it is worked out. Only what the cases of `ci/refuse_each_request` have is known here: no reports longer than a
-batch, no bad lines, and the words of sets as the program prints them.
+batch, no bad lines, and sets by the words of their bits.
 """
 
 ENDPOINT = 9
 OUT_OF_MEMORY = "event_manager: out of memory"
 REGISTERED = "event_manager: file descriptor has already been registered"
 UNKNOWN = "event_manager: invalid subscriber Id"
+# By their bits, the lowest first, as the program prints them.
+KINDS = "IN PRIORITY OUT ERROR HANG_UP READ_HANG_UP EXCLUSIVE WAKE_UP ONE_SHOT EDGE_TRIGGERED".split()
 
 
 def os_error(number):
@@ -105,7 +107,7 @@ def requests(words):
 
 def entry(word):
     fd, events, data = word.split(":")
-    return int(fd), events, data
+    return int(fd), "+".join(sorted(events.split("+"), key=KINDS.index)) if "+" in events else events, data
 
 
 def answers(script, seen):
