@@ -1,6 +1,6 @@
 -- What the jobs for an account may do, and what they may reply.
 use Rattle.std.specs.Prelude.{◌≡◌, ◌≤◌, ◌<◌, ◌+◌, ℕ, List, [], ◌∷◌}
-use Rattle.event_manager.specs.Registry.{Step, Replaced, NotReplaced}
+use Rattle.event_manager.specs.Registry.{Step, Replaced, Refused}
 use Rattle.accounts.specs.declared.account.Account.{Account}
 use Rattle.accounts.specs.declared.order.Order.{Order}
 use Rattle.accounts.specs.declared.order.Order.TheVariants.{Deposit, Read}
@@ -12,13 +12,13 @@ module _ {R : Type 0} where
   abbrev pub deposit_may : ℕ → ℕ → List (Step (Account R)) → Told → Type 0
   deposit_may id amount steps (Deposited sum) = (old : Account R) × (steps ≡ Replaced id old (record old { balance = sum }) ∷ []) × (sum ≡ old.balance + amount) × (sum ≤ 1000)
   deposit_may id amount steps TooMuch = (old : Account R) × (steps ≡ Replaced id old old ∷ []) × (1000 < old.balance + amount)
-  deposit_may id amount steps NoAccount = steps ≡ NotReplaced id ∷ []
+  deposit_may id amount steps NoAccount = steps ≡ Refused id ∷ []
   deposit_may id amount steps (Holds balance) = ⊥
 
   -- who reads a balance leaves the account as it was, and is told its balance, or finds none
   abbrev pub read_may : ℕ → List (Step (Account R)) → Told → Type 0
   read_may id steps (Holds balance) = (old : Account R) × (steps ≡ Replaced id old old ∷ []) × (balance ≡ old.balance)
-  read_may id steps NoAccount = steps ≡ NotReplaced id ∷ []
+  read_may id steps NoAccount = steps ≡ Refused id ∷ []
   read_may id steps (Deposited sum) = ⊥
   read_may id steps TooMuch = ⊥
 

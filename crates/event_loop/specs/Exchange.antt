@@ -33,10 +33,9 @@ event_of (Modify e) = e
 event_of (Remove e) = e
 
 abbrev pub operation_of : Request → ControlOperation
-operation_of (Add e) = operation.Add
-operation_of (AddWithPriority e priority) = operation.Add
 operation_of (Modify e) = operation.Modify
 operation_of (Remove e) = operation.Delete
+operation_of request = operation.Add
 
 -- the call of the poller for a request
 abbrev pub call_for : Request → Result (Unit {0}) Errno → PollerCall
@@ -59,15 +58,13 @@ IsAdditionRefused registrations e answer =
 abbrev pub IsRefusedByManager : ℕ → Registrations → Request → Answer → Type 0
 IsRefusedByManager i registrations (Add e) answer = IsAdditionRefused registrations e answer
 IsRefusedByManager i registrations (AddWithPriority e priority) answer = IsAdditionRefused registrations e answer
-IsRefusedByManager i registrations (Modify e) answer = ¬ Owns i registrations e.fd × (answer ≡ refused (pos 2))
-IsRefusedByManager i registrations (Remove e) answer = ¬ Owns i registrations e.fd × (answer ≡ refused (pos 2))
+IsRefusedByManager i registrations request answer = ¬ Owns i registrations (event_of request).fd × (answer ≡ refused (pos 2))
 
 -- whether the request reaches the poller
 abbrev pub ReachesPoller : ℕ → Registrations → Request → Type 0
 ReachesPoller i registrations (Add e) = IsFree registrations e.fd × ¬ (e.fd ≡ registrations.endpoint)
 ReachesPoller i registrations (AddWithPriority e priority) = IsFree registrations e.fd × ¬ (e.fd ≡ registrations.endpoint)
-ReachesPoller i registrations (Modify e) = Owns i registrations e.fd
-ReachesPoller i registrations (Remove e) = Owns i registrations e.fd
+ReachesPoller i registrations request = Owns i registrations (event_of request).fd
 
 -- with the descriptor of an event owned by id i, at this priority
 abbrev pub entered : ℕ → Event → Priority → Registrations → Registrations
@@ -129,10 +126,7 @@ ExchangesFit i registrations (exchange ∷ exchanges) calls after =
 -- whether the exchange is an agreed Remove of the descriptor; whether the exchanges hold one
 abbrev pub is_removal : ℕ → Request → Answer → Bool
 is_removal fd (Remove e) (Ok entry) = e.fd == fd
-is_removal fd (Remove e) (Err error) = false
-is_removal fd (Add e) answer = false
-is_removal fd (AddWithPriority e priority) answer = false
-is_removal fd (Modify e) answer = false
+is_removal fd request answer = false
 
 abbrev pub removes : ℕ → Exchanges → Bool
 removes fd exchanges = list_any (λ exchange. is_removal fd exchange.0 exchange.1) exchanges

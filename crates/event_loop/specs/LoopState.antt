@@ -8,7 +8,7 @@ use Rattle.event_loop.specs.declared.events.Request.{Request}
 use Rattle.dispatch_tables.specs.Event.{Event}
 use Rattle.event_loop.specs.PollerCall.{PollerCall, Controls, Waits, Leads}
 use Rattle.event_loop.specs.Exchange.{Exchanges, Answer}
-use Rattle.event_loop.specs.Registry.{Registry, Step, Steps, Joined, NotJoined, Left, NotLeft, Requested, NotRequested, calls_of, new_registry}
+use Rattle.event_loop.specs.Registry.{Registry, Step, Steps, Joined, NotJoined, Left, Requested, Refused, calls_of, new_registry}
 use Rattle.event_loop.specs.Dispatch.{Position, IsDispatch}
 use Rattle.event_loop.specs.Iteration.{ManagerState, Iteration, AllSteps, IsIteration, calls_of_steps, calls_of_iteration, answer_of}
 
@@ -67,12 +67,12 @@ IsJoin value (Err error) step = step ≡ NotJoined value error
 -- the step of a leave, by what it answered
 abbrev pub IsLeave : {S : Type 0} → ℕ → Result S Error → Step S → Type 0
 IsLeave id (Ok value) step = (calls : List PollerCall) × (step ≡ Left id value calls)
-IsLeave id (Err error) step = (error ≡ InvalidId) × (step ≡ NotLeft id)
+IsLeave id (Err error) step = (error ≡ InvalidId) × (step ≡ Refused id)
 
 -- the step of one request, by what it answered
 abbrev pub IsRequest : {S : Type 0} → ℕ → Request → Result Answer Error → Step S → Type 0
 IsRequest id request (Ok answer) step = (calls : List PollerCall) × (step ≡ Requested id ((request, answer) ∷ []) calls)
-IsRequest id request (Err error) step = (error ≡ InvalidId) × (step ≡ NotRequested id)
+IsRequest id request (Err error) step = (error ≡ InvalidId) × (step ≡ Refused id)
 
 module _ {S : Type 0} (serves : S → Event → Exchanges → S → Type 0) where
   -- a refused wait changes nothing; after another its report is dispatched

@@ -18,16 +18,14 @@ pub record Registry (V : Type 0) : Type 0 where
   pub next : ℕ
   pub registrations : Registrations
 
--- One step, with what was answered. V is the type of the subscribers.
+-- One step, with what was answered; one for an id that nobody has is refused. V is the type of the subscribers.
 pub data Step (V : Type 0) : Type 0 where
   Joined : (value : V) (id : ℕ) (exchanges : Exchanges) (calls : List PollerCall) (after : V) → Step V
   NotJoined : V → Error → Step V
   Left : (id : ℕ) (value : V) (calls : List PollerCall) → Step V
-  NotLeft : ℕ → Step V
   Replaced : (id : ℕ) (old new : V) → Step V
-  NotReplaced : ℕ → Step V
   Requested : (id : ℕ) (exchanges : Exchanges) (calls : List PollerCall) → Step V
-  NotRequested : ℕ → Step V
+  Refused : ℕ → Step V
 
 -- is the owner id i?
 abbrev pub is_id : ℕ → Option ℕ → Bool
@@ -83,40 +81,30 @@ module _ {V : Type 0} (begins : V → Exchanges → V → Type 0) where
   Steps before (Left id value calls) after =
       (fds : List ℕ) × HasId before id value × AreOwnedBy id before.registrations fds × AreDeletes fds calls
       × (after ≡ record before { values = map.remove before.values id; registrations = left_by id before.registrations })
-  Steps before (NotLeft id) after = LacksId before id × (after ≡ before)
   Steps before (Replaced id old new) after = HasId before id old × (after ≡ record before { values = map.insert before.values id new })
-  Steps before (NotReplaced id) after = LacksId before id × (after ≡ before)
   Steps before (Requested id exchanges calls) after =
       (value : V) × (registrations : Registrations) × HasId before id value × ExchangesFit id before.registrations exchanges calls registrations × (after ≡ record before { registrations = registrations })
-  Steps before (NotRequested id) after = LacksId before id × (after ≡ before)
+  Steps before (Refused id) after = LacksId before id × (after ≡ before)
 
 -- the poller calls that a step made
 abbrev pub calls_of : {V : Type 0} → Step V → List PollerCall
 calls_of (Joined value id exchanges calls held) = calls
-calls_of (NotJoined value error) = []
 calls_of (Left id value calls) = calls
-calls_of (NotLeft id) = []
-calls_of (Replaced id old new) = []
-calls_of (NotReplaced id) = []
 calls_of (Requested id exchanges calls) = calls
-calls_of (NotRequested id) = []
+calls_of step = []
 
 -- the id that a step is of: the one it was asked for, or gave
 abbrev pub id_of : {V : Type 0} → Step V → Option ℕ
 id_of (Joined value id exchanges calls held) = Some id
 id_of (Left id value calls) = Some id
-id_of (NotLeft id) = Some id
 id_of (Replaced id old new) = Some id
-id_of (NotReplaced id) = Some id
 id_of (Requested id exchanges calls) = Some id
-id_of (NotRequested id) = Some id
+id_of (Refused id) = Some id
 id_of (NotJoined value error) = None
 
 -- the id that it acts on; none where it is refused
 abbrev pub acts_on : {V : Type 0} → Step V → Option ℕ
-acts_on (NotLeft id) = None
-acts_on (NotReplaced id) = None
-acts_on (NotRequested id) = None
+acts_on (Refused id) = None
 acts_on step = id_of step
 
 -- the id that it gives; the id that it removes

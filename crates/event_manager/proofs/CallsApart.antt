@@ -4,7 +4,7 @@ use Rattle.std.specs.declared.alloc.Global.{Global}
 use Rattle.dispatch_tables.specs.Event.{Event}
 use Rattle.event_loop.specs.PollerCall.{PollerCall, Control, Wait, Controls, Waits, Leads}
 use Rattle.event_loop.specs.Exchange.{Exchanges, Answer}
-use Rattle.event_loop.specs.Registry.{Step, Joined, NotJoined, Left, NotLeft, Replaced, NotReplaced, Requested, NotRequested, AreBelow, Registry, Steps, LacksId}
+use Rattle.event_loop.specs.Registry.{Step, Joined, NotJoined, Left, Replaced, Requested, Refused, AreBelow, Registry, Steps, LacksId}
 use Rattle.event_loop.specs.Iteration.{ManagerState, answer_of}
 use Rattle.event_loop.specs.LoopState.{LoopState, HasStepped, IsJoin, IsLeave, IsLoopIteration, manager_state}
 use Rattle.event_loop.specs.declared.error.Error.{Error}
@@ -82,11 +82,12 @@ module _ {S J R P : Type 0} {begins : S → Exchanges → S → Type 0} {serves 
   called_alone before (Stepped (Joined value id exchanges calls held)) c r after m did = rw m.0 (answered (Ok id) _ m.1 (exchanges, calls, held, refl) did)
   called_alone before (Stepped (NotJoined value error)) c r after m did = rw m.0 (answered (Err error) _ m.1 refl did)
   called_alone before (Stepped (Left id value calls)) c r after m did = rw m.0 (answered (Ok value) _ m.1 (calls, refl) did)
-  called_alone before (Stepped (NotLeft id)) c r after m did = rw m.0 (answered (Err InvalidId) _ m.1 (refl, refl) did)
   called_alone before (Stepped (Replaced id old new)) c r after m did = rw m.0 (answered (Ok old) _ m.1 refl did)
-  called_alone before (Stepped (NotReplaced id)) c r after m did = rw m.1 (answered (Err InvalidId) _ m.2 (refl, refl) did)
   called_alone before (Stepped (Requested id exchanges calls)) c r after m did = rw m.2 (answered (Ok m.1) _ m.3 (exchanges, calls, refl, m.4, m.5) did)
-  called_alone before (Stepped (NotRequested id)) c r after m did = rw m.1 (answered (Err InvalidId) _ m.2 (refl, refl) did)
+  called_alone before (Stepped (Refused id)) (call.Remove i) r after m did = answered (Err InvalidId) _ m.1 (refl, ap Refused (sym m.0)) did
+  called_alone before (Stepped (Refused id)) (call.Set i value) r after m did = answered (Err InvalidId) _ m.1 (refl, ap Refused (sym m.0)) did
+  called_alone before (Stepped (Refused id)) (call.Ask i requests) r after m did = answered (Err InvalidId) _ m.1 (refl, ap Refused (sym m.0)) did
+  called_alone before (Stepped (Refused id)) c r after m did = absurd m
   called_alone before (Iterated iteration) c r after m did = rw m.0 (answer_of iteration.waited, m.1, record { iteration = iteration; milliseconds = refl; answer = refl; iterated = did.had; led = did.led; same_capacity = did.same_capacity })
 
   called_at : (before after : LoopState S P) (a c : Call S) (others calls : List (Call S)) (told replies : List (Reply S)) → a ∷ others ≡ c ∷ calls → told ≡ replies → AreCalled begins serves may controls waits before a others told after → AreCalled begins serves may controls waits before c calls replies after
@@ -149,7 +150,7 @@ module _ {S P : Type 0} {begins : S → Exchanges → S → Type 0} {controls : 
           let left : Steps begins before.registry (Left id value is.0) after.registry = subst (λ s. Steps begins before.registry s after.registry) is.1 did in
           ap (λ (g : Registry S). get g.values id) left.4 ∙ removed_value id before.registry.values
       by_answer (Err error) step is did =
-          let left : Steps begins before.registry (NotLeft id) after.registry = subst (λ s. Steps begins before.registry s after.registry) is.1 did in
+          let left : Steps begins before.registry (Refused id) after.registry = subst (λ s. Steps begins before.registry s after.registry) is.1 did in
           ap (λ (g : Registry S). get g.values id) left.1 ∙ left.0
 
   -- requests for an id that nobody has

@@ -11,7 +11,7 @@ use Rattle.dispatch_tables.specs.declared.priority.Priority.{Priority}
 use Rattle.dispatch_tables.specs.declared.priority.Priority.TheVariants.{Lowest}
 use Rattle.event_loop.specs.PollerCall.{PollerCall}
 use Rattle.event_loop.specs.Exchange.{Answer, Exchanges, Fits, by_manager, by_poller, by_agreement, ExchangesFit, ReachesPoller, entered, registrations_after}
-use Rattle.event_loop.specs.Registry.{Registry, Step, Joined, NotJoined, Left, NotLeft, Replaced, NotReplaced, Requested, NotRequested, Steps, is_id, left_by}
+use Rattle.event_loop.specs.Registry.{Registry, Step, Joined, NotJoined, Left, Replaced, Requested, Refused, Steps, is_id, left_by}
 use Rattle.event_loop.specs.Dispatch.{Position, To, IsOutcome, still_pending}
 use Rattle.event_manager.specs.Projection.{names, owned_by}
 use Rattle.event_manager.specs.Guarantees.{pending_of, IsUntouched, FreesExactly}
@@ -127,11 +127,9 @@ module _ {V : Type 0} where
   isolated_step begins before (NotJoined value error) after h j named = untouched_at j before _ after h.1 refl (kept_refl j before.registrations)
   isolated_step begins before (Left id value calls) after (fds, has, is_owner, deletes, e) j named =
       untouched_at j before _ after e (remove_other_value id j before.values (unnamed id j named)) (kept_left id j before.registrations (unnamed id j named))
-  isolated_step begins before (NotLeft id) after h j named = untouched_at j before _ after h.1 refl (kept_refl j before.registrations)
   isolated_step begins before (Replaced id old new) after (has, e) j named = untouched_at j before _ after e (insert_other_value id j before.values new (unnamed id j named)) (kept_refl j before.registrations)
-  isolated_step begins before (NotReplaced id) after h j named = untouched_at j before _ after h.1 refl (kept_refl j before.registrations)
   isolated_step begins before (Requested id exchanges calls) after (value, registrations, has, fits, e) j named = untouched_at j before _ after e refl (kept_exchanges id j before.registrations exchanges calls registrations (unnamed id j named) fits)
-  isolated_step begins before (NotRequested id) after h j named = untouched_at j before _ after h.1 refl (kept_refl j before.registrations)
+  isolated_step begins before (Refused id) after h j named = untouched_at j before _ after h.1 refl (kept_refl j before.registrations)
 
   -- a delivery to i, from the registrations in which its own event is no longer pending
   pub isolated_delivery : (serves : V → Event → Exchanges → V → Type 0) (before : Registry V) (earlier : List (Position V)) (e : Event) (later : List Event) (i : ℕ) (exchanges : Exchanges) (calls : List PollerCall) (held : V) (after : Registry V) → IsOutcome serves before earlier e later (To i exchanges calls held) after → (j : ℕ) → j ≢ i → IsUntouched j (record before { registrations = record before.registrations { pending = still_pending earlier later } }) after

@@ -7,7 +7,6 @@ pub mod ProjectedDispatch
 pub mod ProjectedExchanges
 pub mod ProjectedSteps
 pub mod ProjectedTrace
-pub mod ProjectionKept
 pub mod Soundness
 pub mod LentSteps
 pub mod Accounts

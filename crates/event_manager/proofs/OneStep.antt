@@ -3,7 +3,7 @@ use Rattle.std.proofs.Common.{◌≡◌, ℕ, [], ◌∷◌, sym, subst, refl}
 use Rattle.std.proofs.lemmas.List.{append-nil}
 use Rattle.event_loop.specs.Exchange.{Exchanges}
 use Rattle.event_loop.specs.PollerCall.{Controls, Waits, Leads}
-use Rattle.event_loop.specs.Registry.{Step, Replaced, NotReplaced, HasId, LacksId, calls_of}
+use Rattle.event_loop.specs.Registry.{Step, Replaced, Refused, HasId, LacksId, calls_of}
 use Rattle.event_loop.specs.LoopState.{LoopState, HasStepped, HaveStepped, with_value}
 
 module _ {S P : Type 0} {begins : S → Exchanges → S → Type 0} {controls : Controls P} {waits : Waits P} where
@@ -19,6 +19,6 @@ module _ {S P : Type 0} {begins : S → Exchanges → S → Type 0} {controls : 
   replaced_step before after id old new has is = subst (λ s. HaveStepped begins controls waits before (Replaced id old new ∷ []) s) (sym is)
       (one_step before (with_value before id new) (Replaced id old new) (record { stepped = (has, refl); led = refl; same_taken = refl; same_capacity = refl }))
 
-  pub not_replaced_step : (before after : LoopState S P) (id : ℕ) → LacksId before.registry id → after ≡ before → HaveStepped begins controls waits before (NotReplaced id ∷ []) after
-  not_replaced_step before after id lacks is = subst (λ s. HaveStepped begins controls waits before (NotReplaced id ∷ []) s) (sym is)
-      (one_step before before (NotReplaced id) (record { stepped = (lacks, refl); led = refl; same_taken = refl; same_capacity = refl }))
+  pub refused_step : (before after : LoopState S P) (id : ℕ) → LacksId before.registry id → after ≡ before → HaveStepped begins controls waits before (Refused id ∷ []) after
+  refused_step before after id lacks is = subst (λ s. HaveStepped begins controls waits before (Refused id ∷ []) s) (sym is)
+      (one_step before before (Refused id) (record { stepped = (lacks, refl); led = refl; same_taken = refl; same_capacity = refl }))

@@ -1,5 +1,5 @@
 -- The projection of a dispatch.
-use Rattle.std.proofs.Common.{◌≡◌, ◌≢◌, ℕ, Bool, true, false, ◌||◌, ◌==◌, refl, sym, ◌∙◌, ap, subst, Some, inl, inr, nat_cmp, List, [], ◌∷◌, ◌++◌, cond, filter, true≢false, if◌then◌else◌, eq-eqb, eqb-true}
+use Rattle.std.proofs.Common.{◌≡◌, ◌≢◌, ℕ, Bool, true, false, ◌||◌, ◌==◌, refl, sym, ◌∙◌, ap, subst, Some, inl, inr, nat_cmp, List, [], ◌∷◌, ◌++◌, cond, filter, All, IfSome, true≢false, if◌then◌else◌, eq-eqb, eqb-true}
 use Rattle.std.specs.FinMap.{FinMap, get}
 use Rattle.std.proofs.lemmas.Bool.Decides.{eqb_tells}
 use Rattle.dispatch_tables.specs.Event.{Event}
@@ -8,7 +8,8 @@ use Rattle.event_loop.specs.PollerCall.{PollerCall}
 use Rattle.event_loop.specs.Exchange.{Exchanges, removes}
 use Rattle.event_loop.specs.Registry.{Registry}
 use Rattle.event_loop.specs.Dispatch.{Outcome, Nobody, To, Position, exchanges_of, is_removed, still_pending, events_of, IsFor, IsOutcome, AreDispatched}
-use Rattle.event_manager.specs.Projection.{owned_by, only_values, projected_registrations, projected_registry, is_to, IsOnly, AreProjected, outcome_exchanges, positions_exchanges, asks_to_add, adds}
+use Rattle.event_manager.specs.Projection.{owned_by, only_values, projected_registrations, projected_registry, is_to, receiver_of, outcome_exchanges, positions_exchanges, asks_to_add, adds}
+use Rattle.std.proofs.lemmas.List.Elements.{All-nil, All-cons}
 use Rattle.dispatch_tables.proofs.DispatchOrders.{nil_cons, head_is, tail_is}
 use Rattle.event_manager.proofs.FiniteMaps.{only_outcome-insert_own, only_outcome-insert_other}
 use Rattle.event_manager.proofs.ProjectedExchanges.{IsMine, own_exchanges, other_exchanges, owned_projected, owned_from_projected, projected_is_own, calls_first, calls_then, adds_first, adds_then}
@@ -23,6 +24,15 @@ only_outcome i (To j exchanges calls after) = if j == i then To j exchanges call
 
 abbrev pub only_position : {V : Type 0} → ℕ → Position V → Position V
 only_position i position = record { event = position.event; outcome = only_outcome i position.outcome }
+
+-- nobody but i got it
+abbrev pub IsOnlyFor : {V : Type 0} → ℕ → Position V → Type 0
+IsOnlyFor i position = IfSome (receiver_of position.outcome) (λ j. j ≡ i)
+
+-- what id i got, it gets, in the same order; what other ids got becomes nobody's
+pub record AreProjected {V : Type 0} (i : ℕ) (positions projected : List (Position V)) : Type 0 where
+  pub same : filter (λ position. is_to i position.outcome) projected ≡ filter (λ position. is_to i position.outcome) positions
+  pub only : All (IsOnlyFor i) projected
 
 -- the positions and those of the projection: those on descriptors of i's are in both, in one
 -- order; of the others each list has its own
@@ -273,9 +283,9 @@ module _ {V : Type 0} (i : ℕ) where
         | false ↦ λ t. same
       ] refl
 
-  only_is_only : (o : Outcome V) → IsOnly i (only_outcome i o)
+  only_is_only : (o : Outcome V) → IfSome (receiver_of (only_outcome i o)) (λ j. j ≡ i)
   only_is_only Nobody = tt
-  only_is_only (To j exchanges calls after) = elim (j == i) as (λ b. (j == i) ≡ b → IsOnly i (if b then To j exchanges calls after else Nobody)) [ true ↦ λ t. eqb-true j i t | false ↦ λ t. tt ] refl
+  only_is_only (To j exchanges calls after) = elim (j == i) as (λ b. (j == i) ≡ b → IfSome (receiver_of (if b then To j exchanges calls after else Nobody)) (λ k. k ≡ i)) [ true ↦ λ t. eqb-true j i t | false ↦ λ t. tt ] refl
 
   not_to : (o : Outcome V) → only_outcome i o ≡ Nobody → is_to i o ≡ false
   not_to Nobody h = refl
@@ -283,13 +293,13 @@ module _ {V : Type 0} (i : ℕ) where
       elim (j == i) as (λ b. (j == i) ≡ b → (if b then To j exchanges calls after else Nobody) ≡ Nobody → b ≡ false) [ true ↦ λ t g. absurd (to_nobody j exchanges calls after g) | false ↦ λ t g. refl ] refl h
 
   pub woven_projected : (mine : ℕ → Bool) (real shown : List (Position V)) → Woven i mine real shown → AreProjected i real shown
-  woven_projected mine [] [] ends = record { same = refl; only = tt }
+  woven_projected mine [] [] ends = record { same = refl; only = All-nil (IsOnlyFor i) }
   woven_projected mine (_ ∷ real) (_ ∷ shown) (both d here w) =
       let rest = woven_projected mine real shown w in
-      record { same = both_alike d.event d.outcome real shown rest.same; only = (only_is_only d.outcome, rest.only) }
+      record { same = both_alike d.event d.outcome real shown rest.same; only = All-cons (IsOnlyFor i) (only_position i d) shown (only_is_only d.outcome) rest.only }
   woven_projected mine (_ ∷ real) shown (skipped d there nobody w) =
       let rest = woven_projected mine real shown w in
       record { same = rest.same ∙ sym (ap (λ b. cond b (d ∷ to_i real) (to_i real)) (not_to d.outcome nobody)); only = rest.only }
   woven_projected mine real (_ ∷ shown) (added d there nobody w) =
       let rest = woven_projected mine real shown w in
-      record { same = ap (λ o. cond (is_to i o) (only_position i d ∷ to_i shown) (to_i shown)) nobody ∙ rest.same; only = (only_is_only d.outcome, rest.only) }
+      record { same = ap (λ o. cond (is_to i o) (only_position i d ∷ to_i shown) (to_i shown)) nobody ∙ rest.same; only = All-cons (IsOnlyFor i) (only_position i d) shown (only_is_only d.outcome) rest.only }

@@ -1,5 +1,5 @@
 -- The projection of one id's exchanges, and of a neighbour's.
-use Rattle.std.proofs.Common.{◌≡◌, ◌≢◌, ℕ, cond, Bool, true, false, ◌||◌, refl, sym, ◌∙◌, ap, subst, arith, Some, None, Option, inl, inr, Err, List, [], ◌∷◌, ◌++◌, true≢false, if◌then◌else◌, ◌==◌, eq-eqb}
+use Rattle.std.proofs.Common.{is_ok, ◌≡◌, ◌≢◌, ℕ, cond, Bool, true, false, ◌||◌, refl, sym, ◌∙◌, ap, subst, arith, Some, None, Option, inl, inr, Err, List, [], ◌∷◌, ◌++◌, true≢false, if◌then◌else◌, ◌==◌, eq-eqb}
 use Rattle.std.specs.FinMap.{get, insert, remove}
 use Rattle.std.proofs.lemmas.Bool.Decides.{nat_tests, eqb_tells}
 use Rattle.std.proofs.lemmas.List.Folds.{list_any-append}
@@ -11,7 +11,7 @@ use Rattle.dispatch_tables.specs.Ownership.{Ownership, OwnerMap, owner_id, owner
 use Rattle.dispatch_tables.specs.declared.priority.Priority.{Priority}
 use Rattle.dispatch_tables.specs.declared.priority.Priority.TheVariants.{Lowest}
 use Rattle.event_loop.specs.Registry.{is_id}
-use Rattle.event_manager.specs.Projection.{owned_by, projected_registrations, is_add, is_agreed, asks_to_add, adds}
+use Rattle.event_manager.specs.Projection.{owned_by, projected_registrations, is_add, asks_to_add, adds}
 use Rattle.event_loop.specs.declared.events.Request.{Request}
 use Rattle.event_loop.specs.declared.events.Request.TheVariants.{Add, AddWithPriority, Modify, Remove}
 use Rattle.dispatch_tables.proofs.NumberTests.{fd_tells}
@@ -193,13 +193,13 @@ other_agreed i j mine registrations (Remove e) differ m foreign h = record {
   ];
 }
 
-pub other_fits : (i j : ℕ) (mine : ℕ → Bool) (registrations : Registrations) (request : Request) (answer : Answer) (calls : List PollerCall) (after : Registrations) → j ≢ i → IsMine i mine registrations.owners → ((fd : ℕ) → (if is_agreed answer then is_add fd request else false) ≡ true → mine fd ≡ false) → Fits j registrations request answer calls after → OtherFits i mine registrations request answer after
+pub other_fits : (i j : ℕ) (mine : ℕ → Bool) (registrations : Registrations) (request : Request) (answer : Answer) (calls : List PollerCall) (after : Registrations) → j ≢ i → IsMine i mine registrations.owners → ((fd : ℕ) → (if is_ok answer then is_add fd request else false) ≡ true → mine fd ≡ false) → Fits j registrations request answer calls after → OtherFits i mine registrations request answer after
 other_fits i j mine registrations request answer calls after differ m foreign (by_manager h a e) = let err = unasked_is_error j registrations request answer h in other_unchanged i mine registrations request answer after m err.0 err.1 e
 other_fits i j mine registrations request answer calls after differ m foreign (by_poller number h a r e) = other_unchanged i mine registrations request answer after m _ r e
 other_fits i j mine registrations request answer calls after differ m foreign (by_agreement h a r e) =
     subst (λ b. OtherFits i mine registrations request answer b) (sym e)
     (subst (λ x. OtherFits i mine registrations request x (registrations_after j request registrations)) (sym r)
-    (other_agreed i j mine registrations request differ m (λ fd t. foreign fd (ap (λ x. if is_agreed x then is_add fd request else false) r ∙ t)) h))
+    (other_agreed i j mine registrations request differ m (λ fd t. foreign fd (ap (λ x. if is_ok x then is_add fd request else false) r ∙ t)) h))
 
 -- whole exchanges
 pub or_left : (a b : Bool) → a ≡ true → (a || b) ≡ true
@@ -261,7 +261,7 @@ asks_to_add-append : (fd : ℕ) (a b : Exchanges) → asks_to_add fd (a ++ b) �
 asks_to_add-append fd a b = list_any-append (λ (exchange : Request × Answer). is_add fd exchange.0) a b
 
 adds-append : (fd : ℕ) (a b : Exchanges) → adds fd (a ++ b) ≡ (adds fd a || adds fd b)
-adds-append fd a b = list_any-append (λ (exchange : Request × Answer). if is_agreed exchange.1 then is_add fd exchange.0 else false) a b
+adds-append fd a b = list_any-append (λ (exchange : Request × Answer). if is_ok exchange.1 then is_add fd exchange.0 else false) a b
 
 pub calls_first : (fd : ℕ) (a b : Exchanges) → asks_to_add fd a ≡ true → asks_to_add fd (a ++ b) ≡ true
 calls_first fd a b h = asks_to_add-append fd a b ∙ or_left _ _ h

@@ -6,7 +6,7 @@ use Rattle.dispatch_tables.specs.Ownership.{OwnerMap, owner_of}
 use Rattle.event_loop.specs.Registrations.{Registrations}
 use Rattle.event_loop.specs.PollerCall.{PollerCall}
 use Rattle.event_loop.specs.Exchange.{Exchanges, ExchangesFit}
-use Rattle.event_loop.specs.Registry.{Registry, Step, Joined, NotJoined, Left, NotLeft, Replaced, NotReplaced, Requested, NotRequested, Steps, is_id, without_owner, ids_end}
+use Rattle.event_loop.specs.Registry.{Registry, Step, Joined, NotJoined, Left, Replaced, Requested, Refused, Steps, is_id, without_owner, ids_end}
 use Rattle.event_manager.specs.Projection.{only_values, projected_registrations, projected_registry, names, step_exchanges, asks_to_add, adds}
 use Rattle.event_loop.proofs.WithoutOwner.{owner_of-without_owner}
 use Rattle.event_manager.proofs.FiniteMaps.{get_only, owned_by-without_owner, owned_by-disowned_other, only_outcome-insert_own, only_outcome-insert_other, only_outcome-remove_own, only_outcome-remove_other}
@@ -132,14 +132,12 @@ module _ {V : Type 0} (begins : V → Exchanges → V → Type 0) where
   own_step i mine n before (NotJoined value error) after named m claimed joins h = absurd (true≢false (sym named))
   own_step i mine n before (Left id value calls) after named m claimed joins h =
       subst (λ k. Steps begins before (Left k value calls) after → OwnStep i mine n before (Left k value calls) after) (sym (eqb-true id i named)) (own_left i mine n before after value calls m joins) h
-  own_step i mine n before (NotLeft id) after named m claimed joins h = unchanged i mine n before after (NotLeft id) m joins h.1 (λ e. (subst (λ k. get (only_values i before.values) k ≡ None) (sym (eqb-true id i named)) (lacks_projected i before.values (subst (λ k. get before.values k ≡ None) (eqb-true id i named) h.0)), e))
   own_step i mine n before (Replaced id old new) after named m claimed joins h =
       subst (λ k. Steps begins before (Replaced k old new) after → OwnStep i mine n before (Replaced k old new) after) (sym (eqb-true id i named)) (own_touched i mine n before after old new m joins) h
-  own_step i mine n before (NotReplaced id) after named m claimed joins h = unchanged i mine n before after (NotReplaced id) m joins h.1 (λ e. (subst (λ k. get (only_values i before.values) k ≡ None) (sym (eqb-true id i named)) (lacks_projected i before.values (subst (λ k. get before.values k ≡ None) (eqb-true id i named) h.0)), e))
   own_step i mine n before (Requested id exchanges calls) after named m claimed joins h =
       subst (λ k. Steps begins before (Requested k exchanges calls) after → OwnStep i mine n before (Requested k exchanges calls) after) (sym (eqb-true id i named))
       (own_made i mine n before after exchanges calls m (claims_of mine exchanges (id == i) named claimed) joins) h
-  own_step i mine n before (NotRequested id) after named m claimed joins h = unchanged i mine n before after (NotRequested id) m joins h.1 (λ e. (subst (λ k. get (only_values i before.values) k ≡ None) (sym (eqb-true id i named)) (lacks_projected i before.values (subst (λ k. get before.values k ≡ None) (eqb-true id i named) h.0)), e))
+  own_step i mine n before (Refused id) after named m claimed joins h = unchanged i mine n before after (Refused id) m joins h.1 (λ e. (subst (λ k. get (only_values i before.values) k ≡ None) (sym (eqb-true id i named)) (lacks_projected i before.values (subst (λ k. get before.values k ≡ None) (eqb-true id i named) h.0)), e))
 
   -- a step of a neighbour's
   pub record OtherStep (i : ℕ) (mine : ℕ → Bool) (before after : Registry V) : Type 0 where
@@ -178,7 +176,6 @@ module _ {V : Type 0} (begins : V → Exchanges → V → Type 0) where
         still = subst (λ (r : Registry V). IsMine i mine r.registrations.owners) (sym e) (mine-without_owner i id mine before.registrations.owners m);
         later = le_of_eq (sym (ap (λ (r : Registry V). r.next) e));
       }
-  other_step i mine before (NotLeft id) after named m foreign h = other_same i mine before after m h.1
   other_step i mine before (Replaced id old new) after named m foreign (has, e) =
       let differ : id ≢ i = λ s. true≢false (sym (eq-eqb id i s) ∙ named) in
       record {
@@ -186,7 +183,6 @@ module _ {V : Type 0} (begins : V → Exchanges → V → Type 0) where
         still = subst (λ (r : Registry V). IsMine i mine r.registrations.owners) (sym e) m;
         later = le_of_eq (sym (ap (λ (r : Registry V). r.next) e));
       }
-  other_step i mine before (NotReplaced id) after named m foreign h = other_same i mine before after m h.1
   other_step i mine before (Requested id exchanges calls) after named m foreign (value, registrations, has, fits, e) =
       let differ : id ≢ i = λ s. true≢false (sym (eq-eqb id i s) ∙ named) in
       let t = other_exchanges i id mine before.registrations exchanges calls registrations differ m (λ fd a. foreign fd id differ (made id exchanges fd a)) fits in
@@ -195,4 +191,4 @@ module _ {V : Type 0} (begins : V → Exchanges → V → Type 0) where
         still = subst (λ (r : Registry V). IsMine i mine r.registrations.owners) (sym e) t.still;
         later = le_of_eq (sym (ap (λ (r : Registry V). r.next) e));
       }
-  other_step i mine before (NotRequested id) after named m foreign h = other_same i mine before after m h.1
+  other_step i mine before (Refused id) after named m foreign h = other_same i mine before after m h.1

@@ -1,6 +1,6 @@
 -- The projection of a trace is a trace: non-interference.
-use Rattle.std.proofs.Common.{◌≡◌, ◌≢◌, ℕ, ◌+◌, ◌≤◌, Bool, true, false, ◌||◌, refl, sym, ◌∙◌, ap, subst, Some, None, Option, ◌⊎◌, inl, inr, List, [], ◌∷◌, true≢false, if◌then◌else◌, eq-eqb, eqb-true, le-ltb, le_of_eq, arith, Ok, Err, Result}
-use Rattle.std.specs.Bool.{MatchBool}
+use Rattle.std.proofs.Common.{◌≡◌, ◌≢◌, ℕ, ◌+◌, ◌≤◌, Bool, true, false, ◌||◌, refl, sym, ◌∙◌, ap, ap₂, subst, cond, map, filter, Some, None, Option, ◌⊎◌, inl, inr, List, [], ◌∷◌, true≢false, if◌then◌else◌, eq-eqb, eqb-true, le-ltb, le_of_eq, arith, Ok, Err, Result}
+use Rattle.std.proofs.lemmas.List.Elements.{All-nil, All-cons}
 use Rattle.dispatch_tables.specs.Event.{Event}
 use Rattle.event_loop.specs.Exchange.{Exchanges}
 use Rattle.event_loop.specs.Registrations.{Registrations, Owns}
@@ -10,16 +10,54 @@ use Rattle.event_loop.specs.Registry.{Step, is_id}
 use Rattle.event_loop.specs.Dispatch.{Position, events_of}
 use Rattle.event_loop.specs.Iteration.{ManagerState, JobRun, IsAfterWait, AreRun}
 use Rattle.event_manager.specs.Trace.{Effect, Stepped, Iterated, Entry, Matches, HasEffect, IsTrace}
-use Rattle.event_manager.specs.Projection.{projected_registrations, projected_registry, projected_state, AreProjected, positions_exchanges, effect_exchanges, exchanges_in, asks_to_add, adds, stays, names, IsProjectedEffect, IsProjection, projected_next, NonInterference}
+use Rattle.event_manager.specs.Projection.{projected_registrations, projected_registry, projected_state, positions_exchanges, effect_exchanges, exchanges_in, asks_to_add, adds, stays, names, seen_of, seen_in, IsOnly, IsProjection, projected_next, NonInterference}
 use Rattle.vmm_sys.specs.declared.errno.Errno.{Errno}
 use Rattle.event_manager.proofs.ProjectedExchanges.{IsMine, same_at_mine, calls_first, calls_then, adds_first, adds_then, or_left, or_right}
 use Rattle.event_manager.proofs.ProjectedSteps.{own_step, other_step}
 use Rattle.dispatch_tables.proofs.DispatchOrders.{by_class, ordered_by_class, one_order_of_mine}
-use Rattle.event_manager.proofs.ProjectedDispatch.{projected_dispatch, foreign_positions, weave, woven_projected}
+use Rattle.event_manager.proofs.ProjectedDispatch.{AreProjected, projected_dispatch, foreign_positions, weave, woven_projected}
 
 -- at a descriptor of i's, i's own registrations give the class that all give
 own_class : (i : ℕ) (mine : ℕ → Bool) (pending : List Event) (registrations : Registrations) → IsMine i mine registrations.owners → (fd : ℕ) → mine fd ≡ true → class_of (projected_registrations i pending registrations) fd ≡ class_of registrations fd
 own_class i mine pending registrations m fd e = ap class_by (same_at_mine i mine registrations.owners fd m e)
+
+module _ {V J R : Type 0} (i : ℕ) where
+  -- an effect with what belongs to other ids taken out
+  abbrev IsProjectedEffect : Effect V J R → Effect V J R → Type 0
+  IsProjectedEffect (Stepped step) projected = projected ≡ Stepped step
+  IsProjectedEffect (Iterated iteration) projected =
+      (positions : List (Position V)) × AreProjected i iteration.positions positions × (projected ≡ Iterated (record iteration { positions = positions }))
+
+  -- where it stays, i sees the same of it, and nobody else has part in it
+  seen_alike : (effect shown : Effect V J R) → IsProjectedEffect effect shown → seen_of i shown ≡ seen_of i effect
+  seen_alike (Stepped step) shown is = ap (seen_of i) is
+  seen_alike (Iterated iteration) shown (positions, are, is) = ap (seen_of i) is ∙ ap (λ ps. Iterated (record iteration { positions = ps })) are.same
+
+  shown_only : (effect shown : Effect V J R) → IsProjectedEffect effect shown → stays i effect ≡ true → IsOnly i shown
+  shown_only (Stepped step) shown is e = subst (IsOnly i) (sym is) e
+  shown_only (Iterated iteration) shown (positions, are, is) e = subst (IsOnly i) (sym is) are.only
+
+  shown_stays : (effect shown : Effect V J R) → IsProjectedEffect effect shown → stays i effect ≡ true → stays i shown ≡ true
+  shown_stays (Stepped step) shown is e = ap (stays i) is ∙ e
+  shown_stays (Iterated iteration) shown (positions, are, is) e = ap (stays i) is
+
+  abbrev seen : Entry V J R → Entry V J R
+  seen entry = record entry { effect = seen_of i entry.effect }
+
+  seen_first : (entry : Entry V J R) (trace : List (Entry V J R)) → stays i entry.effect ≡ true → seen_in i (entry ∷ trace) ≡ seen entry ∷ seen_in i trace
+  seen_first entry trace e = ap (λ b. map seen (cond b (entry ∷ filter (λ e. stays i e.effect) trace) (filter (λ e. stays i e.effect) trace))) e
+
+  seen_none : (entry : Entry V J R) (trace : List (Entry V J R)) → stays i entry.effect ≡ false → seen_in i (entry ∷ trace) ≡ seen_in i trace
+  seen_none entry trace e = ap (λ b. map seen (cond b (entry ∷ filter (λ e. stays i e.effect) trace) (filter (λ e. stays i e.effect) trace))) e
+
+  one_more_seen : (entry : Entry V J R) (trace projected : List (Entry V J R)) (shown : Effect V J R) → IsProjectedEffect entry.effect shown → stays i entry.effect ≡ true
+      → IsProjection i trace projected → IsProjection i (entry ∷ trace) (record entry { effect = shown } ∷ projected)
+  one_more_seen entry trace projected shown is stay h = (
+    seen_first (record entry { effect = shown }) projected (shown_stays entry.effect shown is stay)
+    ∙ ap₂ (λ x xs. record entry { effect = x } ∷ xs) (seen_alike entry.effect shown is) h.0
+    ∙ sym (seen_first entry trace stay),
+    All-cons (λ (e : Entry V J R). IsOnly i e.effect) (record entry { effect = shown }) projected (shown_only entry.effect shown is stay) h.1,
+  )
 
 module _ {V J R : Type 0} (begins : V → Exchanges → V → Type 0) (serves : V → Event → Exchanges → V → Type 0) (may : J → List (Step V) → R → Type 0) where
   -- jobs are counted
@@ -61,7 +99,7 @@ module _ {V J R : Type 0} (begins : V → Exchanges → V → Type 0) (serves : 
     wait_projected : (n : ℕ) (before : ManagerState V) (waited : Result (List Event) Errno) (positions : List (Position V)) (jobs : List (JobRun V J R)) (after : ManagerState V) → after.taken ≡ before.taken → IsMine i mine before.registry.registrations.owners → IsClaimed (positions_exchanges i positions) → Apart (λ j. positions_exchanges j positions) → IsAfterWait begins serves may before waited positions jobs after → TurnAlone n before waited positions jobs after
     wait_projected n before (Err errno) positions jobs after same m claimed apart (no_positions, none, is) = record {
       shown = [];
-      projected = subst (λ ps. AreProjected i ps []) (sym no_positions) (record { same = refl; only = tt });
+      projected = subst (λ ps. AreProjected i ps []) (sym no_positions) (record { same = refl; only = All-nil _ });
       fits = (refl, none, ap (projected_state i n) is);
       still = subst (λ (s : ManagerState V). IsMine i mine s.registry.registrations.owners) (sym is) m;
       next = ap (λ (s : ManagerState V). s.registry.next) is;
@@ -117,7 +155,7 @@ module _ {V J R : Type 0} (begins : V → Exchanges → V → Type 0) (serves : 
     matches_projected (Iterated iteration) shown c r (positions, are, is) h = subst (λ s. Matches s c r) (sym is) h
 
     pub trace_projected : (n : ℕ) (before : ManagerState V) (trace : List (Entry V J R)) (after : ManagerState V) → after.taken ≡ before.taken → IsMine i mine before.registry.registrations.owners → IsClaimed (exchanges_in i trace) → Apart (λ j. exchanges_in j trace) → (before.registry.next ≤ i → n ≡ i) → IsTrace begins serves may before trace after → (next : ℕ) × (projected : List (Entry V J R)) × IsProjection i trace projected × IsTrace begins serves may (projected_state i n before) projected (projected_state i next after)
-    trace_projected n before [] after same m claimed apart joins is = (n, [], refl, ap (projected_state i n) is)
+    trace_projected n before [] after same m claimed apart joins is = (n, [], (refl, All-nil (λ (e : Entry V J R). IsOnly i e.effect)), ap (projected_state i n) is)
     trace_projected n before (entry ∷ trace) after same m claimed apart joins (mid, made, has_effect, more) =
         let a = does_grow before entry.effect mid has_effect in
         let b = trace_grows mid trace after more in
@@ -132,18 +170,14 @@ module _ {V J R : Type 0} (begins : V → Exchanges → V → Type 0) (serves : 
               let rest = trace_projected (p.1).next mid trace after rest_same (p.1).still claimed2 apart2 (p.1).joins more in (
                 rest.0,
                 record entry { effect = (p.1).shown } ∷ rest.1,
-                subst (λ b. MatchBool b
-                    ((effect : Effect V J R) × (others : List (Entry V J R)) × IsProjectedEffect i entry.effect effect × IsProjection i trace others × (record entry { effect = (p.1).shown } ∷ rest.1 ≡ record entry { effect = effect } ∷ others))
-                    (IsProjection i trace (record entry { effect = (p.1).shown } ∷ rest.1))) (sym p.0) ((p.1).shown, rest.1, (p.1).projected, rest.2, refl),
+                one_more_seen i entry trace rest.1 (p.1).shown (p.1).projected p.0 rest.2,
                 (projected_state i (p.1).next mid, matches_projected entry.effect (p.1).shown entry.call entry.reply (p.1).projected made, (p.1).has_effect, rest.3),
               )
           | inr p ↦
               let rest = trace_projected n mid trace after rest_same (p.1).still claimed2 apart2 (p.1).joins more in (
                 rest.0,
                 rest.1,
-                subst (λ b. MatchBool b
-                    ((effect : Effect V J R) × (others : List (Entry V J R)) × IsProjectedEffect i entry.effect effect × IsProjection i trace others × (rest.1 ≡ record entry { effect = effect } ∷ others))
-                    (IsProjection i trace rest.1)) (sym p.0) rest.2,
+                ((rest.2).0 ∙ sym (seen_none i entry trace p.0), (rest.2).1),
                 subst (λ s. IsTrace begins serves may s rest.1 (projected_state i rest.0 after)) (p.1).same rest.3,
               )
         ]

@@ -9,7 +9,7 @@ use Rattle.std.proofs.lemmas.Map.Made.{length-le_from_is_member, is_member-Decid
 use Rattle.event_loop.specs.PollerCall.{PollerCall, Control}
 use Rattle.event_loop.specs.Registrations.{Registrations}
 use Rattle.event_loop.specs.Exchange.{Exchanges, ExchangesFit, answers_of}
-use Rattle.event_loop.specs.Registry.{Registry, Step, Joined, NotJoined, Left, NotLeft, Replaced, NotReplaced, Requested, NotRequested}
+use Rattle.event_loop.specs.Registry.{Registry, Step, Joined, NotJoined, Left, Replaced, Requested, Refused}
 use Rattle.event_loop.specs.Registry.{Steps, AreDeletes, AreOwnedBy, empty_event, ids_end, calls_of}
 use Rattle.event_loop.specs.Iteration.{AllSteps, calls_of_steps}
 use Rattle.event_loop.specs.declared.error.Error.{Error}
@@ -17,7 +17,7 @@ use Rattle.event_loop.specs.declared.error.Error.TheVariants.{OutOfMemory, IdsUs
 use Rattle.vmm_sys.specs.declared.errno.Errno.{Errno}
 use Rattle.vmm_sys.specs.declared.entries.ControlOperation.TheVariants as operation
 use Rattle.event_manager.specs.Trace.{Stepped, Matches}
-use Rattle.event_manager.specs.Determinism.{IsFunction, Asked, ToJoin, ToLeave, ToHold, ToRequest, asked_of, GoAlike, AreAlike, StepsAlike}
+use Rattle.event_manager.specs.Determinism.{IsFunction, Asked, ToJoin, ToLeave, ToHold, ToRequest, Answers, GoAlike, AreAlike, StepsAlike}
 use Rattle.event_manager.specs.Determinism.{HaveMemory, IsSameCall, answers_of_step}
 use Rattle.event_manager.specs.declared.calls.Call.{Call}
 use Rattle.event_manager.specs.declared.calls.Call.TheVariants as call
@@ -68,25 +68,42 @@ module _ {V : Type 0} where
   some_is : (a b : Asked V) → Some a ≡ Some b → a ≡ b
   some_is a b e = cc
 
+  -- the id that is asked for
+  abbrev id_asked : Asked V → Option ℕ
+  id_asked (ToJoin value) = None
+  id_asked (ToLeave id) = Some id
+  id_asked (ToHold id) = Some id
+  id_asked (ToRequest id) = Some id
+
+  id_refused : (asked : Asked V) (id : ℕ) → Answers asked (Refused id) → id_asked asked ≡ Some id
+  id_refused asked id (inl is) = ap id_asked is
+  id_refused asked id (inr (inl is)) = ap id_asked is
+  id_refused asked id (inr (inr is)) = ap id_asked is
+
+  -- a refusal is of the id that was asked for
+  of_one : (asked : Asked V) (id i : ℕ) → id_asked asked ≡ Some id → Answers asked (Refused i) → id ≡ i
+  of_one asked id i is refused = let t = sym is ∙ id_refused asked i refused in cc
+
   pub same_asked : (c d : Call V) → IsSameCall c d → asked_by c ≡ asked_by d
   same_asked (call.Ask id requests) (call.Ask other others) h = ap (λ i. Some (ToRequest i)) h.0
   same_asked c d h = ap asked_by h
 
   module _ (J R : Type 0) where
-    abbrev pub Answers : Step V → Call V → Reply V → Type 0
-    Answers step = Matches {J = J} {R = R} (Stepped step)
+    abbrev pub AreOf : Step V → Call V → Reply V → Type 0
+    AreOf step = Matches {J = J} {R = R} (Stepped step)
 
-    pub asked_for : (step : Step V) (c : Call V) (r : Reply V) → Answers step c r → asked_by c ≡ Some (asked_of step)
-    asked_for (Joined value id exchanges calls held) c r m = ap asked_by m.0
-    asked_for (NotJoined value error) c r m = ap asked_by m.0
-    asked_for (Left id value calls) c r m = ap asked_by m.0
-    asked_for (NotLeft id) c r m = ap asked_by m.0
-    asked_for (Replaced id old new) c r m = ap asked_by m.0
-    asked_for (NotReplaced id) c r m = ap asked_by m.1
-    asked_for (Requested id exchanges calls) c r m = ap asked_by m.2
-    asked_for (NotRequested id) c r m = ap asked_by m.1
+    pub asked_for : (step : Step V) (c : Call V) (r : Reply V) → AreOf step c r → (asked : Asked V) × (asked_by c ≡ Some asked) × Answers asked step
+    asked_for (Joined value id exchanges calls held) c r m = (ToJoin value, ap asked_by m.0, refl)
+    asked_for (NotJoined value error) c r m = (ToJoin value, ap asked_by m.0, refl)
+    asked_for (Left id value calls) c r m = (ToLeave id, ap asked_by m.0, refl)
+    asked_for (Replaced id old new) c r m = (ToHold id, ap asked_by m.0, refl)
+    asked_for (Requested id exchanges calls) c r m = (ToRequest id, ap asked_by m.2, refl)
+    asked_for (Refused id) (call.Remove i) r m = (ToLeave i, refl, inl (ap ToLeave m.0))
+    asked_for (Refused id) (call.Set i value) r m = (ToHold i, refl, inr (inl (ap ToHold m.0)))
+    asked_for (Refused id) (call.Ask i requests) r m = (ToRequest i, refl, inr (inr (ap ToRequest m.0)))
+    asked_for (Refused id) c r m = absurd m
 
-    with_same : (step other : Step V) (c d : Call V) (r q : Reply V) → IsSameCall c d → Answers step c r → Answers other d q → GoAlike step other
+    with_same : (step other : Step V) (c d : Call V) (r q : Reply V) → IsSameCall c d → AreOf step c r → AreOf other d q → GoAlike step other
     with_same (Replaced id old new) (Replaced other older newer) c d r q h m n =
         let e : ◌≡◌ {A = Call V} (call.Set id new) (call.Set other newer) = rw (m.0, n.0) at h in λ same. cc
     with_same (Requested id exchanges calls) (Requested other others more) c d r q h m n =
@@ -94,11 +111,12 @@ module _ {V : Type 0} where
     with_same step other c d r q h m n = tt
 
     -- two steps that answer the same call
-    pub asked_alike : (step other : Step V) (c d : Call V) (r q : Reply V) → IsSameCall c d → Answers step c r → Answers other d q → AreAlike step other
-    asked_alike step other c d r q h m n = (
-      some_is (asked_of step) (asked_of other) (sym (asked_for step c r m) ∙ same_asked c d h ∙ asked_for other d q n),
-      with_same step other c d r q h m n,
-    )
+    pub asked_alike : (step other : Step V) (c d : Call V) (r q : Reply V) → IsSameCall c d → AreOf step c r → AreOf other d q → AreAlike step other
+    asked_alike step other c d r q h m n =
+        let a = asked_for step c r m in
+        let b = asked_for other d q n in
+        let same = some_is a.0 b.0 (sym a.1 ∙ same_asked c d h ∙ b.1) in
+        (a.0, a.2, subst (λ asked. Answers asked other) (sym same) b.2, with_same step other c d r q h m n)
 
   -- why a join may be refused; with memory
   abbrev IsJoinRefused : Registry V → Error → Type 0
@@ -140,7 +158,7 @@ module _ {V : Type 0} where
           → AreAlike step other → HaveMemory (answers_of_step step) → HaveMemory (answers_of_step other) → AreSameCalls (calls_of step ++ rest) (calls_of other ++ more)
           → Steps begins before step after → Steps begins before other onto → (step ≡ other) × (after ≡ onto)
       step_alike before (Joined value id exchanges calls held) (Joined newer i others made kept) rest more after onto a m n same h k =
-          let one : newer ≡ value = let t = a.0 in cc in
+          let one : newer ≡ value = let t = sym a.2 ∙ a.1 in cc in
           let ids : i ≡ id = k.2 ∙ sym h.2 in
           let here = subst (λ (p : V × ℕ). Steps begins before (Joined p.0 p.1 others made kept) onto) (λ j. (one j, ids j)) k in
           let all = joined_alike before value id exchanges others calls made rest more held kept after onto m n same h here in
@@ -150,35 +168,35 @@ module _ {V : Type 0} where
       step_alike before (NotJoined value error) (Joined newer i others made kept) rest more after onto a m n same h k =
           absurd (no_room before error m h.0 k.1)
       step_alike before (NotJoined value error) (NotJoined newer other) rest more after onto a m n same h k =
-          let one : value ≡ newer = let t = a.0 in cc in
+          let one : value ≡ newer = let t = sym a.1 ∙ a.2 in cc in
           let errors = (used_up before error m h.0).1 ∙ sym (used_up before other n k.0).1 in
           ((λ j. NotJoined (one j) (errors j)), h.1 ∙ sym k.1)
       step_alike before (Left id value calls) (Left i older made) rest more after onto a m n same h k =
-          let ids : i ≡ id = let t = a.0 in cc in
+          let ids : i ≡ id = let t = sym a.2 ∙ a.1 in cc in
           let here = subst (λ x. Steps begins before (Left x older made) onto) ids k in
           let all = left_alike before id value older calls made rest more after onto same h here in
           (all.0 ∙ sym (ap (λ x. Left x older made) ids), all.1)
-      step_alike before (Left id value calls) (NotLeft i) rest more after onto a m n same h k = let held = h.1 in let t = a.0 in cc
-      step_alike before (NotLeft id) (Left i older made) rest more after onto a m n same h k = let held = k.1 in let t = a.0 in cc
-      step_alike before (NotLeft id) (NotLeft i) rest more after onto a m n same h k = (let t = a.0 in cc, h.1 ∙ sym k.1)
       step_alike before (Replaced id old new) (Replaced i older newer) rest more after onto a m n same h k =
-          let ids : id ≡ i = let t = a.0 in cc in
+          let ids : id ≡ i = let t = sym a.1 ∙ a.2 in cc in
           let one : old ≡ older = cc in
-          let held = a.1 one in
+          let held = a.3 one in
           ((λ j. Replaced (ids j) (one j) (held j)), h.1 ∙ (λ j. record before { values = insert before.values (ids j) (held j) }) ∙ sym k.1)
-      step_alike before (Replaced id old new) (NotReplaced i) rest more after onto a m n same h k = let t = a.0 in cc
-      step_alike before (NotReplaced id) (Replaced i older newer) rest more after onto a m n same h k = let t = a.0 in cc
-      step_alike before (NotReplaced id) (NotReplaced i) rest more after onto a m n same h k = (let t = a.0 in cc, h.1 ∙ sym k.1)
       step_alike before (Requested id exchanges calls) (Requested i others made) rest more after onto a m n same
           (value, ours, has, fits, e) (older, theirs, held, fit, f) =
-          let ids : id ≡ i = let t = a.0 in cc in
+          let ids : id ≡ i = let t = sym a.1 ∙ a.2 in cc in
           let here = subst (λ x. ExchangesFit x before.registrations others made theirs) (sym ids) fit in
-          let all = exchanges_alike id before.registrations exchanges others calls made rest more ours theirs a.1 m n same fits here in
+          let all = exchanges_alike id before.registrations exchanges others calls made rest more ours theirs a.3 m n same fits here in
           ((λ j. Requested (ids j) (all.0 j) (all.1 j)), e ∙ (λ j. record before { registrations = all.2 j }) ∙ sym f)
-      step_alike before (Requested id exchanges calls) (NotRequested i) rest more after onto a m n same h k = let held = h.2 in let t = a.0 in cc
-      step_alike before (NotRequested id) (Requested i others made) rest more after onto a m n same h k = let held = k.2 in let t = a.0 in cc
-      step_alike before (NotRequested id) (NotRequested i) rest more after onto a m n same h k = (let t = a.0 in cc, h.1 ∙ sym k.1)
-      step_alike before step other rest more after onto a m n same h k = let t = a.0 in cc
+      step_alike before (Left id value calls) (Refused i) rest more after onto a m n same h k = let held = h.1 in let ids = of_one a.0 id i (ap id_asked a.1) a.2 in cc
+      step_alike before (Refused i) (Left id value calls) rest more after onto a m n same h k = let held = k.1 in let ids = of_one a.0 id i (ap id_asked a.2) a.1 in cc
+      step_alike before (Replaced id old new) (Refused i) rest more after onto a m n same h k = let ids = of_one a.0 id i (ap id_asked a.1) a.2 in cc
+      step_alike before (Refused i) (Replaced id old new) rest more after onto a m n same h k = let ids = of_one a.0 id i (ap id_asked a.2) a.1 in cc
+      step_alike before (Requested id exchanges calls) (Refused i) rest more after onto a m n same h k = let held = h.2 in let ids = of_one a.0 id i (ap id_asked a.1) a.2 in cc
+      step_alike before (Refused i) (Requested id exchanges calls) rest more after onto a m n same h k = let held = k.2 in let ids = of_one a.0 id i (ap id_asked a.2) a.1 in cc
+      step_alike before (Refused id) (Refused i) rest more after onto a m n same h k = (ap Refused (of_one a.0 id i (id_refused a.0 id a.1) a.2), h.1 ∙ sym k.1)
+      step_alike before (Refused i) other rest more after onto a m n same h k = let ids = id_refused a.0 i a.1 in let t = ap id_asked a.2 in cc
+      step_alike before step (Refused i) rest more after onto a m n same h k = let ids = id_refused a.0 i a.2 in let t = ap id_asked a.1 in cc
+      step_alike before step other rest more after onto a m n same h k = let t = sym a.1 ∙ a.2 in cc
 
       pub steps_alike : (before : Registry V) (steps others : List (Step V)) (rest more : List PollerCall) (after onto : Registry V)
           → StepsAlike steps others → HaveMemory (flat_map answers_of_step steps) → HaveMemory (flat_map answers_of_step others)

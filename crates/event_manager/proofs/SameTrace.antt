@@ -7,16 +7,17 @@ use Rattle.dispatch_tables.proofs.DispatchOrders.{head_is, tail_is, one_order}
 use Rattle.event_loop.specs.PollerCall.{PollerCall, Wait}
 use Rattle.event_loop.specs.DispatchOrder.{class_of}
 use Rattle.event_loop.specs.Exchange.{Exchanges, answers_of}
-use Rattle.event_loop.specs.Registry.{Registry, Step, Joined, NotJoined, Left, NotLeft, Replaced, NotReplaced, Requested, NotRequested}
+use Rattle.event_loop.specs.Registry.{Registry, Step, Joined, NotJoined, Left, Replaced, Requested, Refused}
 use Rattle.event_loop.specs.Dispatch.{Outcome, Nobody, To, Position, IsOutcome, AreDispatched, events_of, exchanges_of, still_pending}
 use Rattle.event_loop.specs.Iteration.{ManagerState, JobRun, AreRun, IsAfterWait}
 use Rattle.event_loop.specs.Iteration.{calls_of_steps, calls_of_outcome, calls_of_positions, calls_of_jobs}
 use Rattle.vmm_sys.specs.declared.errno.Errno.{Errno}
 use Rattle.event_manager.specs.Trace.{Effect, Stepped, Iterated, Entry, Matches, HasEffect, IsTrace, calls_of_effect, calls_of_trace}
-use Rattle.event_manager.specs.Determinism.{Asked, asked_of, IsFunction, AreFunctions, IsSameCall, IsSameReply, IsReplay, IsTheRun}
+use Rattle.event_manager.specs.Determinism.{Asked, IsFunction, AreFunctions, IsSameCall, IsSameReply, IsReplay, IsTheRun}
 use Rattle.event_manager.specs.Determinism.{HaveMemory, jobs_of_effect, jobs_in}
 use Rattle.event_manager.specs.Determinism.{answers_of_step, answers_of_positions, answers_of_jobs, answers_of_effect, answers_in}
 use Rattle.event_manager.specs.declared.calls.Call.{Call}
+use Rattle.event_manager.specs.declared.calls.Call.TheVariants as call
 use Rattle.event_manager.specs.declared.calls.Reply.{Reply}
 use Rattle.event_manager.proofs.SameExchanges.{AreSameCalls, eventless, memory_first, memory_then, in_parts, behind_same, exchanges_alike}
 use Rattle.event_manager.proofs.SameSteps.{asked_by, same_asked, asked_for, asked_alike, step_alike, steps_alike}
@@ -148,13 +149,11 @@ module _ {V J R : Type 0} (begins : V → Exchanges → V → Type 0) (serves : 
         let taken = h.1 ∙ sym k.1 in
         (ap Stepped one.0, (λ j. record { registry = one.1 j; taken = taken j }))
     effect_alike capacity before (Stepped step) (Iterated other) c d r q rest more after onto asked matches matched jobs m n same h k =
-        let e : ◌≡◌ {A = Option (Asked V)} (Some (asked_of step)) None =
-        sym (asked_for J R step c r matches) ∙ same_asked c d asked ∙ ap asked_by matched.0
-        in cc
+        let a = asked_for J R step c r matches in
+        let e : ◌≡◌ {A = Option (Asked V)} (Some a.0) None = sym a.1 ∙ same_asked c d asked ∙ ap asked_by matched.0 in cc
     effect_alike capacity before (Iterated iteration) (Stepped other) c d r q rest more after onto asked matches matched jobs m n same h k =
-        let e : ◌≡◌ {A = Option (Asked V)} None (Some (asked_of other)) =
-        sym (ap asked_by matches.0) ∙ same_asked c d asked ∙ asked_for J R other d q matched
-        in cc
+        let a = asked_for J R other d q matched in
+        let e : ◌≡◌ {A = Option (Asked V)} None (Some a.0) = sym (ap asked_by matches.0) ∙ same_asked c d asked ∙ a.1 in cc
     effect_alike capacity before (Iterated iteration) (Iterated other) c d r q rest more after onto asked matches matched jobs m n same h k =
         let w = same_wait iteration.ms other.ms capacity iteration.waited other.waited _ _ same in
         let here = subst (λ x. IsAfterWait begins serves may before x other.positions other.jobs onto) (sym w.1) k in
@@ -162,16 +161,19 @@ module _ {V J R : Type 0} (begins : V → Exchanges → V → Type 0) (serves : 
         ((λ j. Iterated (record { ms = w.0 j; waited = w.1 j; positions = all.0 j; jobs = all.1 j })), all.2)
 
     -- an effect decides its reply
-    reply_alike : (effect : Effect V J R) (c d : Call V) (r q : Reply V) → Matches effect c r → Matches effect d q → IsSameReply r q
-    reply_alike (Stepped (Joined value id exchanges calls held)) c d r q m n = rw (m.1, n.1) refl
-    reply_alike (Stepped (NotJoined value error)) c d r q m n = rw (m.1, n.1) refl
-    reply_alike (Stepped (Left id value calls)) c d r q m n = rw (m.1, n.1) refl
-    reply_alike (Stepped (NotLeft id)) c d r q m n = rw (m.1, n.1) refl
-    reply_alike (Stepped (Replaced id old new)) c d r q m n = rw (m.1, n.1) refl
-    reply_alike (Stepped (NotReplaced id)) c d r q m n = rw (m.2, n.2) refl
-    reply_alike (Stepped (Requested id exchanges calls)) c d r q m n = rw (m.3, n.3) (sym m.5 ∙ n.5)
-    reply_alike (Stepped (NotRequested id)) c d r q m n = rw (m.2, n.2) refl
-    reply_alike (Iterated iteration) c d r q m n = rw (m.1, n.1) refl
+    reply_alike : (effect : Effect V J R) (c d : Call V) (r q : Reply V) → IsSameCall c d → Matches effect c r → Matches effect d q → IsSameReply r q
+    reply_alike (Stepped (Joined value id exchanges calls held)) c d r q h m n = rw (m.1, n.1) refl
+    reply_alike (Stepped (NotJoined value error)) c d r q h m n = rw (m.1, n.1) refl
+    reply_alike (Stepped (Left id value calls)) c d r q h m n = rw (m.1, n.1) refl
+    reply_alike (Stepped (Replaced id old new)) c d r q h m n = rw (m.1, n.1) refl
+    reply_alike (Stepped (Requested id exchanges calls)) c d r q h m n = rw (m.3, n.3) (sym m.5 ∙ n.5)
+    reply_alike (Stepped (Refused id)) (call.Remove i) (call.Remove j) r q h m n = rw (m.1, n.1) refl
+    reply_alike (Stepped (Refused id)) (call.Set i new) (call.Set j newer) r q h m n = rw (m.1, n.1) refl
+    reply_alike (Stepped (Refused id)) (call.Ask i requests) (call.Ask j others) r q h m n = rw (m.1, n.1) refl
+    reply_alike (Stepped (Refused id)) (call.Add value) d r q h m n = absurd m
+    reply_alike (Stepped (Refused id)) (call.Run ms) d r q h m n = absurd m
+    reply_alike (Stepped (Refused id)) c d r q h m n = cc
+    reply_alike (Iterated iteration) c d r q h m n = rw (m.1, n.1) refl
 
     pub trace_alike : (capacity : ℕ) (before : ManagerState V) (trace replay : List (Entry V J R)) (rest more : List PollerCall) (after replayed : ManagerState V)
         → AllZip IsSameCall (map (λ entry. entry.call) trace) (map (λ entry. entry.call) replay) → jobs_in trace ≡ jobs_in replay
@@ -196,7 +198,7 @@ module _ {V J R : Type 0} (begins : V → Exchanges → V → Type 0) (serves : 
         let matched_here = subst (λ x. Matches x q.call q.reply) (sym one.0) matched in
         record {
           same_effects = (λ j. one.0 j ∷ all.same_effects j);
-          same_replies = (reply_alike p.effect p.call q.call p.reply q.reply matches matched_here, all.same_replies);
+          same_replies = (reply_alike p.effect p.call q.call p.reply q.reply asked.0 matches matched_here, all.same_replies);
           same_state = all.same_state;
         }
 

@@ -8,7 +8,7 @@ use Rattle.dispatch_tables.specs.Event.{Event}
 use Rattle.event_loop.specs.Registrations.{Registrations, Owns, IsFree}
 use Rattle.event_loop.specs.PollerCall.{PollerCall}
 use Rattle.event_loop.specs.Exchange.{Answer, Exchanges, Fits, by_manager, by_poller, by_agreement, ExchangesFit, ReachesPoller, entered, registrations_after}
-use Rattle.event_loop.specs.Registry.{acts_on, removed_by, Registry, Step, Joined, NotJoined, Left, NotLeft, Replaced, NotReplaced, Requested, NotRequested, Steps, is_id, without_owner, HasId, LacksId, AreBelow}
+use Rattle.event_loop.specs.Registry.{acts_on, removed_by, Registry, Step, Joined, NotJoined, Left, Replaced, Requested, Refused, Steps, is_id, without_owner, HasId, LacksId, AreBelow}
 use Rattle.event_loop.specs.Dispatch.{Outcome, Nobody, To, Position, IsOutcome, AreDispatched, still_pending, events_of}
 use Rattle.event_loop.specs.Iteration.{ManagerState, JobRun, IsAfterWait, AreRun, AllSteps}
 use Rattle.event_manager.specs.Trace.{Effect, Stepped, Iterated, Entry, HasEffect, IsTrace, new_state}
@@ -134,19 +134,17 @@ module _ {V : Type 0} where
         let v = s.owners fd j o in (v.0, remove_other_value id j before.values differ ∙ v.1);
     endpoint_free = get-without_owner id before.registrations.owners before.registrations.endpoint ∙ still_free id (get before.registrations.owners before.registrations.endpoint) s.endpoint_free;
   })
-  sound_step begins before (NotLeft id) after s h = sound_at after before h.1 s
   sound_step begins before (Replaced id old new) after s (has, e) = sound_at after _ e (record {
     owners = λ fd j h. let v = s.owners fd j h in has_insert j id before.values v.0 new v.1;
     endpoint_free = s.endpoint_free;
   })
-  sound_step begins before (NotReplaced id) after s h = sound_at after before h.1 s
   sound_step begins before (Requested id exchanges calls) after s (value, registrations, has, fits, e) =
       let o = owners_exchanges id before.registrations exchanges calls registrations fits in
       sound_at after _ e (record {
         owners = λ fd j h. elim (o.from fd j h) [ inl p ↦ s.owners fd j p | inr p ↦ (value, ap (get before.values) p ∙ has) ];
         endpoint_free = o.endpoint_free s.endpoint_free;
       })
-  sound_step begins before (NotRequested id) after s h = sound_at after before h.1 s
+  sound_step begins before (Refused id) after s h = sound_at after before h.1 s
 
   sound_outcome : (serves : V → Event → Exchanges → V → Type 0) (before : Registry V) (earlier : List (Position V)) (e : Event) (later : List Event) (outcome : Outcome V) (after : Registry V) → IsSound before → IsOutcome serves before earlier e later outcome after → IsSound after
   sound_outcome serves before earlier e later Nobody after s (nobody, is) = sound_at after _ is (record { owners = s.owners; endpoint_free = s.endpoint_free })
@@ -166,11 +164,9 @@ module _ {V : Type 0} where
       below_at after _ e (below_joined id before.next before.values held is h)
   below_step begins before (NotJoined value error) after h s = below_at after before s.1 h
   below_step begins before (Left id value calls) after h (fds, has, is_owner, deletes, e) = below_at after _ e (below_removed id before.next before.values h)
-  below_step begins before (NotLeft id) after h s = below_at after before s.1 h
   below_step begins before (Replaced id old new) after h (has, e) = below_at after _ e (below_insert id before.next before.values new (h id old has) h)
-  below_step begins before (NotReplaced id) after h s = below_at after before s.1 h
   below_step begins before (Requested id exchanges calls) after h (value, registrations, has, fits, e) = below_at after _ e h
-  below_step begins before (NotRequested id) after h s = below_at after before s.1 h
+  below_step begins before (Refused id) after h s = below_at after before s.1 h
 
   below_outcome : (serves : V → Event → Exchanges → V → Type 0) (before : Registry V) (earlier : List (Position V)) (e : Event) (later : List Event) (outcome : Outcome V) (after : Registry V) → AreBelow before.next before.values → IsOutcome serves before earlier e later outcome after → AreBelow after.next after.values
   below_outcome serves before earlier e later Nobody after h (nobody, is) = below_at after _ is h
@@ -193,22 +189,18 @@ module _ {V : Type 0} where
   given_step begins before (Joined value id exchanges calls held) after (registrations, capacity, is, fits, beg, e) = (is, ap (λ (r : Registry V). r.next) e)
   given_step begins before (NotJoined value error) after h = ap (λ (r : Registry V). r.next) h.1
   given_step begins before (Left id value calls) after (fds, has, is_owner, deletes, e) = ap (λ (r : Registry V). r.next) e
-  given_step begins before (NotLeft id) after h = ap (λ (r : Registry V). r.next) h.1
   given_step begins before (Replaced id old new) after h = ap (λ (r : Registry V). r.next) h.1
-  given_step begins before (NotReplaced id) after h = ap (λ (r : Registry V). r.next) h.1
   given_step begins before (Requested id exchanges calls) after (value, registrations, has, fits, e) = ap (λ (r : Registry V). r.next) e
-  given_step begins before (NotRequested id) after h = ap (λ (r : Registry V). r.next) h.1
+  given_step begins before (Refused id) after h = ap (λ (r : Registry V). r.next) h.1
 
   given_join : (a b c : ℕ) (xs ys : List (Step V)) → AreGiven a xs b → AreGiven b ys c → AreGiven a (xs ++ ys) c
   given_join a b c [] ys h k = subst (λ n. AreGiven n ys c) h k
   given_join a b c (Joined value id exchanges calls held ∷ xs) ys h k = (h.0, given_join (a + 1) b c xs ys h.1 k)
   given_join a b c (NotJoined value error ∷ xs) ys h k = given_join a b c xs ys h k
   given_join a b c (Left id value calls ∷ xs) ys h k = given_join a b c xs ys h k
-  given_join a b c (NotLeft id ∷ xs) ys h k = given_join a b c xs ys h k
   given_join a b c (Replaced id old new ∷ xs) ys h k = given_join a b c xs ys h k
-  given_join a b c (NotReplaced id ∷ xs) ys h k = given_join a b c xs ys h k
   given_join a b c (Requested id exchanges calls ∷ xs) ys h k = given_join a b c xs ys h k
-  given_join a b c (NotRequested id ∷ xs) ys h k = given_join a b c xs ys h k
+  given_join a b c (Refused id ∷ xs) ys h k = given_join a b c xs ys h k
 
   -- what is gone
   pub record IsGone (i : ℕ) (r : Registry V) : Type 0 where
@@ -230,13 +222,11 @@ module _ {V : Type 0} where
       (differ, gone_at i after _ e (record { lacks = lacks_insert i id before.values held (λ t. differ (sym t)) g.lacks; given = (let b = g.given in omega arith) }))
   gone_step begins i before (NotJoined value error) after g h = (tt, gone_at i after before h.1 g)
   gone_step begins i before (Left id value calls) after g (fds, has, is_owner, deletes, e) = (differs i id before value g has, gone_at i after _ e (record { lacks = lacks_remove i id before.values g.lacks; given = g.given }))
-  gone_step begins i before (NotLeft id) after g h = (tt, gone_at i after before h.1 g)
   gone_step begins i before (Replaced id old new) after g (has, e) =
       let differ = differs i id before old g has in
       (differ, gone_at i after _ e (record { lacks = lacks_insert i id before.values new (λ t. differ (sym t)) g.lacks; given = g.given }))
-  gone_step begins i before (NotReplaced id) after g h = (tt, gone_at i after before h.1 g)
   gone_step begins i before (Requested id exchanges calls) after g (value, registrations, has, fits, e) = (differs i id before value g has, gone_at i after _ e (record { lacks = g.lacks; given = g.given }))
-  gone_step begins i before (NotRequested id) after g h = (tt, gone_at i after before h.1 g)
+  gone_step begins i before (Refused id) after g h = (tt, gone_at i after before h.1 g)
 
   gone_outcome : (serves : V → Event → Exchanges → V → Type 0) (i : ℕ) (before : Registry V) (earlier : List (Position V)) (e : Event) (later : List Event) (outcome : Outcome V) (after : Registry V) → IsGone i before → IsOutcome serves before earlier e later outcome after → IsGone i after
   gone_outcome serves i before earlier e later Nobody after g (nobody, is) = gone_at i after _ is (record { lacks = g.lacks; given = g.given })
@@ -256,11 +246,9 @@ module _ {V : Type 0} where
   stays_gone begins before (Joined value id exchanges calls held) after steps s h k = tt
   stays_gone begins before (NotJoined value error) after steps s h k = tt
   stays_gone begins before (Left id value calls) after steps s h k = k id (left_is_gone begins before id value calls after s h)
-  stays_gone begins before (NotLeft id) after steps s h k = tt
   stays_gone begins before (Replaced id old new) after steps s h k = tt
-  stays_gone begins before (NotReplaced id) after steps s h k = tt
   stays_gone begins before (Requested id exchanges calls) after steps s h k = tt
-  stays_gone begins before (NotRequested id) after steps s h k = tt
+  stays_gone begins before (Refused id) after steps s h k = tt
 
 module _ {V J R : Type 0} (begins : V → Exchanges → V → Type 0) (serves : V → Event → Exchanges → V → Type 0) (may : J → List (Step V) → R → Type 0) where
   -- what the steps between two registries are, and what stays true

@@ -22,7 +22,6 @@ use Rattle.event_loop.proofs.ExchangeLemmas.{leads_join}
 use Rattle.event_manager.proofs.Isolation.{isolated_step, isolated_delivery, left_frees}
 use Rattle.event_manager.proofs.Soundness.{trace_follows}
 use Rattle.event_manager.proofs.ProjectedTrace.{non_interference}
-use Rattle.event_manager.proofs.ProjectionKept.{projection_keeps}
 use Rattle.event_manager.proofs.UnknownIds.{removed_unknown}
 
 -- call and reply of each step are those of the call that made it
@@ -37,11 +36,11 @@ module _ {V : Type 0} (J R : Type 0) where
 
   pub replacement_matches : (id : ℕ) (value : V) (result : Result V Error) (step : Step V) → IsReplacement id value result step → Matches {V = V} {J = J} {R = R} (Stepped step) (call.Set id value) (reply.Set result)
   replacement_matches id value (Ok old) step h = subst (λ (s : Step V). Matches {V = V} {J = J} {R = R} (Stepped s) (call.Set id value) (reply.Set (Ok old))) (sym h) (refl, refl)
-  replacement_matches id value (Err error) step h = subst (λ (s : Step V). Matches {V = V} {J = J} {R = R} (Stepped s) (call.Set id value) (reply.Set (Err error))) (sym h.1) (value, refl, ap (λ e. reply.Set (Err e)) h.0)
+  replacement_matches id value (Err error) step h = subst (λ (s : Step V). Matches {V = V} {J = J} {R = R} (Stepped s) (call.Set id value) (reply.Set (Err error))) (sym h.1) (refl, ap (λ e. reply.Set (Err e)) h.0)
 
   pub ask_matches : (id : ℕ) (requests : Vec Request Global) (result : Result (Vec Answer Global) Error) (step : Step V) → IsAsk id requests.items result step → Matches {V = V} {J = J} {R = R} (Stepped step) (call.Ask id requests) (reply.Asked result)
   ask_matches id requests (Ok answers) step h = subst (λ (s : Step V). Matches {V = V} {J = J} {R = R} (Stepped s) (call.Ask id requests) (reply.Asked (Ok answers))) (sym h.2) (requests, answers, refl, refl, h.3, h.4)
-  ask_matches id requests (Err error) step h = subst (λ (s : Step V). Matches {V = V} {J = J} {R = R} (Stepped s) (call.Ask id requests) (reply.Asked (Err error))) (sym h.1) (requests, refl, ap (λ e. reply.Asked (Err e)) h.0)
+  ask_matches id requests (Err error) step h = subst (λ (s : Step V). Matches {V = V} {J = J} {R = R} (Stepped s) (call.Ask id requests) (reply.Asked (Err error))) (sym h.1) (refl, ap (λ e. reply.Asked (Err e)) h.0)
 
 module _ {S J R P : Type 0} (begins : S → Exchanges → S → Type 0) (serves : S → Event → Exchanges → S → Type 0) (may : J → List (Step S) → R → Type 0) (controls : Controls P) (waits : Waits P) where
   -- a step of the registry is a call of the manager
@@ -97,7 +96,6 @@ module _ {S J R P : Type 0} (begins : S → Exchanges → S → Type 0) (serves 
         unknown = λ below. removed_unknown begins serves may before trace after is (follows.removed below);
         sound = follows.sound;
         non_interference = non_interference begins serves may before trace after is;
-        projection_keeps = projection_keeps trace;
         isolated_step = λ from step onto h. isolated_step begins from step onto h;
         isolated_delivery = λ from earlier event later i exchanges calls held onto h j differ. isolated_delivery serves from earlier event later i exchanges calls held onto h j differ;
         leave_frees = λ from onto i value calls h. left_frees begins from onto i value calls h;

@@ -3,7 +3,7 @@ use Rattle.std.proofs.Common.{◌≡◌, ℕ, List, [], ◌∷◌, ◌++◌, ref
 use Rattle.std.specs.List.{AllZip}
 use Rattle.dispatch_tables.specs.Event.{Event}
 use Rattle.event_loop.specs.Exchange.{Exchanges}
-use Rattle.event_loop.specs.Registry.{Step, Joined, NotJoined, Left, NotLeft, Replaced, NotReplaced, Requested, NotRequested}
+use Rattle.event_loop.specs.Registry.{Step, Joined, NotJoined, Left, Replaced, Requested, Refused}
 use Rattle.event_loop.specs.Iteration.{ManagerState}
 use Rattle.event_manager.specs.Trace.{Effect, Stepped, Iterated, Entry, Matches, IsTrace}
 use Rattle.event_manager.specs.Guarantees.{AreRefusedTo, RemovedStayGone, IsUnknown, RemovedStayUnknown, steps_of, steps_of_effect}
@@ -28,11 +28,12 @@ module _ {V J R : Type 0} where
   unknown_at i (Stepped (Joined value id exchanges calls held)) c r m h = rw m.0 (λ same. let s : ◌≡◌ {A = Reply V} (reply.Added (Ok id)) (reply.Added (Ok i)) = sym m.1 ∙ same in h.0 cc)
   unknown_at i (Stepped (NotJoined value error)) c r m h = rw m.0 (λ same. let s : ◌≡◌ {A = Reply V} (reply.Added (Err error)) (reply.Added (Ok i)) = sym m.1 ∙ same in cc)
   unknown_at i (Stepped (Left id value calls)) c r m h = rw m.0 (λ same. absurd (h.0 same))
-  unknown_at i (Stepped (NotLeft id)) c r m h = rw m.0 (λ same. m.1)
   unknown_at i (Stepped (Replaced id old new)) c r m h = rw m.0 (λ same. absurd (h.0 same))
-  unknown_at i (Stepped (NotReplaced id)) c r m h = rw m.1 (λ same. m.2)
   unknown_at i (Stepped (Requested id exchanges calls)) c r m h = rw m.2 (λ same. absurd (h.0 same))
-  unknown_at i (Stepped (NotRequested id)) c r m h = rw m.1 (λ same. m.2)
+  unknown_at i (Stepped (Refused id)) (call.Remove other) r m h = λ same. m.1
+  unknown_at i (Stepped (Refused id)) (call.Set other value) r m h = λ same. m.1
+  unknown_at i (Stepped (Refused id)) (call.Ask other requests) r m h = λ same. m.1
+  unknown_at i (Stepped (Refused id)) c r m h = absurd m
   unknown_at i (Iterated iteration) c r m h = rw m.0 tt
 
   -- a removal that was agreed is a leave
@@ -40,11 +41,9 @@ module _ {V J R : Type 0} where
   refused_behind (Stepped (Joined other i exchanges calls held)) more id value m h = let s : ◌≡◌ {A = Call V} (call.Remove id) (call.Add other) = m.0 in cc
   refused_behind (Stepped (NotJoined other error)) more id value m h = let s : ◌≡◌ {A = Call V} (call.Remove id) (call.Add other) = m.0 in cc
   refused_behind (Stepped (Left i left calls)) more id value m h = let s : ◌≡◌ {A = Call V} (call.Remove id) (call.Remove i) = m.0 in let same : i ≡ id = cc in subst (λ k. AreRefusedTo k more) same h.0
-  refused_behind (Stepped (NotLeft i)) more id value m h = let s : ◌≡◌ {A = Reply V} (reply.Removed (Ok value)) (reply.Removed (Err InvalidId)) = m.1 in cc
   refused_behind (Stepped (Replaced i old new)) more id value m h = let s : ◌≡◌ {A = Call V} (call.Remove id) (call.Set i new) = m.0 in cc
-  refused_behind (Stepped (NotReplaced i)) more id value m h = let s : ◌≡◌ {A = Call V} (call.Remove id) (call.Set i m.0) = m.1 in cc
   refused_behind (Stepped (Requested i exchanges calls)) more id value m h = let s : ◌≡◌ {A = Call V} (call.Remove id) (call.Ask i m.0) = m.2 in cc
-  refused_behind (Stepped (NotRequested i)) more id value m h = let s : ◌≡◌ {A = Call V} (call.Remove id) (call.Ask i m.0) = m.1 in cc
+  refused_behind (Stepped (Refused i)) more id value m h = let s : ◌≡◌ {A = Reply V} (reply.Removed (Ok value)) (reply.Removed (Err InvalidId)) = m.1 in cc
   refused_behind (Iterated iteration) more id value m h = let s : ◌≡◌ {A = Call V} (call.Remove id) (call.Run iteration.ms) = m.0 in cc
 
 module _ {V J R : Type 0} (begins : V → Exchanges → V → Type 0) (serves : V → Event → Exchanges → V → Type 0) (may : J → List (Step V) → R → Type 0) where

@@ -1,9 +1,9 @@
 -- A replay is the run: of subscribers and jobs that are functions, the calls, the jobs and the poller decide all that happens.
-use Rattle.std.specs.Prelude.{◌≡◌, ℕ, List, [], ◌∷◌, ◌++◌, map, Contains, Ok, Err}
+use Rattle.std.specs.Prelude.{◌≡◌, ℕ, List, [], ◌∷◌, ◌++◌, ◌⊎◌, map, Contains, Ok, Err}
 use Rattle.std.specs.List.{AllZip, flat_map}
 use Rattle.dispatch_tables.specs.Event.{Event}
 use Rattle.event_loop.specs.Exchange.{Exchanges, Answer, answers_of}
-use Rattle.event_loop.specs.Registry.{Step, Joined, NotJoined, Left, NotLeft, Replaced, NotReplaced, Requested, NotRequested}
+use Rattle.event_loop.specs.Registry.{Step, Joined, NotJoined, Left, Replaced, Requested, Refused}
 use Rattle.event_loop.specs.Dispatch.{Position, exchanges_of}
 use Rattle.event_loop.specs.Iteration.{ManagerState, JobRun}
 use Rattle.event_loop.specs.declared.error.Error.TheVariants.{OutOfMemory}
@@ -34,15 +34,14 @@ pub data Asked (V : Type 0) : Type 0 where
   ToRequest : ℕ → Asked V
 
 module _ {V : Type 0} where
-  abbrev pub asked_of : Step V → Asked V
-  asked_of (Joined value id exchanges calls held) = ToJoin value
-  asked_of (NotJoined value error) = ToJoin value
-  asked_of (Left id value calls) = ToLeave id
-  asked_of (NotLeft id) = ToLeave id
-  asked_of (Replaced id old new) = ToHold id
-  asked_of (NotReplaced id) = ToHold id
-  asked_of (Requested id exchanges calls) = ToRequest id
-  asked_of (NotRequested id) = ToRequest id
+  -- the step is an answer to what was asked for
+  abbrev pub Answers : Asked V → Step V → Type 0
+  Answers asked (Joined value id exchanges calls held) = asked ≡ ToJoin value
+  Answers asked (NotJoined value error) = asked ≡ ToJoin value
+  Answers asked (Left id value calls) = asked ≡ ToLeave id
+  Answers asked (Replaced id old new) = asked ≡ ToHold id
+  Answers asked (Requested id exchanges calls) = asked ≡ ToRequest id
+  Answers asked (Refused id) = (asked ≡ ToLeave id) ⊎ (asked ≡ ToHold id) ⊎ (asked ≡ ToRequest id)
 
   -- the old value decides the new one; the requests ask alike
   abbrev pub GoAlike : Step V → Step V → Type 0
@@ -52,7 +51,7 @@ module _ {V : Type 0} where
 
   -- two steps that differ by their answers alone
   abbrev pub AreAlike : Step V → Step V → Type 0
-  AreAlike step other = (asked_of step ≡ asked_of other) × GoAlike step other
+  AreAlike step other = (asked : Asked V) × Answers asked step × Answers asked other × GoAlike step other
 
   -- both take the same steps for as long as they are answered the same
   abbrev pub StepsAlike : List (Step V) → List (Step V) → Type 0

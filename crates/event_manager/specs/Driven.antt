@@ -8,7 +8,7 @@ use Rattle.event_loop.specs.Dispatch.{Position, To, IsOutcome, still_pending}
 use Rattle.event_loop.specs.Iteration.{ManagerState}
 use Rattle.event_loop.specs.LoopState.{LoopState, manager_state}
 use Rattle.event_manager.specs.Trace.{Entry, IsTrace, calls_of_trace}
-use Rattle.event_manager.specs.Projection.{NonInterference, ProjectionKeeps, names}
+use Rattle.event_manager.specs.Projection.{NonInterference, names}
 use Rattle.event_manager.specs.Guarantees.{IsSound, AreGiven, RemovedStayGone, RemovedStayUnknown, IsUntouched, FreesExactly, steps_of}
 use Rattle.event_manager.specs.declared.calls.Call.{Call}
 use Rattle.event_manager.specs.declared.calls.Reply.{Reply}
@@ -24,8 +24,8 @@ module _ {S J R : Type 0} (begins : S → Exchanges → S → Type 0) (serves : 
       pub same_capacity : after.capacity ≡ before.capacity
 
   -- Of a trace: ids are given in order, each once; where each held id is below the next, that stays, and what was removed is refused from then on, as the replies alone say
-  -- too; each owner is held, and the endpoint is never owned; a projection to an id that is apart is itself a trace, with the same
-  -- replies, deliveries and values. Of each step and delivery in it: the other ids keep their value, descriptors and pending events; a leave frees exactly its descriptors.
+  -- too; each owner is held, and the endpoint is never owned; a projection to an id that is apart is itself a trace, up to the
+  -- id's own part of the state after. Of each step and delivery in it: the other ids keep their value, descriptors and pending events; a leave frees exactly its descriptors.
   pub record IsGuaranteed (before : ManagerState S) (trace : List (Entry S J R)) (after : ManagerState S) : Type 0 where
     pub given : AreGiven before.registry.next (steps_of trace) after.registry.next
     pub below : AreBelow before.registry.next before.registry.values → AreBelow after.registry.next after.registry.values
@@ -33,7 +33,6 @@ module _ {S J R : Type 0} (begins : S → Exchanges → S → Type 0) (serves : 
     pub unknown : AreBelow before.registry.next before.registry.values → RemovedStayUnknown (map (λ entry. entry.call) trace) (map (λ entry. entry.reply) trace)
     pub sound : IsSound before.registry → IsSound after.registry
     pub non_interference : NonInterference begins serves may before trace after
-    pub projection_keeps : ProjectionKeeps trace
     pub isolated_step : (from : Registry S) (step : Step S) (onto : Registry S) → Steps begins from step onto → (j : ℕ) → names j step ≡ false → IsUntouched j from onto
     pub isolated_delivery : (from : Registry S) (earlier : List (Position S)) (event : Event) (later : List Event) (i : ℕ) (exchanges : Exchanges) (calls : List PollerCall) (held : S) (onto : Registry S)
         → IsOutcome serves from earlier event later (To i exchanges calls held) onto

@@ -4,7 +4,7 @@ use Rattle.std.specs.declared.alloc.Global.{Global}
 use Rattle.dispatch_tables.specs.Event.{Event}
 use Rattle.event_loop.specs.PollerCall.{PollerCall, Controls, Waits, Leads}
 use Rattle.event_loop.specs.Exchange.{Exchanges, Answer, requests_of, answers_of}
-use Rattle.event_loop.specs.Registry.{Step, Requested, NotRequested, Replaced, NotReplaced}
+use Rattle.event_loop.specs.Registry.{Step, Requested, Replaced, Refused}
 use Rattle.event_loop.specs.LoopState.{LoopState, manager_state}
 use Rattle.event_manager.specs.Trace.{Effect, HasEffect, calls_of_effect}
 use Rattle.event_loop.specs.declared.error.Error.{Error}
@@ -25,12 +25,12 @@ answers_to (Run ms) = 0
 abbrev pub IsAsk : {V : Type 0} → ℕ → List Request → Result (Vec Answer Global) Error → Step V → Type 0
 IsAsk id requests (Ok answers) step =
     (exchanges : Exchanges) × (calls : List PollerCall) × (step ≡ Requested id exchanges calls) × (requests_of exchanges ≡ requests) × (answers_of exchanges ≡ answers.items)
-IsAsk id requests (Err error) step = (error ≡ InvalidId) × (step ≡ NotRequested id)
+IsAsk id requests (Err error) step = (error ≡ InvalidId) × (step ≡ Refused id)
 
 -- the step of another value, by what was answered
 abbrev pub IsReplacement : {V : Type 0} → ℕ → V → Result V Error → Step V → Type 0
 IsReplacement id value (Ok old) step = step ≡ Replaced id old value
-IsReplacement id value (Err error) step = (error ≡ InvalidId) × (step ≡ NotReplaced id)
+IsReplacement id value (Err error) step = (error ≡ InvalidId) × (step ≡ Refused id)
 
 -- a call had this effect
 pub record HasCalled {S J R P : Type 0} (begins : S → Exchanges → S → Type 0) (serves : S → Event → Exchanges → S → Type 0) (may : J → List (Step S) → R → Type 0) (controls : Controls P) (waits : Waits P) (before : LoopState S P) (effect : Effect S J R) (after : LoopState S P) : Type 0 where

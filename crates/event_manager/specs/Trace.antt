@@ -5,7 +5,7 @@ use Rattle.std.specs.declared.alloc.Global.{Global}
 use Rattle.dispatch_tables.specs.Event.{Event}
 use Rattle.event_loop.specs.PollerCall.{PollerCall}
 use Rattle.event_loop.specs.Exchange.{Exchanges, Answer, requests_of, answers_of}
-use Rattle.event_loop.specs.Registry.{Step, Steps, Joined, NotJoined, Left, NotLeft, Replaced, NotReplaced, Requested, NotRequested, calls_of, new_registry}
+use Rattle.event_loop.specs.Registry.{Step, Steps, Joined, NotJoined, Left, Replaced, Requested, Refused, calls_of, new_registry}
 use Rattle.event_loop.specs.Iteration.{ManagerState, Iteration, IsIteration, answer_of, calls_of_iteration}
 use Rattle.event_loop.specs.declared.error.Error.TheVariants.{InvalidId}
 use Rattle.event_loop.specs.declared.events.Request.{Request}
@@ -25,18 +25,23 @@ pub record Entry (V J R : Type 0) : Type 0 where
   pub reply : Reply V
   pub effect : Effect V J R
 
+-- the call is of this id, and the reply says that nobody has it
+abbrev pub IsRefused : {V : Type 0} → ℕ → Call V → Reply V → Type 0
+IsRefused i (call.Remove id) r = (id ≡ i) × (r ≡ reply.Removed (Err InvalidId))
+IsRefused i (call.Set id value) r = (id ≡ i) × (r ≡ reply.Set (Err InvalidId))
+IsRefused i (call.Ask id requests) r = (id ≡ i) × (r ≡ reply.Asked (Err InvalidId))
+IsRefused i c r = ⊥
+
 -- the call and the reply are those of the effect
 abbrev pub Matches : {V J R : Type 0} → Effect V J R → Call V → Reply V → Type 0
 Matches (Stepped (Joined value id exchanges calls held)) c r = (c ≡ call.Add value) × (r ≡ reply.Added (Ok id))
 Matches (Stepped (NotJoined value error)) c r = (c ≡ call.Add value) × (r ≡ reply.Added (Err error))
 Matches (Stepped (Left id value calls)) c r = (c ≡ call.Remove id) × (r ≡ reply.Removed (Ok value))
-Matches (Stepped (NotLeft id)) c r = (c ≡ call.Remove id) × (r ≡ reply.Removed (Err InvalidId))
 Matches (Stepped (Replaced id old new)) c r = (c ≡ call.Set id new) × (r ≡ reply.Set (Ok old))
-Matches {V} (Stepped (NotReplaced id)) c r = (new : V) × (c ≡ call.Set id new) × (r ≡ reply.Set (Err InvalidId))
 Matches (Stepped (Requested id exchanges calls)) c r =
     (requests : Vec Request Global) × (answers : Vec Answer Global) × (c ≡ call.Ask id requests) × (r ≡ reply.Asked (Ok answers))
     × (requests_of exchanges ≡ requests.items) × (answers_of exchanges ≡ answers.items)
-Matches (Stepped (NotRequested id)) c r = (requests : Vec Request Global) × (c ≡ call.Ask id requests) × (r ≡ reply.Asked (Err InvalidId))
+Matches (Stepped (Refused id)) c r = IsRefused id c r
 Matches (Iterated iteration) c r = (c ≡ call.Run iteration.ms) × (r ≡ reply.Ran (answer_of iteration.waited))
 
 module _ {V J R : Type 0} (begins : V → Exchanges → V → Type 0) (serves : V → Event → Exchanges → V → Type 0) (may : J → List (Step V) → R → Type 0) where

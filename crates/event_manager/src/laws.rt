@@ -15,7 +15,7 @@ ghost use Rattle.event_loop.specs.Registry.{Registry, Step, Steps, Left, AreBelo
 ghost use Rattle.event_loop.specs.Dispatch.{Position, Outcome, To, IsOutcome, still_pending};
 ghost use Rattle.event_loop.specs.Iteration.{ManagerState};
 ghost use Rattle.event_manager.specs.Trace.{Entry, HasEffect, IsTrace, new_state};
-ghost use Rattle.event_manager.specs.Projection.{NonInterference, ProjectionKeeps, names};
+ghost use Rattle.event_manager.specs.Projection.{NonInterference, names};
 ghost use Rattle.event_manager.specs.Guarantees.{AreGiven, steps_of, RemovedStayGone, RemovedStayUnknown, IsSound, IsUntouched, FreesExactly};
 ghost use Rattle.vmm_sys.specs.Recording.{Recording};
 ghost use Rattle.vmm_sys.specs.Replay.{Replay};
@@ -41,9 +41,8 @@ use vmm_sys::replay_poller::ReplayPoller;
 /// other id owns at the start, or adds with success, a descriptor that the id owns at the start or asks to add) is
 /// itself a trace, with the same replies to that id, the same deliveries and exchanges, and the same value at the end.
 pub fn non_interference<S: MutEventSubscriber, J: Job<S>>()
-    ensures traces { (before : ManagerState S) (trace : List (Entry S J J.Reply)) (after : ManagerState S) →
+    ensures { (before : ManagerState S) (trace : List (Entry S J J.Reply)) (after : ManagerState S) →
         IsTrace S.begins S.serves J.may before trace after → NonInterference S.begins S.serves J.may before trace after }
-    ensures keeps { (trace : List (Entry S J J.Reply)) → ProjectionKeeps trace }
 {}
 
 /// In every trace the ids that joins give follow each other from the next id on, each once; and where each held id is below

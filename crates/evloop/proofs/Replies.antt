@@ -10,7 +10,7 @@ use Rattle.event_manager.specs.Exchange.{Exchanges}
 use Rattle.event_manager.specs.Iteration.{ManagerState, answer_of}
 use Rattle.event_manager.specs.LoopState.{LoopState, manager_state}
 use Rattle.event_manager.specs.PollerCall.{Controls, Waits}
-use Rattle.event_manager.specs.Registry.{Step, Joined, NotJoined, Left, NotLeft, Replaced, NotReplaced, Requested, NotRequested}
+use Rattle.event_manager.specs.Registry.{Step, Joined, NotJoined, Left, Replaced, Requested, Refused}
 use Rattle.event_manager.specs.Trace.{Effect, Stepped, Iterated, Entry, Matches, IsTrace}
 use Rattle.evloop.specs.Calls.{IsReplyTo}
 
@@ -27,11 +27,8 @@ matching_reply : {S J R : Type 0} (effect : Effect S J R) (call : Call S) (reply
 matching_reply (Stepped (Joined value id exchanges calls held)) call reply h = is_of_call reply h.0 (Ok id, h.1)
 matching_reply (Stepped (NotJoined value error)) call reply h = is_of_call reply h.0 (Err error, h.1)
 matching_reply (Stepped (Left id value calls)) call reply h = is_of_call reply h.0 (Ok value, h.1)
-matching_reply (Stepped (NotLeft id)) call reply h = is_of_call reply h.0 (Err InvalidId, h.1)
 matching_reply (Stepped (Replaced id old new)) call reply h = is_of_call reply h.0 (Ok old, h.1)
-matching_reply (Stepped (NotReplaced id)) call reply h = is_of_call reply h.1 (Err InvalidId, h.2)
 matching_reply (Stepped (Requested id exchanges calls)) call reply h = is_of_call reply h.2 (Ok h.1, h.3)
-matching_reply (Stepped (NotRequested id)) call reply h = is_of_call reply h.1 (Err InvalidId, h.2)
 matching_reply (Iterated iteration) call reply h = is_of_call reply h.0 (answer_of iteration.waited, h.1)
 
 module _ {S J R : Type 0} (begins : S → Exchanges → S → Type 0) (serves : S → Event → Exchanges → S → Type 0) (may : J → List (Step S) → R → Type 0) where

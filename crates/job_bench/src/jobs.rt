@@ -47,12 +47,12 @@ impl Job<Counter> for CountOne {
 
     ghost use Rattle.std.specs.Prelude.{◌≡◌, [], ◌∷◌, ◌⊎◌, Ok, Err};
     ghost use Rattle.event_manager.specs.CounterEvents.{next_count};
-    ghost use Rattle.event_manager.specs.Registry.{Step, Replaced, NotReplaced};
+    ghost use Rattle.event_manager.specs.Registry.{Step, Replaced, Refused};
     ghost use Rattle.event_manager.specs.Error.TheVariants.{InvalidId};
     ghost use Rattle.job_bench.specs.declared.jobs.Counter.{Counter};
 
     ghost may = { λ self steps reply. ((old : Counter) × (steps ≡ Replaced self.0 old (record old { count = next_count old.count }) ∷ []))
-        ⊎ ((steps ≡ NotReplaced self.0 ∷ []) × (reply ≡ Err InvalidId)) };
+        ⊎ ((steps ≡ Refused self.0 ∷ []) × (reply ≡ Err InvalidId)) };
 
     ghost replies = { λ reply. Unit {0} };
 

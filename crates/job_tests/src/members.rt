@@ -75,10 +75,10 @@ impl<R: Wait + Drop> Job<Noting<R>> for Renumber {
     type Reply = Result<()>;
 
     ghost use Rattle.std.specs.Prelude.{◌≡◌, [], ◌∷◌, ◌⊎◌};
-    ghost use Rattle.event_manager.specs.Registry.{Step, Replaced, NotReplaced};
+    ghost use Rattle.event_manager.specs.Registry.{Step, Replaced, Refused};
     ghost use Rattle.fixtures.specs.declared.noting.Noting.{Noting};
 
-    ghost may = { λ self steps reply. ((old : Noting R) × (steps ≡ Replaced self.id old (record old { number = self.number }) ∷ [])) ⊎ (steps ≡ NotReplaced self.id ∷ []) };
+    ghost may = { λ self steps reply. ((old : Noting R) × (steps ≡ Replaced self.id old (record old { number = self.number }) ∷ [])) ⊎ (steps ≡ Refused self.id ∷ []) };
 
     ghost replies = { λ reply. Unit {0} };
 

@@ -68,10 +68,10 @@ impl Job<Stoppable> for Order {
     type Reply = Result<u64>;
 
     ghost use Rattle.std.specs.Prelude.{◌≡◌, [], ◌∷◌, ◌⊎◌, Ok};
-    ghost use Rattle.event_manager.specs.Registry.{Replaced, NotReplaced};
+    ghost use Rattle.event_manager.specs.Registry.{Replaced, Refused};
     ghost use Rattle.sender_tests.specs.declared.value_in_a_subscriber.Stoppable.{Stoppable};
 
-    ghost may = { λ self steps reply. ((old new : Stoppable) × (steps ≡ Replaced self.id old new ∷ []) × (reply ≡ Ok old.value)) ⊎ (steps ≡ NotReplaced self.id ∷ []) };
+    ghost may = { λ self steps reply. ((old new : Stoppable) × (steps ≡ Replaced self.id old new ∷ []) × (reply ≡ Ok old.value)) ⊎ (steps ≡ Refused self.id ∷ []) };
 
     ghost replies = { λ reply. Unit {0} };
 

@@ -1,6 +1,6 @@
 use Rattle.std.proofs.Common.{refl, ap, [], ◌∷◌}
-use Rattle.event_manager.specs.Registry.{Replaced, NotReplaced}
-use Rattle.event_manager.proofs.OneStep.{replaced_step, not_replaced_step}
+use Rattle.event_manager.specs.Registry.{Replaced, Refused}
+use Rattle.event_manager.proofs.OneStep.{replaced_step, refused_step}
 use Rattle.accounts.proofs.order.OrderJobAccount.call.Goals as goal
 
 pub returns-in-Some-clause-stepped : goal.returns-in-Some-clause-stepped
@@ -29,9 +29,9 @@ pub returns-in-Err-clause-stepped : goal.returns-in-Err-clause-stepped
 returns-in-Err-clause-stepped g c =
     let id = c.in-Deposit.id in
     rw c.in-Deposit.is (
-      NotReplaced id ∷ [],
+      Refused id ∷ [],
       refl,
-      not_replaced_step _ _ id c.in-Err.ensures.lost.1 (rw c.in-Err.is at c.subscriber_mut.follows.holds-at-none),
+      refused_step _ _ id c.in-Err.ensures.lost.1 (rw c.in-Err.is at c.subscriber_mut.follows.holds-at-none),
     )
 
 pub returns-in-Ok-subscriber_mut-clause-stepped : goal.returns-in-Ok-subscriber_mut-clause-stepped
@@ -48,7 +48,7 @@ pub returns-in-Err-subscriber_mut-clause-stepped : goal.returns-in-Err-subscribe
 returns-in-Err-subscriber_mut-clause-stepped g c =
     let id = c.in-Read.id in
     rw c.in-Read.is (
-      NotReplaced id ∷ [],
+      Refused id ∷ [],
       refl,
-      not_replaced_step _ _ id c.in-Err-subscriber_mut.ensures.lost.1 (rw c.in-Err-subscriber_mut.is at c.subscriber_mut-in-Read.follows.holds-at-none),
+      refused_step _ _ id c.in-Err-subscriber_mut.ensures.lost.1 (rw c.in-Err-subscriber_mut.is at c.subscriber_mut-in-Read.follows.holds-at-none),
     )

@@ -1,5 +1,5 @@
 use Rattle.std.proofs.Common.{refl, sym, ap, []}
-use Rattle.event_loop.specs.Registry.{Left, NotLeft}
+use Rattle.event_loop.specs.Registry.{Left, Refused}
 use Rattle.event_loop.specs.RegistrationState.{RegistrationState, registrations_of}
 use Rattle.event_loop.specs.Subscribers.{idle}
 use Rattle.event_loop.proofs.registry.Registry.leave.Goals as goal
@@ -24,4 +24,4 @@ pub returns-in-None : goal.returns-in-None
 returns-in-None g c =
     let old = c.args.self.now in
     let same = ap (λ values. idle (record { values = values; next = old.next; registrations = registrations_of old.ops.epoll.registrations })) c.in-None.ensures.absent in
-    (NotLeft c.args.id, (refl, refl), record { stepped = (sym c.in-None.ensures.value, same); led = refl; same_taken = refl; same_capacity = refl })
+    (Refused c.args.id, (refl, refl), record { stepped = (sym c.in-None.ensures.value, same); led = refl; same_taken = refl; same_capacity = refl })

@@ -1,6 +1,6 @@
 use Rattle.std.proofs.Common.{rules, refl, [], ◌∷◌, inl, inr}
-use Rattle.event_manager.specs.Registry.{Replaced, NotReplaced}
-use Rattle.event_manager.proofs.OneStep.{replaced_step, not_replaced_step}
+use Rattle.event_manager.specs.Registry.{Replaced, Refused}
+use Rattle.event_manager.proofs.OneStep.{replaced_step, refused_step}
 use Rattle.sender_tests.proofs.value_in_a_subscriber.OrderJobStoppable.call.Goals as goal
 
 pub returns-in-Ok-clause-stepped : goal.returns-in-Ok-clause-stepped
@@ -14,7 +14,7 @@ returns-in-Ok-clause-stepped g c =
 
 pub returns-in-Err-clause-stepped : goal.returns-in-Err-clause-stepped
 returns-in-Err-clause-stepped g c = (
-  NotReplaced c.args.self.id ∷ [],
+  Refused c.args.self.id ∷ [],
   inr refl,
-  not_replaced_step _ _ c.args.self.id c.in-Err.ensures.lost.1 (rw c.in-Err.is at c.subscriber_mut.follows.holds-at-none),
+  refused_step _ _ c.args.self.id c.in-Err.ensures.lost.1 (rw c.in-Err.is at c.subscriber_mut.follows.holds-at-none),
 )
