@@ -1,6 +1,6 @@
 //! How long repeats take.
 
-use anyhow::Result;
+use anyhow::{Error, Result};
 use std::time::{Clock, Instant};
 
 /// How often each measure is repeated.
@@ -15,16 +15,17 @@ pub struct Times {
 impl Times {
     /// Does the work 5 times, and looks at the clock before and after each. Refused as the work is, and where the clock
     /// can't be read.
-    pub fn of<F, R>(mut work: F, rt: &R) -> Result<Times>
+    pub fn of<F, E, R>(mut work: F, rt: &R) -> Result<Times>
     where
-        F: FnMut() -> Result<()>,
+        F: FnMut() -> std::result::Result<(), E>,
+        E: Into<Error>,
         R: Clock,
         requires { F.IsAlwaysCallable work }
     {
         let mut nanoseconds = [0; 5];
         for k in 0..5usize {
             let start = Instant::now(rt)?;
-            work()?;
+            work().map_err(|error| error.into())?;
             nanoseconds[k] = start.elapsed(rt)?.as_nanos();
         }
         nanoseconds.sort_unstable();
