@@ -1,5 +1,5 @@
 -- What keeps owners and watch lists consistent.
-use Rattle.std.proofs.Common.{◌≡◌, ℕ, ◌<◌, ◌≤◌, ◌^◌, sym, ap, subst, ◌∙◌, [], length, get_or, Option, Some, None, is_some, IsSome, arith, nat_cmp, cond, true, List}
+use Rattle.std.proofs.Common.{◌≡◌, ℕ, ◌<◌, ◌^◌, sym, ap, subst, ◌∙◌, Option, Some, None, is_some, IsSome, arith, nat_cmp, cond, true, List}
 use Rattle.std.proofs.lemmas.Bool.{false≢true}
 use Rattle.std.specs.FinMap.{get, insert, remove, empty, len, get-empty}
 use Rattle.event_loop.specs.Consistency.{AreConsistent, AreWatched}
@@ -11,10 +11,9 @@ use Rattle.dispatch_tables.specs.WatchLists.{times_in, times_watched, AreDistinc
 use Rattle.event_loop.specs.ReadyList.{AreDescriptors}
 use Rattle.dispatch_tables.specs.declared.watch_lists.WatchLists.{WatchLists}
 use Rattle.dispatch_tables.proofs.Counting.{held_one, one_fewer}
-use Rattle.dispatch_tables.proofs.MapEntries.{remove_insert}
 use Rattle.dispatch_tables.proofs.Owning.{owned_is_some}
 use Rattle.dispatch_tables.proofs.RaisedOwners.{none_counted}
-use Rattle.event_loop.proofs.Watching.{watched_pushed, watched_removed, watched_same, watched_taken, descriptors_pushed, descriptors_removed, descriptors_taken}
+use Rattle.event_loop.proofs.Watching.{watched_pushed, watched_removed, watched_taken, descriptors_pushed, descriptors_removed, descriptors_taken}
 
 -- no registration
 pub consistent_new : (lists : WatchLists) → ((i fd : ℕ) → times_watched lists i fd ≡ 0) → AreDistinct lists → AreConsistent empty 0 0 lists

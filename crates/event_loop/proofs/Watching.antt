@@ -1,5 +1,5 @@
 -- Watch lists beside the owners: how often a descriptor stands in a list.
-use Rattle.std.proofs.Common.{◌≡◌, ℕ, ◌+◌, ◌==◌, ◌<◌, ◌≤◌, refl, sym, ap, subst, ◌∙◌, List, [], Bool, true, false, not, cond, Option, Some, None, inl, inr, arith, length, get_or, take, Contains, nat_cmp, nat_lt, IsSome, All, AllPairs, ◌≢◌, ◌^◌}
+use Rattle.std.proofs.Common.{◌≡◌, ℕ, ◌+◌, ◌==◌, ◌<◌, ◌≤◌, refl, sym, ap, subst, ◌∙◌, List, Bool, true, false, not, cond, Option, Some, None, inl, inr, arith, length, get_or, take, Contains, nat_cmp, nat_lt, IsSome, All, AllPairs, ◌≢◌, ◌^◌}
 use Rattle.std.proofs.lemmas.Bool.{false≢true}
 use Rattle.std.proofs.lemmas.Bool.Decides.{nat_tests, eqb_tells}
 use Rattle.std.specs.List.Sorted.{IsNonDecreasing}

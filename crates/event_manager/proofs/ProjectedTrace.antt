@@ -54,8 +54,8 @@ module _ {V J R : Type 0} (i : ℕ) where
       → IsProjection i trace projected → IsProjection i (entry ∷ trace) (record entry { effect = shown } ∷ projected)
   one_more_seen entry trace projected shown is stay h = (
     seen_first (record entry { effect = shown }) projected (shown_stays entry.effect shown is stay)
-    ∙ ap₂ (λ x xs. record entry { effect = x } ∷ xs) (seen_alike entry.effect shown is) h.0
-    ∙ sym (seen_first entry trace stay),
+        ∙ ap₂ (λ x xs. record entry { effect = x } ∷ xs) (seen_alike entry.effect shown is) h.0
+        ∙ sym (seen_first entry trace stay),
     All-cons (λ (e : Entry V J R). IsOnly i e.effect) (record entry { effect = shown }) projected (shown_only entry.effect shown is stay) h.1,
   )
 

@@ -1,4 +1,4 @@
-use Rattle.std.proofs.Common.{refl, arith, sym, ap, ◌∙◌, ◌+◌}
+use Rattle.std.proofs.Common.{arith, sym, ap, ◌∙◌, ◌+◌}
 use Rattle.std.specs.FinMap.{len}
 use Rattle.dispatch_tables.specs.Ownership.{Ownership}
 use Rattle.dispatch_tables.proofs.Counting.{one_more_owner}

@@ -1,4 +1,3 @@
-use Rattle.std.proofs.Common.{◌∙◌}
 use Rattle.event_loop.proofs.Consistent.{consistent_removed, fewer_owners}
 use Rattle.event_loop.proofs.Watching.{listed_once}
 use Rattle.event_loop.proofs.registrations.Registrations.unregister.Goals as goal
