@@ -1,5 +1,5 @@
 -- What each change of a place does to the subscribers by id and to the index.
-use Rattle.std.proofs.Common.{◌≡◌, ◌≢◌, ◌⊎◌, ◌↔◌, ℕ, zero, suc, ◌<◌, List, [], ◌∷◌, ◌++◌, map, length, get_or, set, Option, Some, None, Bool, true, false, cond, is_some, IsSome, slice_get, refl, sym, ap, subst, ◌∙◌, inl, inr, arith, nat_eq, nat_cmp}
+use Rattle.std.proofs.Common.{◌≡◌, ◌≢◌, ◌⊎◌, ◌↔◌, ℕ, zero, suc, ◌<◌, ◌≤◌, List, [], ◌∷◌, ◌++◌, map, length, get_or, set, Option, Some, None, Bool, true, false, cond, is_some, IsSome, slice_get, refl, sym, ap, subst, ◌∙◌, inl, inr, arith, nat_eq, nat_cmp}
 use Rattle.std.proofs.lemmas.Bool.{cases_eq, cases_lt, false≢true}
 use Rattle.std.proofs.lemmas.Bool.Decides.{eqb_tells}
 use Rattle.std.proofs.lemmas.List.{map-set, length-map, get_or-map, get_or-set_same, get_or-set_other, get_or_past}
@@ -9,9 +9,18 @@ use Rattle.std.specs.Ordering.{eq_by_cmp, is_eq}
 use Rattle.std.specs.FinMap.{FinMap, find, get, insert, remove, same_map, get-insert, get-remove, get-from_entries, nat_cmp-IsAntisymmetric}
 use Rattle.dispatch_tables.specs.declared.places.Place.{Place}
 use Rattle.dispatch_tables.specs.declared.places.Place.TheVariants.{Held, Vacant}
-use Rattle.dispatch_tables.specs.Places.{held_id, subscriber_of, with_subscriber, id_at, subscriber_at, entries_of, values_of, AreIndexed, AreLinked, AreSound, HaveSameHolders}
+use Rattle.dispatch_tables.specs.Places.{held_id, subscriber_of, with_subscriber, id_at, subscriber_at, entries_of, values_of, AreUpTo, AreIndexed, AreLinked, AreSound, HaveSameHolders}
 use Rattle.dispatch_tables.proofs.NumberTests.{nat_tied, fd_tells}
 use Rattle.dispatch_tables.proofs.VacantPlaces.{none_some, same_some, linked_fill, linked_vacate, linked_rewrite}
+
+-- another place, or none, for one id
+pub up_to_changed : (newest later_newest : ℕ) (index later : ℕ → Option ℕ) (id : ℕ) (o : Option ℕ) → AreUpTo newest index → newest ≤ later_newest → (later_newest < id → o ≡ None)
+    → ((j : ℕ) → later j ≡ cond (nat_eq id j) o (index j)) → AreUpTo later_newest later
+up_to_changed newest later_newest index later id o kept more own changed j above =
+    changed j ∙ elim (eqb_tells id j) [
+      | inl p ↦ ap (λ b. cond b o (index j)) p.0 ∙ own (subst (λ k. later_newest < k) (sym p.1) above)
+      | inr p ↦ ap (λ b. cond b o (index j)) p.0 ∙ kept j (omega (arith, more, above))
+    ]
 
 module _ {S : Type 0} where
   -- who stands at a place after a write

@@ -1,15 +1,16 @@
 //! Who owns which descriptor, and at which priority.
 
-ghost use Rattle.std.specs.Prelude.{◌≡◌, ◌<◌, ◌≤◌, length, None, Some, OnOk, OnErr};
+ghost use Rattle.std.specs.Prelude.{◌≡◌, ◌<◌, ◌≤◌, length, None, Some, option_map, OnOk, OnErr};
 ghost use Rattle.std.specs.FinMap as map;
 ghost use Rattle.dispatch_tables.specs.Priority.{number_of};
 ghost use Rattle.dispatch_tables.specs.Ownership.{class_in};
-ghost use Rattle.dispatch_tables.specs.Owners.{ownership_of, owner_at, owner_in, HasOwnerAt, HaveSameOwners, IsOwnerAt};
+ghost use Rattle.dispatch_tables.specs.Owners.{ownership_of, owner_in, ownership_in, entry_ownership, ownership_at, HasOwnerAt, HaveSameOwners, IsOwnerAt};
 
 use crate::priority::Priority;
 use std::alloc::{AllocError, Global};
 use std::collections::HashMap;
 use std::marker::Model;
+use std::mem;
 
 /// Descriptors below this number are low: their owners stand in a vector, by descriptor.
 const LOW_DESCRIPTORS: u32 = 1048576;
@@ -24,11 +25,67 @@ pub struct Owner {
     pub priority: Priority,
 }
 
+/// What the vector of the low owners has at a descriptor.
+///
+/// The fields stand so that they take 24 bytes. Place and position are compared where they are used; one that 32 bits don't
+/// hold is kept as the highest number.
+#[derive(Clone, Copy)]
+enum Entry {
+    Vacant,
+    Owned {
+        priority: Priority,
+        place: u32,
+        id: u64,
+        position: u32,
+    },
+}
+
+const _: () = prove!(size_of::<Entry>() == 24);
+
+impl Entry {
+    /// The entry of an owner.
+    fn of(owner: Owner) -> Entry
+        ensures { entry_ownership result ≡ Some (ownership_of owner) }
+    {
+        Entry::Owned {
+            priority: owner.priority,
+            place: shortened(owner.place),
+            id: owner.id,
+            position: shortened(owner.position),
+        }
+    }
+
+    /// The owner, if there is one.
+    fn owner(&self) -> Option<Owner>
+        ensures { option_map ownership_of result ≡ entry_ownership self.now }
+    {
+        match *self {
+            Entry::Vacant => None,
+            Entry::Owned {
+                priority,
+                place,
+                id,
+                position,
+            } => Some(Owner {
+                id,
+                place: place as usize,
+                position: position as usize,
+                priority,
+            }),
+        }
+    }
+}
+
+/// A place or a position in 32 bits.
+fn shortened(index: usize) -> u32 {
+    u32::try_from(index).unwrap_or(u32::MAX)
+}
+
 /// The owners of the descriptors. A look-up of a low descriptor reads one place of a vector, which is as long as the
 /// highest low descriptor that was ever added; one of another descriptor searches a hash map.
 #[derive(Drop)]
 pub struct Owners {
-    low: Vec<Option<Owner>>,
+    low: Vec<Entry>,
     high: HashMap<u32, Owner>,
 }
 
@@ -57,13 +114,14 @@ impl Owners {
     }
 
     /// The owner of the descriptor.
+    #[inline(always)]
     pub fn get(&self, fd: u32) -> Option<Owner>
         ensures { IsOwnerAt self.now fd result }
     {
         if fd < LOW_DESCRIPTORS {
             return copy_at(&self.low, fd as usize);
         }
-        self.high.get(&fd).copied()
+        find_in(&self.high, fd)
     }
 
     /// The class of the descriptor: its priority, the lowest where it has no owner.
@@ -116,62 +174,66 @@ impl Owners {
 }
 
 /// Notes another position beside the owner at a descriptor, if it has one.
-fn set_position_at(low: &mut Vec<Option<Owner>>, fd: usize, position: usize)
+fn set_position_at(low: &mut Vec<Entry>, fd: usize, new_position: usize)
     ensures len { length low.new.items ≡ length low.old.items }
-    ensures same { HaveSameOwners (owner_at low.old.items) (owner_at low.new.items) }
+    ensures same { HaveSameOwners (ownership_at low.old.items) (ownership_at low.new.items) }
 {
     if fd < low.len() {
-        if let Some(owner) = &mut low[fd] {
-            owner.position = position;
+        if let Entry::Owned { position, .. } = &mut low[fd] {
+            *position = shortened(new_position);
         }
     }
 }
 
 /// The same of an owner in the map.
 fn set_position_in(high: &mut HashMap<u32, Owner>, fd: u32, position: usize)
-    ensures { HaveSameOwners (owner_in high.old.entries) (owner_in high.new.entries) }
+    ensures { HaveSameOwners (ownership_in high.old.entries) (ownership_in high.new.entries) }
 {
     if let Some(owner) = high.get_mut(&fd) {
         owner.position = position;
     }
 }
 
+/// The owner of a descriptor in the map.
+#[inline(never)]
+fn find_in(high: &HashMap<u32, Owner>, fd: u32) -> Option<Owner>
+    ensures { result ≡ owner_in high.now.entries fd }
+{
+    high.get(&fd).copied()
+}
+
 /// Puts an owner at a descriptor, and makes the vector as long as it takes. Where memory is refused, it stays.
-fn put_at(
-    low: &mut Vec<Option<Owner>>,
-    fd: usize,
-    owner: Owner,
-) -> std::result::Result<(), AllocError>
+fn put_at(low: &mut Vec<Entry>, fd: usize, owner: Owner) -> std::result::Result<(), AllocError>
     requires { fd < 1048576 }
     ensures len { length low.old.items ≤ 1048576 → length low.new.items ≤ 1048576 }
-    ensures ok { OnOk result (HasOwnerAt low.old.items fd (Some owner) low.new.items) }
+    ensures ok { OnOk result (HasOwnerAt low.old.items fd (Some (ownership_of owner)) low.new.items) }
     ensures err { OnErr result (low.new.items ≡ low.old.items) }
 {
     if fd >= low.len() {
-        low.resize(fd + 1, None)?;
+        low.resize(fd + 1, Entry::Vacant)?;
     }
-    low[fd] = Some(owner);
+    low[fd] = Entry::of(owner);
     Ok(())
 }
 
 /// The owner at a descriptor.
-fn copy_at(low: &[Option<Owner>], fd: usize) -> Option<Owner>
-    ensures { result ≡ owner_at low.now fd }
+fn copy_at(low: &[Entry], fd: usize) -> Option<Owner>
+    ensures { option_map ownership_of result ≡ ownership_at low.now fd }
 {
     match low.get(fd) {
-        Some(owner) => *owner,
+        Some(entry) => entry.owner(),
         None => None,
     }
 }
 
 /// Takes out the owner at a descriptor, and answers it.
-fn take_at(low: &mut Vec<Option<Owner>>, fd: usize) -> Option<Owner>
-    ensures value { result ≡ owner_at low.old.items fd }
+fn take_at(low: &mut Vec<Entry>, fd: usize) -> Option<Owner>
+    ensures value { option_map ownership_of result ≡ ownership_at low.old.items fd }
     ensures taken { HasOwnerAt low.old.items fd None low.new.items }
     ensures len { length low.new.items ≡ length low.old.items }
 {
     if fd < low.len() {
-        return low[fd].take();
+        return mem::replace(&mut low[fd], Entry::Vacant).owner();
     }
     None
 }

@@ -67,6 +67,8 @@ pub struct SubscriberPlaces<S> {
     first_vacant: Option<usize>,
     // The place of each id.
     index: HashMap<u64, usize>,
+    // No later id has a place.
+    newest: u64,
 }
 
 impl<S> Model for SubscriberPlaces<S> {
@@ -80,14 +82,23 @@ impl<S> Model for SubscriberPlaces<S> {
 
     ghost coded = { map.code coded_ℕ S.code };
 
-    ghost use Rattle.dispatch_tables.specs.Places.{values_of, AreSound};
+    ghost use Rattle.dispatch_tables.specs.Places.{values_of, AreSound, AreUpTo};
 
     ghost view = { λ s. values_of s.places.items };
 
-    ghost invariant = { λ s. AreSound s.places.items s.first_vacant (get nat_eq s.index) };
+    ghost invariant = { λ s. AreSound s.places.items s.first_vacant (get nat_eq s.index) × AreUpTo s.newest (get nat_eq s.index) };
+}
+
+/// The place of the id by the index.
+#[inline(never)]
+fn place_in(index: &HashMap<u64, usize>, id: u64) -> Option<usize>
+    ensures { result ≡ get nat_eq index.now id }
+{
+    index.get(&id).copied()
 }
 
 /// The place that holds the id: looked for at the hint first, and by the index only where it isn't held there.
+#[inline(always)]
 fn place_by_hint<S>(
     places: &[Place<S>],
     index: &HashMap<u64, usize>,
@@ -102,7 +113,7 @@ fn place_by_hint<S>(
             return Some(hint);
         }
     }
-    index.get(&id).copied()
+    place_in(index, id)
 }
 
 /// The vacant place that is taken next. Where there is none, one more place is made; where memory for that is refused,
@@ -140,6 +151,7 @@ impl<S> SubscriberPlaces<S> {
             places: Vec::new(alloc),
             first_vacant: None,
             index: HashMap::new(alloc),
+            newest: 0,
         }
     }
 
@@ -156,6 +168,7 @@ impl<S> SubscriberPlaces<S> {
             Ok(_) => {}
             Err(_) => return Err(AllocError),
         }
+        self.newest = self.newest.max(id);
         match mem::replace(&mut self.places[place], Place::Held(id, subscriber)) {
             Place::Vacant(next) => self.first_vacant = next,
             Place::Held(_, _) => unreachable!(),
@@ -207,6 +220,9 @@ impl<S> SubscriberPlaces<S> {
     pub fn place_of(&self, id: u64) -> Option<usize>
         ensures { is_some result ≡ is_some (map.get self.now id) }
     {
+        if self.newest < id {
+            return None;
+        }
         self.index.get(&id).copied()
     }
 
@@ -233,6 +249,7 @@ impl<S> SubscriberPlaces<S> {
 
     /// Lends the subscriber of the id, as [`get_mut`](SubscriberPlaces::get_mut) does whatever the place is; without a
     /// search where it is the subscriber's place.
+    #[inline(always)]
     pub fn get_mut_at(&mut self, place: usize, id: u64) -> Option<&mut S>
         ensures* lent { sem 𝓛 (LendsIf (the_row S.row) S.row self.entry result (map.insert self.old id) self.old) }
         ensures value { option_copied_mut result ≡ map.get self.old id }

@@ -1,4 +1,4 @@
-use Rattle.std.proofs.Common.{◌≡◌, ℕ, List, Option, Some, None, MatchOption, sym, ◌∙◌}
+use Rattle.std.proofs.Common.{◌≡◌, ℕ, List, Option, Some, None, MatchOption, sym}
 use Rattle.dispatch_tables.specs.Places.{id_at, AreIndexed}
 use Rattle.dispatch_tables.specs.declared.places.Place.{Place}
 use Rattle.dispatch_tables.proofs.places.place_by_hint.Goals as goal
@@ -8,4 +8,4 @@ by_index places index id indexed None is = sym is
 by_index places index id indexed (Some place) is = (indexed id place).0 (sym is)
 
 pub returns : goal.returns
-returns g c = by_index _ _ c.args.id c.requires _ (c.copied.ensures ∙ c.get-2.ensures.value)
+returns g c = by_index _ _ c.args.id c.requires _ c.place_in.ensures

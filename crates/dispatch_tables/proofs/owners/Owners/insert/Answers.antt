@@ -5,7 +5,7 @@ use Rattle.dispatch_tables.proofs.owners.Owners.insert.Goals as goal
 pub returns-then-fd-lt-LOW_DESCRIPTORS-clause-ok : goal.returns-then-fd-lt-LOW_DESCRIPTORS-clause-ok
 returns-then-fd-lt-LOW_DESCRIPTORS-clause-ok c =
     let b = c.self.inside in
-    rw (← c.self.view_is) (owner_put_low b.low.items c.put_at.new.low.items b.high.entries b.high.entries c.args.fd c.self.invariant c.args.owner c.in_ok-put_at.ensures.ok)
+    rw (← c.self.view_is) (owner_put_low b.low.items c.put_at.new.low.items b.high.entries b.high.entries c.args.fd c.self.invariant _ c.in_ok-put_at.ensures.ok)
 
 pub invariant_of-self-2 : goal.invariant_of-self-2
 invariant_of-self-2 c =

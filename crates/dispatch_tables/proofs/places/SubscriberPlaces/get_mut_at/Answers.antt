@@ -4,19 +4,19 @@ use Rattle.dispatch_tables.proofs.PlaceLemmas.{read_subscriber, sound_rewrite, v
 use Rattle.dispatch_tables.proofs.places.SubscriberPlaces.get_mut_at.Goals as goal
 
 pub place_by_hint-requires : goal.place_by_hint-requires
-place_by_hint-requires g c = rw c.deref.ensures.value c.self.invariant.indexed
+place_by_hint-requires g c = rw c.deref.ensures.value c.self.invariant.0.indexed
 
 pub invariant_of-self-lent : goal.invariant_of-self-lent
-invariant_of-self-lent g c w = sound_rewrite _ _ _ c.args.id c.in-Some.place c.index_mut.result.now c.self.invariant (rw c.deref.ensures.value at c.in-Some.ensures) c.index_mut.ensures.value w
+invariant_of-self-lent g c w = (sound_rewrite _ _ _ c.args.id c.in-Some.place c.index_mut.result.now c.self.invariant.0 (rw c.deref.ensures.value at c.in-Some.ensures) c.index_mut.ensures.value w, c.self.invariant.1)
 
 pub returns-in-Some : goal.returns-in-Some
 returns-in-Some g c =
     let held = (rw c.deref.ensures.value at c.in-Some.ensures) in
-    let kept = c.self.invariant in (
+    let kept = c.self.invariant.0 in (
       rw (← c.self.view_is) (λ i. inl (c.subscriber_mut.result.ghost_name, λ w. values_rewrite _ _ _ c.args.id c.in-Some.place c.index_mut.result.now kept held c.index_mut.ensures.value w i)),
       record { lent = tt; value = rw (← c.self.view_is) (sym c.subscriber_mut.ensures.value ∙ sym (read_subscriber _ _ c.in-Some.place c.args.id c.index_mut.result.now kept.indexed held c.index_mut.ensures.value)) },
     )
 
 pub returns-in-None : goal.returns-in-None
 returns-in-None g c =
-    (ap inr c.self.view_is, record { lent = tt; value = rw (← c.self.view_is) (sym (no_place _ _ c.args.id c.self.invariant.indexed c.in-None.ensures)) })
+    (ap inr c.self.view_is, record { lent = tt; value = rw (← c.self.view_is) (sym (no_place _ _ c.args.id c.self.invariant.0.indexed c.in-None.ensures)) })

@@ -2,17 +2,19 @@ use Rattle.std.proofs.Common.{Some, ◌∙◌, sym, ap, arith, nat_eq}
 use Rattle.std.specs.Map.{lookup}
 use Rattle.std.proofs.lemmas.Option.{slice_get_within}
 use Rattle.dispatch_tables.proofs.VacantPlaces.{first_is_vacant, read_vacant, vacant_is_not_held}
-use Rattle.dispatch_tables.proofs.PlaceLemmas.{sound_fill, values_fill, indexed_same, indexed_again}
+use Rattle.dispatch_tables.proofs.PlaceLemmas.{sound_fill, values_fill, indexed_same, indexed_again, up_to_changed}
 use Rattle.dispatch_tables.proofs.places.SubscriberPlaces.insert_new.Goals as goal
 
 pub invariant_of-self : goal.invariant_of-self
 invariant_of-self g c =
-    record { indexed = indexed_same _ _ _ c.vacant_place.ensures.holders c.self.invariant.indexed; linked = c.vacant_place.ensures.linked }
+    (record { indexed = indexed_same _ _ _ c.vacant_place.ensures.holders c.self.invariant.0.indexed; linked = c.vacant_place.ensures.linked }, c.self.invariant.1)
 
 pub invariant_of-self-in-Err : goal.invariant_of-self-in-Err
 invariant_of-self-in-Err g c =
-    let indexed = indexed_same _ _ _ c.vacant_place.ensures.holders c.self.invariant.indexed in
-    record { indexed = indexed_again _ _ _ (λ id. ap (lookup (nat_eq id)) c.in-Err.ensures.err) indexed; linked = c.vacant_place.ensures.linked }
+    let indexed = indexed_same _ _ _ c.vacant_place.ensures.holders c.self.invariant.0.indexed in (
+      record { indexed = indexed_again _ _ _ (λ id. ap (lookup (nat_eq id)) c.in-Err.ensures.err) indexed; linked = c.vacant_place.ensures.linked },
+      λ j above. ap (lookup (nat_eq j)) c.in-Err.ensures.err ∙ c.self.invariant.1 j above,
+    )
 
 pub index_mut-requires : goal.index_mut-requires
 index_mut-requires g c =
@@ -24,10 +26,12 @@ pub invariant_of-self-in-Vacant : goal.invariant_of-self-in-Vacant
 invariant_of-self-in-Vacant g c =
     let linked = rw c.in_ok-place.ensures.first at c.vacant_place.ensures.linked in
     let vacant = read_vacant _ c.in_ok-place.place c.index_mut.result.now linked c.index_mut.ensures.value ∙ ap Some (sym c.replace.ensures.value ∙ c.in-Vacant.is) in
-    let same = c.vacant_place.ensures.holders in
-    rw c.replace.ensures.after
-    (sound_fill _ _ _ c.args.id c.in_ok-place.place c.in-Vacant.next c.args.subscriber (indexed_same _ _ _ same c.self.invariant.indexed) linked vacant
-    (rw (same.values, c.self.view_is) c.requires) c.in-Ok.ensures.updates.0)
+    let same = c.vacant_place.ensures.holders in (
+      rw c.replace.ensures.after
+          (sound_fill _ _ _ c.args.id c.in_ok-place.place c.in-Vacant.next c.args.subscriber (indexed_same _ _ _ same c.self.invariant.0.indexed) linked vacant
+          (rw (same.values, c.self.view_is) c.requires) c.in-Ok.ensures.updates.0),
+      up_to_changed _ _ _ _ c.args.id (Some c.in_ok-place.place) c.self.invariant.1 (omega (arith, c.max-self-inside.ensures)) (λ above. absurd (omega (arith, c.max-self-inside.ensures, above))) c.in-Ok.ensures.updates.0,
+    )
 
 pub unreachable-requires : goal.unreachable-requires
 unreachable-requires g c =
@@ -40,5 +44,5 @@ returns-clause-ok g c =
     let vacant = read_vacant _ c.in_ok-place.place c.index_mut.result.now linked c.index_mut.ensures.value ∙ ap Some (sym c.replace.ensures.value ∙ c.in-Vacant.is) in
     let same = c.vacant_place.ensures.holders in
     rw (c.replace.ensures.after, ← c.self.view_is, ← same.values)
-    (values_fill _ _ _ c.args.id c.in_ok-place.place c.in-Vacant.next c.args.subscriber (indexed_same _ _ _ same c.self.invariant.indexed) linked vacant
+    (values_fill _ _ _ c.args.id c.in_ok-place.place c.in-Vacant.next c.args.subscriber (indexed_same _ _ _ same c.self.invariant.0.indexed) linked vacant
     (rw (same.values, c.self.view_is) c.requires) c.in-Ok.ensures.updates.0)
