@@ -1,8 +1,8 @@
 //! A list of calls, recorded and made again.
 
+use crate::driving::expect_replies;
 use crate::expecting::{expect_ok, expect_same};
 use crate::subscribers::{Noting, make_noting};
-use crate::told::tell;
 use event_manager::{
     Call, Ledgers, Naming, NoJob, Reply, Result, WithLedgers, drive, with_ledgers,
 };
@@ -105,12 +105,16 @@ fn replay<R: Wait + Clock + Abort + Copy + Send + Drop>(
     expect_ok(&rt, with_ledgers(listed))
 }
 
+// What is recorded, and what is replayed.
+const REPLIES: &str =
+    "[Added(Ok(SubscriberId { number: 1 })), Ran(Ok(1)), Ran(Err(Epoll(Errno(22))))]";
+
 #[test]
 fn a_recorded_list_is_made_again(rt: HostRuntime) {
     let (replies, entries) = record(rt, rt.alloc());
+    expect_replies(&rt, rt.alloc(), &replies, REPLIES);
     let (replayed, diverged) = replay(rt, rt.alloc(), entries, 4);
-    let told = expect_ok(&rt, tell(rt.alloc(), replies));
-    expect_same(&rt, &expect_ok(&rt, tell(rt.alloc(), replayed)), &told);
+    expect_replies(&rt, rt.alloc(), &replayed, REPLIES);
     expect_same(&rt, &diverged, &None);
 }
 

@@ -1,10 +1,9 @@
 //! Runs among other calls.
 
-use crate::driving::{replies_to, two_ids};
-use crate::expecting::{expect, expect_ok, expect_same};
+use crate::driving::{expect_replies, replies_to, two_ids};
+use crate::expecting::{expect, expect_ok};
 use crate::subscribers::{make_noting, wanted};
-use crate::told::{Told, tell};
-use event_manager::{Call, Error, Reply};
+use event_manager::{Call, Reply};
 use std::alloc::Global;
 use std::process::Abort;
 use vmm_sys::epoll::{EpollEvent, EventSet};
@@ -41,15 +40,10 @@ fn calls_go_on_behind_a_run_that_is_refused_or_interrupted(rt: HostRuntime) {
         panic!(rt; "nobody leaves");
     };
     expect(&rt, left.seen.as_slice() == [wanted(3)].as_slice());
-    let expected = expect_ok(
+    expect_replies(
         &rt,
-        vec![in rt.alloc();
-            Told::Added(Ok(1)),
-            Told::Ran(Err(Error::Epoll(Errno(22)))),
-            Told::Added(Ok(2)),
-            Told::Ran(Ok(0)),
-            Told::Ran(Ok(1)),
-        ],
+        rt.alloc(),
+        &replies,
+        "[Added(Ok(SubscriberId { number: 1 })), Ran(Err(Epoll(Errno(22)))), Added(Ok(SubscriberId { number: 2 })), Ran(Ok(0)), Ran(Ok(1))]",
     );
-    expect_same(&rt, &expect_ok(&rt, tell(rt.alloc(), replies)), &expected);
 }

@@ -13,36 +13,31 @@ use std::time::Clock;
 use vmm_sys::epoll::{EpollEvent, EventSet};
 use vmm_sys::script_poller::ScriptPoller;
 
+const IN: EventSet = EventSet::IN;
+
+const OUT: EventSet = EventSet::OUT;
+
 /// Three reports, of descriptors from 3 to 8.
+const REPORTS: [&[(EventSet, u64)]; 3] = [
+    &[
+        (IN, 3),
+        (IN, 5),
+        (IN, (7 << 32) + 4),
+        (IN, 6),
+        (IN, (1 << 32) + 3),
+    ],
+    &[(IN, 5), (OUT, 3), (IN, 6)],
+    &[(OUT, 4), (IN, 8), (IN, 3)],
+];
+
+/// The poller that gives these reports.
 fn three_reports<R: Abort>(rt: &R, alloc: Global) -> ScriptPoller {
-    let first = expect_ok(
-        rt,
-        vec![in alloc;
-            EpollEvent::new(EventSet::IN, 3),
-            EpollEvent::new(EventSet::IN, 5),
-            EpollEvent::new(EventSet::IN, (7 << 32) + 4),
-            EpollEvent::new(EventSet::IN, 6),
-            EpollEvent::new(EventSet::IN, (1 << 32) + 3),
-        ],
-    );
-    let second = expect_ok(
-        rt,
-        vec![in alloc;
-            EpollEvent::new(EventSet::IN, 5),
-            EpollEvent::new(EventSet::OUT, 3),
-            EpollEvent::new(EventSet::IN, 6),
-        ],
-    );
-    let third = expect_ok(
-        rt,
-        vec![in alloc;
-            EpollEvent::new(EventSet::OUT, 4),
-            EpollEvent::new(EventSet::IN, 8),
-            EpollEvent::new(EventSet::IN, 3),
-        ],
-    );
     let mut script = ScriptPoller::new(alloc);
-    for report in [first, second, third] {
+    for events in REPORTS {
+        let mut report = Vec::new(alloc);
+        for &(set, word) in events {
+            expect_ok(rt, report.push(EpollEvent::new(set, word)));
+        }
         expect_ok(rt, script.push_report(report));
     }
     script
@@ -83,10 +78,19 @@ fn seen_beside<R: Wait + Clock + Abort + Copy + Send + Drop>(
     }
 }
 
+/// Expects that the owner of 3 and 4 is given their events beside this neighbour.
+fn expect_events_beside<R: Wait + Clock + Abort + Copy + Send + Drop>(
+    rt: R,
+    alloc: Global,
+    neighbour: Option<BoxedSubscriber>,
+) {
+    let seen = seen_beside(rt, alloc, neighbour);
+    expect(&rt, seen.as_slice() == events_of_3_and_4().as_slice());
+}
+
 #[test]
 fn alone_it_is_given_its_events_in_order(rt: HostRuntime) {
-    let alone = seen_beside(rt, rt.alloc(), None);
-    expect(&rt, alone.as_slice() == events_of_3_and_4().as_slice());
+    expect_events_beside(rt, rt.alloc(), None);
 }
 
 #[test]
@@ -94,8 +98,7 @@ fn beside_one_that_renews_its_descriptors(rt: HostRuntime) {
     let events = expect_ok(&rt, Arc::new(rt.alloc(), AtomicU64::new(0)));
     let counted = expect_ok(&rt, events.clone());
     let neighbour = expect_ok(&rt, make_renewing(rt.alloc(), counted));
-    let beside = seen_beside(rt, rt.alloc(), Some(neighbour));
-    expect(&rt, beside == seen_beside(rt, rt.alloc(), None));
+    expect_events_beside(rt, rt.alloc(), Some(neighbour));
     // Of 5 in the first two reports: with it goes the event of 6 behind.
     expect_same(&rt, &events.load(Ordering::SeqCst), &2);
 }
@@ -105,8 +108,7 @@ fn beside_one_that_asks_for_all_descriptors(rt: HostRuntime) {
     let events = expect_ok(&rt, Arc::new(rt.alloc(), AtomicU64::new(0)));
     let counted = expect_ok(&rt, events.clone());
     let neighbour = expect_ok(&rt, make_grasping(rt.alloc(), counted));
-    let beside = seen_beside(rt, rt.alloc(), Some(neighbour));
-    expect(&rt, beside == seen_beside(rt, rt.alloc(), None));
+    expect_events_beside(rt, rt.alloc(), Some(neighbour));
     // Of 5 and 6 in the first two reports, and of 8 in the third.
     expect_same(&rt, &events.load(Ordering::SeqCst), &5);
 }
@@ -114,6 +116,5 @@ fn beside_one_that_asks_for_all_descriptors(rt: HostRuntime) {
 #[test]
 fn beside_one_that_asks_for_nothing(rt: HostRuntime) {
     let neighbour = expect_ok(&rt, make_silent(rt.alloc()));
-    let beside = seen_beside(rt, rt.alloc(), Some(neighbour));
-    expect(&rt, beside == seen_beside(rt, rt.alloc(), None));
+    expect_events_beside(rt, rt.alloc(), Some(neighbour));
 }
