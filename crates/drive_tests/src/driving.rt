@@ -23,7 +23,7 @@ struct Driving<'a, R, S> {
     replies: Vec<Reply<S>>,
 }
 
-impl<R: Wait + Clock, S: MutEventSubscriber + Drop> WithManager for Driving<'_, R, S> {
+impl<R: Wait + Clock + Abort, S: MutEventSubscriber + Drop> WithManager for Driving<'_, R, S> {
     type Subscriber = S;
 
     type Output = Vec<Reply<S>>;
@@ -35,7 +35,7 @@ impl<R: Wait + Clock, S: MutEventSubscriber + Drop> WithManager for Driving<'_, 
         let Driving { rt, lists, replies } = self;
         let mut replies = replies;
         for calls in lists {
-            drive(manager, calls, &mut replies, rt)?;
+            expect_ok(rt, drive(manager, calls, &mut replies, rt));
         }
         Ok(replies)
     }

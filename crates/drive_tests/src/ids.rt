@@ -129,34 +129,36 @@ struct JoiningAndLeaving<'a, R> {
 }
 
 /// Joins one and makes a request for it in one list.
-fn join_and_ask<N: Naming, P: EventPoller, R: Wait + Clock>(
+fn join_and_ask<N: Naming, P: EventPoller, R: Wait + Clock + Abort>(
     rt: &R,
     alloc: Global,
     manager: &mut EventManager<Quiet, NoJob, N, P>,
     replies: &mut Vec<Reply<Quiet>>,
-) -> Result<()> {
+) {
     let id = manager.next_id();
-    let requests = vec![in alloc; Request::Add(wanted(3))]?;
-    let calls = vec![in alloc; Call::Add(Quiet(11)), Call::Ask(id, requests)]?;
-    drive(manager, calls, replies, rt)
+    let requests = expect_ok(rt, vec![in alloc; Request::Add(wanted(3))]);
+    let calls = vec![in alloc; Call::Add(Quiet(11)), Call::Ask(id, requests)];
+    expect_ok(rt, drive(manager, expect_ok(rt, calls), replies, rt));
 }
 
 /// Lets the one leave where another joins, and then that one.
-fn replace_and_remove<N: Naming, P: EventPoller, R: Wait + Clock>(
+fn replace_and_remove<N: Naming, P: EventPoller, R: Wait + Clock + Abort>(
     rt: &R,
     alloc: Global,
     manager: &mut EventManager<Quiet, NoJob, N, P>,
     id: SubscriberId,
     replies: &mut Vec<Reply<Quiet>>,
-) -> Result<()> {
+) {
     let next = manager.next_id();
-    let requests = vec![in alloc; Request::Add(wanted(4))]?;
-    replace_then_ask(alloc, manager, id, Quiet(12), requests, replies, rt)?;
-    let requests = vec![in alloc; Request::Add(wanted(5))]?;
-    remove_then_ask(alloc, manager, next, requests, replies, rt)
+    let requests = expect_ok(rt, vec![in alloc; Request::Add(wanted(4))]);
+    let replaced = replace_then_ask(alloc, manager, id, Quiet(12), requests, replies, rt);
+    expect_ok(rt, replaced);
+    let requests = expect_ok(rt, vec![in alloc; Request::Add(wanted(5))]);
+    let removed = remove_then_ask(alloc, manager, next, requests, replies, rt);
+    expect_ok(rt, removed);
 }
 
-impl<R: Wait + Clock> WithManager for JoiningAndLeaving<'_, R> {
+impl<R: Wait + Clock + Abort> WithManager for JoiningAndLeaving<'_, R> {
     type Subscriber = Quiet;
 
     type Output = Vec<Reply<Quiet>>;
@@ -167,8 +169,8 @@ impl<R: Wait + Clock> WithManager for JoiningAndLeaving<'_, R> {
     ) -> Result<Vec<Reply<Quiet>>> {
         let mut replies = Vec::new(self.alloc);
         let id = manager.next_id();
-        join_and_ask(self.rt, self.alloc, manager, &mut replies)?;
-        replace_and_remove(self.rt, self.alloc, manager, id, &mut replies)?;
+        join_and_ask(self.rt, self.alloc, manager, &mut replies);
+        replace_and_remove(self.rt, self.alloc, manager, id, &mut replies);
         Ok(replies)
     }
 }

@@ -2,8 +2,8 @@
 
 use crate::driving::{expect_replies, replies_to, two_ids};
 use crate::expecting::{expect, expect_ok};
-use crate::subscribers::{make_noting, wanted};
-use event_manager::{Call, Reply};
+use crate::subscribers::{Noting, make_noting, wanted};
+use event_manager::{Call, Reply, SubscriberId};
 use std::alloc::Global;
 use std::process::Abort;
 use vmm_sys::epoll::{EpollEvent, EventSet};
@@ -20,20 +20,23 @@ fn faults_and_a_report<R: Abort>(rt: &R, alloc: Global) -> ScriptPoller {
     script
 }
 
+/// A join and a run, a join and two runs, and a leave.
+fn joins_and_runs<R: Abort>(rt: &R, alloc: Global, id: SubscriberId) -> Vec<Call<Noting>> {
+    let mut calls = Vec::new(alloc);
+    for (first, second, runs) in [(3, 4, 1), (5, 6, 2)] {
+        expect_ok(rt, calls.push(Call::Add(make_noting(alloc, first, second))));
+        for _run in 0..runs {
+            expect_ok(rt, calls.push(Call::Run(0)));
+        }
+    }
+    expect_ok(rt, calls.push(Call::Remove(id)));
+    calls
+}
+
 #[test]
 fn calls_go_on_behind_a_run_that_is_refused_or_interrupted(rt: HostRuntime) {
     let [id, _] = two_ids(rt, rt.alloc());
-    let calls = expect_ok(
-        &rt,
-        vec![in rt.alloc();
-            Call::Add(make_noting(rt.alloc(), 3, 4)),
-            Call::Run(0),
-            Call::Add(make_noting(rt.alloc(), 5, 6)),
-            Call::Run(0),
-            Call::Run(0),
-            Call::Remove(id),
-        ],
-    );
+    let calls = joins_and_runs(&rt, rt.alloc(), id);
     let script = faults_and_a_report(&rt, rt.alloc());
     let mut replies = replies_to(rt, rt.alloc(), script, calls);
     let Some(Reply::Removed(Ok(left))) = replies.pop() else {

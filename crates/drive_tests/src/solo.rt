@@ -3,8 +3,8 @@
 use crate::driving::{replies_to, two_ids};
 use crate::expecting::{expect, expect_ok, expect_same};
 use crate::neighbours::{make_grasping, make_renewing, make_silent};
-use crate::subscribers::make_noting;
-use event_manager::{BoxedSubscriber, Call, Either, Events, Reply};
+use crate::subscribers::{Noting, make_noting};
+use event_manager::{BoxedSubscriber, Call, Either, Events, Reply, SubscriberId};
 use std::alloc::Global;
 use std::process::Abort;
 use std::sync::atomic::{AtomicU64, Ordering};
@@ -55,6 +55,29 @@ fn events_of_3_and_4() -> [Events; 6] {
     ]
 }
 
+/// An owner of 3 and 4, or a neighbour of it.
+type Member = Either<Noting, BoxedSubscriber>;
+
+/// The owner joins, and this neighbour behind it, if any; three runs, and the owner leaves.
+fn calls_beside<R: Abort>(
+    rt: &R,
+    alloc: Global,
+    id: SubscriberId,
+    neighbour: Option<BoxedSubscriber>,
+) -> Vec<Call<Member>> {
+    let mut calls = Vec::new(alloc);
+    let owner = make_noting(alloc, 3, 4);
+    expect_ok(rt, calls.push(Call::Add(Either::First(owner))));
+    if let Some(neighbour) = neighbour {
+        expect_ok(rt, calls.push(Call::Add(Either::Second(neighbour))));
+    }
+    for _run in 0..3 {
+        expect_ok(rt, calls.push(Call::Run(0)));
+    }
+    expect_ok(rt, calls.push(Call::Remove(id)));
+    calls
+}
+
 /// What the owner of 3 and 4 is given over the reports, where this neighbour, if any, joins behind it.
 fn seen_beside<R: Wait + Clock + Abort + Copy + Send + Drop>(
     rt: R,
@@ -62,15 +85,7 @@ fn seen_beside<R: Wait + Clock + Abort + Copy + Send + Drop>(
     neighbour: Option<BoxedSubscriber>,
 ) -> Vec<Events> {
     let [id, _] = two_ids(rt, alloc);
-    let owner = Either::First(make_noting(alloc, 3, 4));
-    let mut calls = expect_ok(&rt, vec![in alloc; Call::Add(owner)]);
-    if let Some(neighbour) = neighbour {
-        expect_ok(&rt, calls.push(Call::Add(Either::Second(neighbour))));
-    }
-    for _run in 0..3 {
-        expect_ok(&rt, calls.push(Call::Run(0)));
-    }
-    expect_ok(&rt, calls.push(Call::Remove(id)));
+    let calls = calls_beside(&rt, alloc, id, neighbour);
     let mut replies = replies_to(rt, alloc, three_reports(&rt, alloc), calls);
     match replies.pop() {
         Some(Reply::Removed(Ok(Either::First(owner)))) => owner.seen,
