@@ -5,7 +5,7 @@ use crate::expecting::{expect, expect_ok, expect_same};
 use crate::served::{served, two_reports};
 use event_manager::{EventManager, EventPoller, Locked, Naming, NoJob, SubscriberOps};
 use fixtures::counting::{Counting, counting_on};
-use fixtures::making::{WithManager, no_memory, with_manager};
+use fixtures::making::{WithManager, with_manager};
 use fixtures::parts::{Parts, silent_parts};
 use fixtures::runs::{Failure, run_alone};
 use std::cell::RefCell;
@@ -54,7 +54,8 @@ impl<R: Wait + Clock + Abort> WithManager for BusyThenFree<'_, R> {
         manager: &mut EventManager<Rc<RefCell<Counting>>, NoJob, N, P>,
     ) -> event_manager::Result<()> {
         let BusyThenFree { rt, cell } = self;
-        manager.add_subscriber(cell.clone().map_err(no_memory)?)?;
+        let held = expect_ok(rt, cell.clone());
+        expect_ok(rt, manager.add_subscriber(held));
         {
             let held = cell.try_borrow_mut();
             expect(rt, held.is_ok());
@@ -109,7 +110,7 @@ impl<R: Wait + Clock + Abort + Drop> WithManager for Turns<'_, R> {
     ) -> event_manager::Result<()> {
         let Turns { rt, locked, turn } = self;
         expect_turn(rt, turn, 1);
-        manager.add_subscriber(locked)?;
+        expect_ok(rt, manager.add_subscriber(locked));
         turn.store(2, Ordering::SeqCst);
         for odd in [3, 5] {
             expect_turn(rt, turn, odd);
