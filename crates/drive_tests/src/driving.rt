@@ -1,8 +1,7 @@
 //! Managers over scripts, driven by lists of calls.
 
-use crate::expecting::expect_ok;
+use crate::expecting::{expect_ok, expect_same};
 use crate::subscribers::Quiet;
-use crate::told::{Told, tell};
 use event_manager::{
     Call, EventManager, EventPoller, MutEventSubscriber, Naming, NoJob, Reply, Result,
     SubscriberId, drive,
@@ -10,6 +9,7 @@ use event_manager::{
 use fixtures::making::{WithManager, with_manager};
 use fixtures::parts::silent_parts;
 use std::alloc::Global;
+use std::fmt::Debug;
 use std::process::Abort;
 use std::sync::Wait;
 use std::time::Clock;
@@ -23,7 +23,7 @@ struct Driving<'a, R, S> {
     replies: Vec<Reply<S>>,
 }
 
-impl<R: Wait + Clock, S: MutEventSubscriber + Drop> WithManager for Driving<'_, R, S> {
+impl<R: Wait + Clock + Abort, S: MutEventSubscriber + Drop> WithManager for Driving<'_, R, S> {
     type Subscriber = S;
 
     type Output = Vec<Reply<S>>;
@@ -35,7 +35,7 @@ impl<R: Wait + Clock, S: MutEventSubscriber + Drop> WithManager for Driving<'_, 
         let Driving { rt, lists, replies } = self;
         let mut replies = replies;
         for calls in lists {
-            drive(manager, calls, &mut replies, rt)?;
+            expect_ok(rt, drive(manager, calls, &mut replies, rt));
         }
         Ok(replies)
     }
@@ -77,15 +77,24 @@ where
     drive_behind(rt, alloc, script, lists, Vec::new(alloc))
 }
 
-/// What a new manager of quiet subscribers tells to the lists, over a poller that reports nothing.
-pub fn told_by_quiet<R: Wait + Clock + Abort + Copy + Send + Drop>(
+/// The replies of a new manager of quiet subscribers to the lists, over a poller that reports nothing.
+pub fn replies_of_quiet<R: Wait + Clock + Abort + Copy + Send + Drop>(
     rt: R,
     alloc: Global,
     lists: Vec<Vec<Call<Quiet>>>,
-) -> Vec<Told> {
-    let script = ScriptPoller::new(alloc);
-    let replies = drive_behind(rt, alloc, script, lists, Vec::new(alloc));
-    expect_ok(&rt, tell(alloc, replies))
+) -> Vec<Reply<Quiet>> {
+    drive_behind(rt, alloc, ScriptPoller::new(alloc), lists, Vec::new(alloc))
+}
+
+/// Expects that the replies are those that this text has.
+pub fn expect_replies<S: Debug, R: Abort>(
+    rt: &R,
+    alloc: Global,
+    replies: &[Reply<S>],
+    expected: &str,
+) {
+    let text = expect_ok(rt, format!(in alloc; "{replies:?}"));
+    expect_same(rt, &text.as_str(), &expected);
 }
 
 /// The first ids of a manager: an id is its number alone, so they are those of every manager.

@@ -1,84 +1,73 @@
 //! Ids, and calls with an id that nobody has.
 
-use crate::driving::{replies_to, told_by_quiet, two_ids};
+use crate::driving::{expect_replies, replies_of_quiet, replies_to, two_ids};
 use crate::expecting::{expect_ok, expect_same};
 use crate::leaving::{remove_then_ask, replace_then_ask};
 use crate::subscribers::{Quiet, wanted};
-use crate::told::{Told, tell};
 use event_manager::{
-    Call, Error, EventManager, EventOps, EventPoller, Events, MutEventSubscriber, Naming, NoJob,
-    Reply, Request, Result, SubscriberOps, drive,
+    Call, EventManager, EventOps, EventPoller, Events, MutEventSubscriber, Naming, NoJob, Reply,
+    Request, Result, SubscriberId, SubscriberOps, drive,
 };
 use fixtures::making::{WithManager, with_manager};
 use fixtures::parts::silent_parts;
 use std::alloc::{AllocError, Global};
+use std::process::Abort;
 use std::rc::Rc;
 use std::sync::Wait;
 use std::time::Clock;
 use vmm_sys::script_poller::ScriptPoller;
 
+/// Expects these replies of a new manager of quiet subscribers to the calls.
+fn expect_calls<R: Wait + Clock + Abort + Copy + Send + Drop>(
+    rt: R,
+    alloc: Global,
+    calls: Vec<Call<Quiet>>,
+    expected: &str,
+) {
+    let lists = expect_ok(&rt, vec![in alloc; calls]);
+    let replies = replies_of_quiet(rt, alloc, lists);
+    expect_replies(&rt, alloc, &replies, expected);
+}
+
 #[test]
 fn ids_go_up_and_an_id_that_left_is_unknown(rt: HostRuntime) {
     let [first, second] = two_ids(rt, rt.alloc());
     let requests = expect_ok(&rt, vec![in rt.alloc(); Request::Remove(wanted(3))]);
-    let calls = expect_ok(
-        &rt,
-        vec![in rt.alloc();
-            Call::Add(Quiet(11)),
-            Call::Remove(first),
-            Call::Add(Quiet(12)),
-            Call::Remove(first),
-            Call::Set(second, Quiet(13)),
-            Call::Ask(first, requests),
-        ],
+    let calls = vec![in rt.alloc();
+        Call::Add(Quiet(11)),
+        Call::Remove(first),
+        Call::Add(Quiet(12)),
+        Call::Remove(first),
+        Call::Set(second, Quiet(13)),
+        Call::Ask(first, requests),
+    ];
+    expect_calls(
+        rt,
+        rt.alloc(),
+        expect_ok(&rt, calls),
+        "[Added(Ok(SubscriberId { number: 1 })), Removed(Ok(Quiet(11))), Added(Ok(SubscriberId { number: 2 })), Removed(Err(InvalidId)), Set(Ok(Quiet(12))), Asked(Err(InvalidId))]",
     );
-    let unknown = Error::InvalidId;
-    let expected = expect_ok(
-        &rt,
-        vec![in rt.alloc();
-            Told::Added(Ok(1)),
-            Told::Removed(Ok(11)),
-            Told::Added(Ok(2)),
-            Told::Removed(Err(unknown)),
-            Told::Set(Ok(12)),
-            Told::Asked(Err(unknown)),
-        ],
-    );
-    let lists = expect_ok(&rt, vec![in rt.alloc(); calls]);
-    expect_same(&rt, &told_by_quiet(rt, rt.alloc(), lists), &expected);
 }
 
 #[test]
 fn an_id_that_left_changes_nobody(rt: HostRuntime) {
     let [first, second] = two_ids(rt, rt.alloc());
     let requests = expect_ok(&rt, vec![in rt.alloc(); Request::Add(wanted(3))]);
-    let calls = expect_ok(
-        &rt,
-        vec![in rt.alloc();
-            Call::Add(Quiet(11)),
-            Call::Add(Quiet(12)),
-            Call::Remove(first),
-            Call::Set(first, Quiet(13)),
-            Call::Ask(first, requests),
-            Call::Remove(first),
-            Call::Remove(second),
-        ],
+    let calls = vec![in rt.alloc();
+        Call::Add(Quiet(11)),
+        Call::Add(Quiet(12)),
+        Call::Remove(first),
+        Call::Set(first, Quiet(13)),
+        Call::Ask(first, requests),
+        Call::Remove(first),
+        Call::Remove(second),
+    ];
+    expect_calls(
+        rt,
+        rt.alloc(),
+        expect_ok(&rt, calls),
+        "[Added(Ok(SubscriberId { number: 1 })), Added(Ok(SubscriberId { number: 2 })), Removed(Ok(Quiet(11))), Set(Err(InvalidId)), Asked(Err(InvalidId)), Removed(Err(InvalidId)), Removed(Ok(Quiet(12)))]",
     );
-    let unknown = Error::InvalidId;
-    let expected = expect_ok(
-        &rt,
-        vec![in rt.alloc();
-            Told::Added(Ok(1)),
-            Told::Added(Ok(2)),
-            Told::Removed(Ok(11)),
-            Told::Set(Err(unknown)),
-            Told::Asked(Err(unknown)),
-            Told::Removed(Err(unknown)),
-            Told::Removed(Ok(12)),
-        ],
-    );
-    let lists = expect_ok(&rt, vec![in rt.alloc(); calls]);
-    expect_same(&rt, &told_by_quiet(rt, rt.alloc(), lists), &expected);
 }
 
 /// Counts in `init` how many hold what it holds.
@@ -139,7 +128,37 @@ struct JoiningAndLeaving<'a, R> {
     alloc: Global,
 }
 
-impl<R: Wait + Clock> WithManager for JoiningAndLeaving<'_, R> {
+/// Joins one and makes a request for it in one list.
+fn join_and_ask<N: Naming, P: EventPoller, R: Wait + Clock + Abort>(
+    rt: &R,
+    alloc: Global,
+    manager: &mut EventManager<Quiet, NoJob, N, P>,
+    replies: &mut Vec<Reply<Quiet>>,
+) {
+    let id = manager.next_id();
+    let requests = expect_ok(rt, vec![in alloc; Request::Add(wanted(3))]);
+    let calls = vec![in alloc; Call::Add(Quiet(11)), Call::Ask(id, requests)];
+    expect_ok(rt, drive(manager, expect_ok(rt, calls), replies, rt));
+}
+
+/// Lets the one leave where another joins, and then that one.
+fn replace_and_remove<N: Naming, P: EventPoller, R: Wait + Clock + Abort>(
+    rt: &R,
+    alloc: Global,
+    manager: &mut EventManager<Quiet, NoJob, N, P>,
+    id: SubscriberId,
+    replies: &mut Vec<Reply<Quiet>>,
+) {
+    let next = manager.next_id();
+    let requests = expect_ok(rt, vec![in alloc; Request::Add(wanted(4))]);
+    let replaced = replace_then_ask(alloc, manager, id, Quiet(12), requests, replies, rt);
+    expect_ok(rt, replaced);
+    let requests = expect_ok(rt, vec![in alloc; Request::Add(wanted(5))]);
+    let removed = remove_then_ask(alloc, manager, next, requests, replies, rt);
+    expect_ok(rt, removed);
+}
+
+impl<R: Wait + Clock + Abort> WithManager for JoiningAndLeaving<'_, R> {
     type Subscriber = Quiet;
 
     type Output = Vec<Reply<Quiet>>;
@@ -148,17 +167,10 @@ impl<R: Wait + Clock> WithManager for JoiningAndLeaving<'_, R> {
         self,
         manager: &mut EventManager<Quiet, NoJob, N, P>,
     ) -> Result<Vec<Reply<Quiet>>> {
-        let JoiningAndLeaving { rt, alloc } = self;
+        let mut replies = Vec::new(self.alloc);
         let id = manager.next_id();
-        let requests = vec![in alloc; Request::Add(wanted(3))]?;
-        let calls = vec![in alloc; Call::Add(Quiet(11)), Call::Ask(id, requests)]?;
-        let mut replies = Vec::new(alloc);
-        drive(manager, calls, &mut replies, rt)?;
-        let next = manager.next_id();
-        let requests = vec![in alloc; Request::Add(wanted(4))]?;
-        replace_then_ask(alloc, manager, id, Quiet(12), requests, &mut replies, rt)?;
-        let requests = vec![in alloc; Request::Add(wanted(5))]?;
-        remove_then_ask(alloc, manager, next, requests, &mut replies, rt)?;
+        join_and_ask(self.rt, self.alloc, manager, &mut replies);
+        replace_and_remove(self.rt, self.alloc, manager, id, &mut replies);
         Ok(replies)
     }
 }
@@ -171,19 +183,10 @@ fn a_call_names_the_id_that_an_earlier_one_gives(rt: HostRuntime) {
         alloc: rt.alloc(),
     };
     let replies = expect_ok(&rt, with_manager(expect_ok(&rt, parts), body));
-    let agreed = expect_ok(&rt, vec![in rt.alloc(); Ok(())]);
-    let expected = expect_ok(
+    expect_replies(
         &rt,
-        vec![in rt.alloc();
-            Told::Added(Ok(1)),
-            Told::Asked(Ok(agreed)),
-            Told::Removed(Ok(11)),
-            Told::Added(Ok(2)),
-            Told::Ran(Ok(0)),
-            Told::Asked(Err(Error::InvalidId)),
-            Told::Removed(Ok(12)),
-            Told::Asked(Err(Error::InvalidId)),
-        ],
+        rt.alloc(),
+        &replies,
+        "[Added(Ok(SubscriberId { number: 1 })), Asked(Ok([Ok(())])), Removed(Ok(Quiet(11))), Added(Ok(SubscriberId { number: 2 })), Ran(Ok(0)), Asked(Err(InvalidId)), Removed(Ok(Quiet(12))), Asked(Err(InvalidId))]",
     );
-    expect_same(&rt, &expect_ok(&rt, tell(rt.alloc(), replies)), &expected);
 }

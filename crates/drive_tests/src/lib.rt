@@ -22,5 +22,3 @@ mod runs;
 mod solo;
 #[cfg(test)]
 mod subscribers;
-#[cfg(test)]
-mod told;

@@ -1,10 +1,9 @@
 //! Lists of all lengths, and lists in a row.
 
-use crate::driving::{drive_behind, first_ids, told_by_quiet, two_ids};
+use crate::driving::{drive_behind, expect_replies, first_ids, replies_of_quiet, two_ids};
 use crate::expecting::{expect, expect_ok, expect_same};
 use crate::subscribers::{Quiet, wanted};
-use crate::told::{Told, tell};
-use event_manager::{Call, Error, Reply, Request, SubscriberId};
+use event_manager::{Call, Reply, Request, SubscriberId};
 use std::alloc::Global;
 use std::process::Abort;
 use vmm_sys::script_poller::ScriptPoller;
@@ -12,50 +11,61 @@ use vmm_sys::script_poller::ScriptPoller;
 #[test]
 fn an_empty_list_has_no_reply(rt: HostRuntime) {
     let lists = expect_ok(&rt, vec![in rt.alloc(); Vec::new(rt.alloc())]);
-    expect(&rt, told_by_quiet(rt, rt.alloc(), lists).is_empty());
+    expect(&rt, replies_of_quiet(rt, rt.alloc(), lists).is_empty());
 }
 
-#[test]
-fn an_empty_list_uses_no_id_up(rt: HostRuntime) {
-    let [first, second] = two_ids(rt, rt.alloc());
-    let former = expect_ok(&rt, vec![in rt.alloc(); Call::Add(Quiet(11))]);
+/// A join, no call, and another join before both leave.
+fn lists_around_an_empty_one<R: Abort>(
+    rt: &R,
+    alloc: Global,
+    [first, second]: [SubscriberId; 2],
+) -> Vec<Vec<Call<Quiet>>> {
+    let former = expect_ok(rt, vec![in alloc; Call::Add(Quiet(11))]);
     let latter = expect_ok(
-        &rt,
-        vec![in rt.alloc();
+        rt,
+        vec![in alloc;
             Call::Add(Quiet(12)),
             Call::Remove(first),
             Call::Remove(second),
         ],
     );
-    let lists = expect_ok(
+    expect_ok(rt, vec![in alloc; former, Vec::new(alloc), latter])
+}
+
+#[test]
+fn an_empty_list_uses_no_id_up(rt: HostRuntime) {
+    let lists = lists_around_an_empty_one(&rt, rt.alloc(), two_ids(rt, rt.alloc()));
+    expect_replies(
         &rt,
-        vec![in rt.alloc(); former, Vec::new(rt.alloc()), latter],
+        rt.alloc(),
+        &replies_of_quiet(rt, rt.alloc(), lists),
+        "[Added(Ok(SubscriberId { number: 1 })), Added(Ok(SubscriberId { number: 2 })), Removed(Ok(Quiet(11))), Removed(Ok(Quiet(12)))]",
     );
-    let expected = expect_ok(
-        &rt,
-        vec![in rt.alloc();
-            Told::Added(Ok(1)),
-            Told::Added(Ok(2)),
-            Told::Removed(Ok(11)),
-            Told::Removed(Ok(12)),
-        ],
-    );
-    expect_same(&rt, &told_by_quiet(rt, rt.alloc(), lists), &expected);
+}
+
+/// Joins and leaves of these ids in turn, and their replies.
+fn joins_and_leaves<R: Abort>(
+    rt: &R,
+    alloc: Global,
+    ids: &[SubscriberId],
+) -> (Vec<Call<Quiet>>, Vec<Reply<Quiet>>) {
+    let (mut calls, mut replies) = (Vec::new(alloc), Vec::new(alloc));
+    for id in ids {
+        expect_ok(rt, calls.push(Call::Add(Quiet(id.number()))));
+        expect_ok(rt, replies.push(Reply::Added(Ok(*id))));
+        expect_ok(rt, calls.push(Call::Remove(*id)));
+        expect_ok(rt, replies.push(Reply::Removed(Ok(Quiet(id.number())))));
+    }
+    (calls, replies)
 }
 
 #[test]
 fn three_hundred_calls_have_three_hundred_replies(rt: HostRuntime) {
-    let mut calls = Vec::new(rt.alloc());
-    let mut expected = Vec::new(rt.alloc());
-    for id in first_ids(rt, rt.alloc(), 150) {
-        expect_ok(&rt, calls.push(Call::Add(Quiet(id.number()))));
-        expect_ok(&rt, expected.push(Told::Added(Ok(id.number()))));
-        expect_ok(&rt, calls.push(Call::Remove(id)));
-        expect_ok(&rt, expected.push(Told::Removed(Ok(id.number()))));
-    }
+    let ids = first_ids(rt, rt.alloc(), 150);
+    let (calls, expected) = joins_and_leaves(&rt, rt.alloc(), &ids);
     expect_same(&rt, &expected.len(), &300);
     let lists = expect_ok(&rt, vec![in rt.alloc(); calls]);
-    expect_same(&rt, &told_by_quiet(rt, rt.alloc(), lists), &expected);
+    expect_same(&rt, &replies_of_quiet(rt, rt.alloc(), lists), &expected);
 }
 
 /// Appends two joins, a request and a run.
@@ -87,60 +97,49 @@ fn push_second_half<R: Abort>(
     expect_ok(rt, calls.push(Call::Remove(second)));
 }
 
+/// Both halves as one list, or as two.
+fn halves<R: Abort>(
+    rt: &R,
+    alloc: Global,
+    ids: [SubscriberId; 2],
+    as_one: bool,
+) -> Vec<Vec<Call<Quiet>>> {
+    let mut calls = Vec::new(alloc);
+    push_first_half(rt, &mut calls, alloc, ids);
+    if as_one {
+        push_second_half(rt, &mut calls, alloc, ids);
+        return expect_ok(rt, vec![in alloc; calls]);
+    }
+    let mut latter = Vec::new(alloc);
+    push_second_half(rt, &mut latter, alloc, ids);
+    expect_ok(rt, vec![in alloc; calls, latter])
+}
+
 #[test]
 fn two_drives_reply_as_one_drive_of_both_lists(rt: HostRuntime) {
     let ids = two_ids(rt, rt.alloc());
-    let mut both = Vec::new(rt.alloc());
-    push_first_half(&rt, &mut both, rt.alloc(), ids);
-    push_second_half(&rt, &mut both, rt.alloc(), ids);
-    let (mut former, mut latter) = (Vec::new(rt.alloc()), Vec::new(rt.alloc()));
-    push_first_half(&rt, &mut former, rt.alloc(), ids);
-    push_second_half(&rt, &mut latter, rt.alloc(), ids);
-    let one_list = expect_ok(&rt, vec![in rt.alloc(); both]);
-    let together = told_by_quiet(rt, rt.alloc(), one_list);
-    expect_same(&rt, &together, &replies_to_both_halves(&rt, rt.alloc()));
-    let two_lists = expect_ok(&rt, vec![in rt.alloc(); former, latter]);
-    let apart = told_by_quiet(rt, rt.alloc(), two_lists);
-    expect_same(&rt, &apart, &together);
-}
-
-fn replies_to_both_halves<R: Abort>(rt: &R, alloc: Global) -> Vec<Told> {
-    let agreed = expect_ok(rt, vec![in alloc; Ok(())]);
-    let taken = expect_ok(rt, vec![in alloc; Err(Error::FdAlreadyRegistered)]);
-    expect_ok(
-        rt,
-        vec![in alloc;
-            Told::Added(Ok(1)),
-            Told::Added(Ok(2)),
-            Told::Asked(Ok(agreed)),
-            Told::Ran(Ok(0)),
-            Told::Asked(Ok(taken)),
-            Told::Removed(Ok(11)),
-            Told::Added(Ok(3)),
-            Told::Set(Ok(12)),
-            Told::Removed(Ok(14)),
-        ],
-    )
+    for as_one in [true, false] {
+        let lists = halves(&rt, rt.alloc(), ids, as_one);
+        expect_replies(
+            &rt,
+            rt.alloc(),
+            &replies_of_quiet(rt, rt.alloc(), lists),
+            "[Added(Ok(SubscriberId { number: 1 })), Added(Ok(SubscriberId { number: 2 })), Asked(Ok([Ok(())])), Ran(Ok(0)), Asked(Ok([Err(FdAlreadyRegistered)])), Removed(Ok(Quiet(11))), Added(Ok(SubscriberId { number: 3 })), Set(Ok(Quiet(12))), Removed(Ok(Quiet(14)))]",
+        );
+    }
 }
 
 #[test]
 fn replies_stand_behind_those_before(rt: HostRuntime) {
-    let before = expect_ok(
-        &rt,
-        vec![in rt.alloc(); Reply::Ran(Ok(7)), Reply::Removed(Ok(Quiet(21)))],
-    );
+    let before = vec![in rt.alloc(); Reply::Ran(Ok(7)), Reply::Removed(Ok(Quiet(21)))];
+    let before = expect_ok(&rt, before);
     let calls = expect_ok(&rt, vec![in rt.alloc(); Call::Add(Quiet(11)), Call::Run(0)]);
     let lists = expect_ok(&rt, vec![in rt.alloc(); calls]);
     let script = ScriptPoller::new(rt.alloc());
-    let replies = drive_behind(rt, rt.alloc(), script, lists, before);
-    let expected = expect_ok(
+    expect_replies(
         &rt,
-        vec![in rt.alloc();
-            Told::Ran(Ok(7)),
-            Told::Removed(Ok(21)),
-            Told::Added(Ok(1)),
-            Told::Ran(Ok(0)),
-        ],
+        rt.alloc(),
+        &drive_behind(rt, rt.alloc(), script, lists, before),
+        "[Ran(Ok(7)), Removed(Ok(Quiet(21))), Added(Ok(SubscriberId { number: 1 })), Ran(Ok(0))]",
     );
-    expect_same(&rt, &expect_ok(&rt, tell(rt.alloc(), replies)), &expected);
 }

@@ -1,10 +1,11 @@
 //! A list of calls, recorded and made again.
 
+use crate::driving::expect_replies;
 use crate::expecting::{expect_ok, expect_same};
 use crate::subscribers::{Noting, make_noting};
-use crate::told::tell;
 use event_manager::{
-    Call, Ledgers, Naming, NoJob, Reply, Result, WithLedgers, drive, with_ledgers,
+    Call, EventManager, EventPoller, Ledgers, Naming, NoJob, Reply, WithLedgers, drive,
+    with_ledgers,
 };
 use fixtures::making::make;
 use fixtures::parts::{Parts, silent_parts};
@@ -27,36 +28,52 @@ struct Listed<'a, R, P> {
     calls: Vec<Call<Noting>>,
 }
 
+/// The replies of the manager to the calls.
+fn driven<N: Naming, P: EventPoller, R: Wait + Clock + Abort>(
+    rt: &R,
+    alloc: Global,
+    manager: &mut EventManager<Noting, NoJob, N, P>,
+    calls: Vec<Call<Noting>>,
+) -> Vec<Reply<Noting>> {
+    let mut replies = Vec::new(alloc);
+    expect_ok(rt, drive(manager, calls, &mut replies, rt));
+    replies
+}
+
 /// The replies, and what was recorded.
 type Recorded = (Vec<Reply<Noting>>, Vec<RecordEntry>);
 
-impl<R: Wait + Clock> WithLedgers for Listed<'_, R, RecordingPoller<ScriptPoller>> {
-    type Output = Result<Recorded>;
+/// A copy of the entries.
+fn copied<R: Abort>(rt: &R, alloc: Global, entries: &[RecordEntry]) -> Vec<RecordEntry> {
+    let mut copy = Vec::new(alloc);
+    expect_ok(rt, copy.extend_from_slice(entries));
+    copy
+}
 
-    fn run<N: Naming + Send + Sync>(self, ledgers: Ledgers<N>) -> Result<Recorded> {
+impl<R: Wait + Clock + Abort> WithLedgers for Listed<'_, R, RecordingPoller<ScriptPoller>> {
+    type Output = Recorded;
+
+    fn run<N: Naming + Send + Sync>(self, ledgers: Ledgers<N>) -> Recorded {
         let Listed { rt, parts, calls } = self;
         let alloc = parts.alloc;
-        let mut manager = make::<Noting, NoJob, N, _>(parts, ledgers)?;
-        let mut replies = Vec::new(alloc);
-        drive(&mut manager, calls, &mut replies, rt)?;
-        let mut record = Vec::new(alloc);
-        record.extend_from_slice(manager.poller().record())?;
-        Ok((replies, record))
+        let mut manager = expect_ok(rt, make::<Noting, NoJob, N, _>(parts, ledgers));
+        let replies = driven(rt, alloc, &mut manager, calls);
+        (replies, copied(rt, alloc, manager.poller().record()))
     }
 }
 
 /// The replies, and where the replay diverged.
 type Replayed = (Vec<Reply<Noting>>, Option<usize>);
 
-impl<R: Wait + Clock> WithLedgers for Listed<'_, R, ReplayPoller> {
-    type Output = Result<Replayed>;
+impl<R: Wait + Clock + Abort> WithLedgers for Listed<'_, R, ReplayPoller> {
+    type Output = Replayed;
 
-    fn run<N: Naming + Send + Sync>(self, ledgers: Ledgers<N>) -> Result<Replayed> {
+    fn run<N: Naming + Send + Sync>(self, ledgers: Ledgers<N>) -> Replayed {
         let Listed { rt, parts, calls } = self;
-        let mut replies = Vec::new(parts.alloc);
-        let mut manager = make::<Noting, NoJob, N, _>(parts, ledgers)?;
-        drive(&mut manager, calls, &mut replies, rt)?;
-        Ok((replies, manager.poller().diverged()))
+        let alloc = parts.alloc;
+        let mut manager = expect_ok(rt, make::<Noting, NoJob, N, _>(parts, ledgers));
+        let replies = driven(rt, alloc, &mut manager, calls);
+        (replies, manager.poller().diverged())
     }
 }
 
@@ -86,7 +103,7 @@ fn record<R: Wait + Clock + Abort + Copy + Send + Drop>(rt: R, alloc: Global) ->
         parts: expect_ok(&rt, parts),
         calls: join_and_run(&rt, alloc, 4),
     };
-    expect_ok(&rt, with_ledgers(listed))
+    with_ledgers(listed)
 }
 
 /// What a manager over the record replies whose subscriber adds this second descriptor, and where it diverged.
@@ -102,15 +119,19 @@ fn replay<R: Wait + Clock + Abort + Copy + Send + Drop>(
         parts: expect_ok(&rt, parts),
         calls: join_and_run(&rt, alloc, second),
     };
-    expect_ok(&rt, with_ledgers(listed))
+    with_ledgers(listed)
 }
+
+// What is recorded, and what is replayed.
+const REPLIES: &str =
+    "[Added(Ok(SubscriberId { number: 1 })), Ran(Ok(1)), Ran(Err(Epoll(Errno(22))))]";
 
 #[test]
 fn a_recorded_list_is_made_again(rt: HostRuntime) {
     let (replies, entries) = record(rt, rt.alloc());
+    expect_replies(&rt, rt.alloc(), &replies, REPLIES);
     let (replayed, diverged) = replay(rt, rt.alloc(), entries, 4);
-    let told = expect_ok(&rt, tell(rt.alloc(), replies));
-    expect_same(&rt, &expect_ok(&rt, tell(rt.alloc(), replayed)), &told);
+    expect_replies(&rt, rt.alloc(), &replayed, REPLIES);
     expect_same(&rt, &diverged, &None);
 }
 

@@ -1,10 +1,9 @@
 //! Runs among other calls.
 
-use crate::driving::{replies_to, two_ids};
-use crate::expecting::{expect, expect_ok, expect_same};
-use crate::subscribers::{make_noting, wanted};
-use crate::told::{Told, tell};
-use event_manager::{Call, Error, Reply};
+use crate::driving::{expect_replies, replies_to, two_ids};
+use crate::expecting::{expect, expect_ok};
+use crate::subscribers::{Noting, make_noting, wanted};
+use event_manager::{Call, Reply, SubscriberId};
 use std::alloc::Global;
 use std::process::Abort;
 use vmm_sys::epoll::{EpollEvent, EventSet};
@@ -21,35 +20,33 @@ fn faults_and_a_report<R: Abort>(rt: &R, alloc: Global) -> ScriptPoller {
     script
 }
 
+/// A join and a run, a join and two runs, and a leave.
+fn joins_and_runs<R: Abort>(rt: &R, alloc: Global, id: SubscriberId) -> Vec<Call<Noting>> {
+    let mut calls = Vec::new(alloc);
+    for (first, second, runs) in [(3, 4, 1), (5, 6, 2)] {
+        expect_ok(rt, calls.push(Call::Add(make_noting(alloc, first, second))));
+        for _run in 0..runs {
+            expect_ok(rt, calls.push(Call::Run(0)));
+        }
+    }
+    expect_ok(rt, calls.push(Call::Remove(id)));
+    calls
+}
+
 #[test]
 fn calls_go_on_behind_a_run_that_is_refused_or_interrupted(rt: HostRuntime) {
     let [id, _] = two_ids(rt, rt.alloc());
-    let calls = expect_ok(
-        &rt,
-        vec![in rt.alloc();
-            Call::Add(make_noting(rt.alloc(), 3, 4)),
-            Call::Run(0),
-            Call::Add(make_noting(rt.alloc(), 5, 6)),
-            Call::Run(0),
-            Call::Run(0),
-            Call::Remove(id),
-        ],
-    );
+    let calls = joins_and_runs(&rt, rt.alloc(), id);
     let script = faults_and_a_report(&rt, rt.alloc());
     let mut replies = replies_to(rt, rt.alloc(), script, calls);
     let Some(Reply::Removed(Ok(left))) = replies.pop() else {
         panic!(rt; "nobody leaves");
     };
     expect(&rt, left.seen.as_slice() == [wanted(3)].as_slice());
-    let expected = expect_ok(
+    expect_replies(
         &rt,
-        vec![in rt.alloc();
-            Told::Added(Ok(1)),
-            Told::Ran(Err(Error::Epoll(Errno(22)))),
-            Told::Added(Ok(2)),
-            Told::Ran(Ok(0)),
-            Told::Ran(Ok(1)),
-        ],
+        rt.alloc(),
+        &replies,
+        "[Added(Ok(SubscriberId { number: 1 })), Ran(Err(Epoll(Errno(22)))), Added(Ok(SubscriberId { number: 2 })), Ran(Ok(0)), Ran(Ok(1))]",
     );
-    expect_same(&rt, &expect_ok(&rt, tell(rt.alloc(), replies)), &expected);
 }

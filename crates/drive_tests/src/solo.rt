@@ -3,8 +3,8 @@
 use crate::driving::{replies_to, two_ids};
 use crate::expecting::{expect, expect_ok, expect_same};
 use crate::neighbours::{make_grasping, make_renewing, make_silent};
-use crate::subscribers::make_noting;
-use event_manager::{BoxedSubscriber, Call, Either, Events, Reply};
+use crate::subscribers::{Noting, make_noting};
+use event_manager::{BoxedSubscriber, Call, Either, Events, Reply, SubscriberId};
 use std::alloc::Global;
 use std::process::Abort;
 use std::sync::atomic::{AtomicU64, Ordering};
@@ -13,36 +13,31 @@ use std::time::Clock;
 use vmm_sys::epoll::{EpollEvent, EventSet};
 use vmm_sys::script_poller::ScriptPoller;
 
+const IN: EventSet = EventSet::IN;
+
+const OUT: EventSet = EventSet::OUT;
+
 /// Three reports, of descriptors from 3 to 8.
+const REPORTS: [&[(EventSet, u64)]; 3] = [
+    &[
+        (IN, 3),
+        (IN, 5),
+        (IN, (7 << 32) + 4),
+        (IN, 6),
+        (IN, (1 << 32) + 3),
+    ],
+    &[(IN, 5), (OUT, 3), (IN, 6)],
+    &[(OUT, 4), (IN, 8), (IN, 3)],
+];
+
+/// The poller that gives these reports.
 fn three_reports<R: Abort>(rt: &R, alloc: Global) -> ScriptPoller {
-    let first = expect_ok(
-        rt,
-        vec![in alloc;
-            EpollEvent::new(EventSet::IN, 3),
-            EpollEvent::new(EventSet::IN, 5),
-            EpollEvent::new(EventSet::IN, (7 << 32) + 4),
-            EpollEvent::new(EventSet::IN, 6),
-            EpollEvent::new(EventSet::IN, (1 << 32) + 3),
-        ],
-    );
-    let second = expect_ok(
-        rt,
-        vec![in alloc;
-            EpollEvent::new(EventSet::IN, 5),
-            EpollEvent::new(EventSet::OUT, 3),
-            EpollEvent::new(EventSet::IN, 6),
-        ],
-    );
-    let third = expect_ok(
-        rt,
-        vec![in alloc;
-            EpollEvent::new(EventSet::OUT, 4),
-            EpollEvent::new(EventSet::IN, 8),
-            EpollEvent::new(EventSet::IN, 3),
-        ],
-    );
     let mut script = ScriptPoller::new(alloc);
-    for report in [first, second, third] {
+    for events in REPORTS {
+        let mut report = Vec::new(alloc);
+        for &(set, word) in events {
+            expect_ok(rt, report.push(EpollEvent::new(set, word)));
+        }
         expect_ok(rt, script.push_report(report));
     }
     script
@@ -60,6 +55,29 @@ fn events_of_3_and_4() -> [Events; 6] {
     ]
 }
 
+/// An owner of 3 and 4, or a neighbour of it.
+type Member = Either<Noting, BoxedSubscriber>;
+
+/// The owner joins, and this neighbour behind it, if any; three runs, and the owner leaves.
+fn calls_beside<R: Abort>(
+    rt: &R,
+    alloc: Global,
+    id: SubscriberId,
+    neighbour: Option<BoxedSubscriber>,
+) -> Vec<Call<Member>> {
+    let mut calls = Vec::new(alloc);
+    let owner = make_noting(alloc, 3, 4);
+    expect_ok(rt, calls.push(Call::Add(Either::First(owner))));
+    if let Some(neighbour) = neighbour {
+        expect_ok(rt, calls.push(Call::Add(Either::Second(neighbour))));
+    }
+    for _run in 0..3 {
+        expect_ok(rt, calls.push(Call::Run(0)));
+    }
+    expect_ok(rt, calls.push(Call::Remove(id)));
+    calls
+}
+
 /// What the owner of 3 and 4 is given over the reports, where this neighbour, if any, joins behind it.
 fn seen_beside<R: Wait + Clock + Abort + Copy + Send + Drop>(
     rt: R,
@@ -67,15 +85,7 @@ fn seen_beside<R: Wait + Clock + Abort + Copy + Send + Drop>(
     neighbour: Option<BoxedSubscriber>,
 ) -> Vec<Events> {
     let [id, _] = two_ids(rt, alloc);
-    let owner = Either::First(make_noting(alloc, 3, 4));
-    let mut calls = expect_ok(&rt, vec![in alloc; Call::Add(owner)]);
-    if let Some(neighbour) = neighbour {
-        expect_ok(&rt, calls.push(Call::Add(Either::Second(neighbour))));
-    }
-    for _run in 0..3 {
-        expect_ok(&rt, calls.push(Call::Run(0)));
-    }
-    expect_ok(&rt, calls.push(Call::Remove(id)));
+    let calls = calls_beside(&rt, alloc, id, neighbour);
     let mut replies = replies_to(rt, alloc, three_reports(&rt, alloc), calls);
     match replies.pop() {
         Some(Reply::Removed(Ok(Either::First(owner)))) => owner.seen,
@@ -83,10 +93,19 @@ fn seen_beside<R: Wait + Clock + Abort + Copy + Send + Drop>(
     }
 }
 
+/// Expects that the owner of 3 and 4 is given their events beside this neighbour.
+fn expect_events_beside<R: Wait + Clock + Abort + Copy + Send + Drop>(
+    rt: R,
+    alloc: Global,
+    neighbour: Option<BoxedSubscriber>,
+) {
+    let seen = seen_beside(rt, alloc, neighbour);
+    expect(&rt, seen.as_slice() == events_of_3_and_4().as_slice());
+}
+
 #[test]
 fn alone_it_is_given_its_events_in_order(rt: HostRuntime) {
-    let alone = seen_beside(rt, rt.alloc(), None);
-    expect(&rt, alone.as_slice() == events_of_3_and_4().as_slice());
+    expect_events_beside(rt, rt.alloc(), None);
 }
 
 #[test]
@@ -94,8 +113,7 @@ fn beside_one_that_renews_its_descriptors(rt: HostRuntime) {
     let events = expect_ok(&rt, Arc::new(rt.alloc(), AtomicU64::new(0)));
     let counted = expect_ok(&rt, events.clone());
     let neighbour = expect_ok(&rt, make_renewing(rt.alloc(), counted));
-    let beside = seen_beside(rt, rt.alloc(), Some(neighbour));
-    expect(&rt, beside == seen_beside(rt, rt.alloc(), None));
+    expect_events_beside(rt, rt.alloc(), Some(neighbour));
     // Of 5 in the first two reports: with it goes the event of 6 behind.
     expect_same(&rt, &events.load(Ordering::SeqCst), &2);
 }
@@ -105,8 +123,7 @@ fn beside_one_that_asks_for_all_descriptors(rt: HostRuntime) {
     let events = expect_ok(&rt, Arc::new(rt.alloc(), AtomicU64::new(0)));
     let counted = expect_ok(&rt, events.clone());
     let neighbour = expect_ok(&rt, make_grasping(rt.alloc(), counted));
-    let beside = seen_beside(rt, rt.alloc(), Some(neighbour));
-    expect(&rt, beside == seen_beside(rt, rt.alloc(), None));
+    expect_events_beside(rt, rt.alloc(), Some(neighbour));
     // Of 5 and 6 in the first two reports, and of 8 in the third.
     expect_same(&rt, &events.load(Ordering::SeqCst), &5);
 }
@@ -114,6 +131,5 @@ fn beside_one_that_asks_for_all_descriptors(rt: HostRuntime) {
 #[test]
 fn beside_one_that_asks_for_nothing(rt: HostRuntime) {
     let neighbour = expect_ok(&rt, make_silent(rt.alloc()));
-    let beside = seen_beside(rt, rt.alloc(), Some(neighbour));
-    expect(&rt, beside == seen_beside(rt, rt.alloc(), None));
+    expect_events_beside(rt, rt.alloc(), Some(neighbour));
 }

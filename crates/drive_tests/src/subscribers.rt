@@ -1,12 +1,11 @@
 //! Subscribers of the tests.
 
-use crate::told::Named;
 use event_manager::{EventOps, EventPoller, Events, MutEventSubscriber, Request};
 use std::alloc::Global;
 use vmm_sys::epoll::EventSet;
 
 /// Asks for nothing, and changes nothing.
-#[derive(Drop)]
+#[derive(PartialEq, Debug, Drop)]
 pub struct Quiet(pub u64);
 
 impl MutEventSubscriber for Quiet {
@@ -21,14 +20,8 @@ impl MutEventSubscriber for Quiet {
     fn init<P: EventPoller>(&mut self, _ops: &mut EventOps<P>) {}
 }
 
-impl Named for Quiet {
-    fn name(&self) -> u64 {
-        self.0
-    }
-}
-
 /// Adds two descriptors in `init`, and keeps its events.
-#[derive(Drop)]
+#[derive(Debug, Drop)]
 pub struct Noting {
     first: Events,
     second: Events,
@@ -65,11 +58,5 @@ impl MutEventSubscriber for Noting {
 
     fn init<P: EventPoller>(&mut self, ops: &mut EventOps<P>) {
         let _ = ops.request_both(Request::Add(self.first), Request::Add(self.second));
-    }
-}
-
-impl Named for Noting {
-    fn name(&self) -> u64 {
-        self.first.fd() as u64
     }
 }

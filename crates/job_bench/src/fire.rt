@@ -21,6 +21,9 @@ pub const FIRE: Family = Family("fire");
 /// How many jobs a repeat sends.
 const JOBS: u32 = 20000;
 
+/// A manager of the measure.
+type Manager<N, P> = EventManager<Counter, CountOne, N, P>;
+
 /// A loop over the in-process table: all that it needs but the manager, which is made over ledgers.
 struct FiredJobs<'a, R> {
     epoll: Epoll<R>,
@@ -41,24 +44,41 @@ impl<R: Wait + Clock + Copy + Send + Drop> WithLedgers for FiredJobs<'_, R> {
             alloc,
             rt,
         } = self;
-        let mut manager = EventManager::<Counter, CountOne, N, _>::new(
-            alloc, epoll, endpoint, ledgers,
-        )?;
-        let endpoint = manager.remote_endpoint()?;
-        let id = manager.add_subscriber(Counter { count: 0 })?;
-        let times = Times::of(|| fire_and_run(&mut manager, &endpoint, id, rounds, rt), rt)?;
-        let count = manager.remove_subscriber(id)?.count;
-        Ok(Measured {
-            times,
-            operations: rounds as u64,
-            count: expect(count, REPEATS as u64 * rounds as u64)?,
-        })
+        let mut manager = Manager::<N, _>::new(alloc, epoll, endpoint, ledgers)?;
+        take(&mut manager, rounds, rt)
     }
+}
+
+/// Takes the measure on a new manager, by an endpoint of it.
+fn take<N: Naming, P: EventPoller + Drop, R: Wait + Clock>(
+    manager: &mut Manager<N, P>,
+    rounds: u32,
+    rt: &R,
+) -> Result<Measured> {
+    let endpoint = manager.remote_endpoint()?;
+    fire_often(manager, &endpoint, rounds, rt)
+}
+
+/// Lets a counter join, and sends the jobs of all repeats to it. Refused where it has counted another number.
+fn fire_often<N: Naming, P: EventPoller, R: Wait + Clock>(
+    manager: &mut Manager<N, P>,
+    endpoint: &RemoteEndpoint<Counter, CountOne, N>,
+    rounds: u32,
+    rt: &R,
+) -> Result<Measured> {
+    let id = manager.add_subscriber(Counter { count: 0 })?;
+    let times = Times::of(|| fire_and_run(manager, endpoint, id, rounds, rt), rt)?;
+    let count = manager.remove_subscriber(id)?.count;
+    Ok(Measured {
+        times,
+        operations: rounds as u64,
+        count: expect(count, REPEATS as u64 * rounds as u64)?,
+    })
 }
 
 // Sends a job and runs the manager, so often.
 fn fire_and_run<N: Naming, P: EventPoller, R: Wait + Clock>(
-    manager: &mut EventManager<Counter, CountOne, N, P>,
+    manager: &mut Manager<N, P>,
     endpoint: &RemoteEndpoint<Counter, CountOne, N>,
     id: SubscriberId,
     rounds: u32,

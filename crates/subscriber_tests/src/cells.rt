@@ -5,7 +5,7 @@ use crate::expecting::{expect, expect_ok, expect_same};
 use crate::served::{served, two_reports};
 use event_manager::{EventManager, EventPoller, Locked, Naming, NoJob, SubscriberOps};
 use fixtures::counting::{Counting, counting_on};
-use fixtures::making::{WithManager, no_memory, with_manager};
+use fixtures::making::{WithManager, with_manager};
 use fixtures::parts::{Parts, silent_parts};
 use fixtures::runs::{Failure, run_alone};
 use std::cell::RefCell;
@@ -14,8 +14,8 @@ use std::rc::Rc;
 use std::sync::atomic::{AtomicU64, Ordering};
 use std::sync::{Arc, Wait};
 use std::thread;
+use std::thread::{JoinHandle, Threads};
 use std::time::{Clock, Duration};
-use vmm_sys::epoll::EventSet;
 use vmm_sys::script_poller::ScriptPoller;
 
 /// How many events the subscriber in the cell has counted; `None` where the cell is busy.
@@ -27,19 +27,13 @@ fn count_in(cell: &RefCell<Counting>) -> Option<u64> {
 fn free_cell_is_called_and_left_free(rt: HostRuntime) {
     let cell = expect_ok(&rt, Rc::new(rt.alloc(), RefCell::new(counting_on(3))));
     let held = expect_ok(&rt, cell.clone());
-    served(rt, rt.alloc(), EventSet::IN, 0, held);
+    served(rt, rt.alloc(), held);
     expect_same(&rt, &count_in(&cell), &Some(2));
 }
 
 #[test]
 fn owned_cell_is_called(rt: HostRuntime) {
-    let cell = served(
-        rt,
-        rt.alloc(),
-        EventSet::IN,
-        0,
-        RefCell::new(counting_on(3)),
-    );
+    let cell = served(rt, rt.alloc(), RefCell::new(counting_on(3)));
     expect_same(&rt, &count_in(&cell), &Some(2));
 }
 
@@ -60,7 +54,8 @@ impl<R: Wait + Clock + Abort> WithManager for BusyThenFree<'_, R> {
         manager: &mut EventManager<Rc<RefCell<Counting>>, NoJob, N, P>,
     ) -> event_manager::Result<()> {
         let BusyThenFree { rt, cell } = self;
-        manager.add_subscriber(cell.clone().map_err(no_memory)?)?;
+        let held = expect_ok(rt, cell.clone());
+        expect_ok(rt, manager.add_subscriber(held));
         {
             let held = cell.try_borrow_mut();
             expect(rt, held.is_ok());
@@ -79,7 +74,7 @@ fn busy_cell_skips_the_call(rt: HostRuntime) {
         rt: &rt,
         cell: expect_ok(&rt, cell.clone()),
     };
-    let poller = expect_ok(&rt, two_reports(rt.alloc(), EventSet::IN, 0));
+    let poller = expect_ok(&rt, two_reports(rt.alloc()));
     let parts = expect_ok(&rt, silent_parts(rt, rt.alloc(), poller));
     expect_ok(&rt, with_manager(parts, body));
     expect_same(&rt, &count_in(&cell), &Some(1));
@@ -115,7 +110,7 @@ impl<R: Wait + Clock + Abort + Drop> WithManager for Turns<'_, R> {
     ) -> event_manager::Result<()> {
         let Turns { rt, locked, turn } = self;
         expect_turn(rt, turn, 1);
-        manager.add_subscriber(locked)?;
+        expect_ok(rt, manager.add_subscriber(locked));
         turn.store(2, Ordering::SeqCst);
         for odd in [3, 5] {
             expect_turn(rt, turn, odd);
@@ -126,43 +121,58 @@ impl<R: Wait + Clock + Abort + Drop> WithManager for Turns<'_, R> {
     }
 }
 
+/// What a test on two threads needs of the runtime.
+trait Host: Threads + Wait + Clock + Abort + Copy + Send + Sync + Drop + 'static {}
+
+impl<R: Threads + Wait + Clock + Abort + Copy + Send + Sync + Drop + 'static> Host for R {}
+
+/// A second thread that takes the turns.
+fn start_turns<R: Host>(
+    rt: R,
+    parts: Parts<ScriptPoller>,
+    locked: &Arc<Locked<Counting, R>>,
+    turn: &Arc<AtomicU64>,
+) -> JoinHandle<event_manager::Result<()>> {
+    let (locked, turn) = (expect_ok(&rt, locked.clone()), expect_ok(&rt, turn.clone()));
+    let started = thread::spawn(&rt, move || {
+        let body = Turns {
+            rt: &rt,
+            locked,
+            turn: &turn,
+        };
+        let done = with_manager(parts, body);
+        // Also where a call was refused: then no turn is waited for.
+        turn.store(u64::MAX, Ordering::SeqCst);
+        done
+    });
+    expect_ok(&rt, started)
+}
+
+/// Gives the turn while the lock is held: it must not end before the lock is free, and then it must.
+fn expect_wait<R: Host>(rt: &R, locked: &Locked<Counting, R>, turn: &AtomicU64, odd: u64) {
+    let Some(held) = locked.mutex.try_lock() else {
+        panic!(rt; "the lock is kept");
+    };
+    turn.fetch_max(odd, Ordering::SeqCst);
+    thread::sleep(rt, Duration::from_millis(20));
+    expect_same(rt, &turn.load(Ordering::SeqCst), &odd);
+    drop(held);
+    expect_turn(rt, turn, odd.saturating_add(1));
+}
+
 #[test]
 fn lock_is_waited_for_and_left_free(rt: HostRuntime) {
     let locked = expect_ok(&rt, Arc::new(rt.alloc(), Locked::new(counting_on(3), rt)));
     let turn = expect_ok(&rt, Arc::new(rt.alloc(), AtomicU64::new(0)));
-    let script = expect_ok(&rt, two_reports(rt.alloc(), EventSet::IN, 0));
+    let script = expect_ok(&rt, two_reports(rt.alloc()));
     let parts = expect_ok(&rt, silent_parts(rt, rt.alloc(), script));
-    let (their_locked, their_turn) = (expect_ok(&rt, locked.clone()), expect_ok(&rt, turn.clone()));
-    let runner = expect_ok(
-        &rt,
-        thread::spawn(&rt, move || {
-            let body = Turns {
-                rt: &rt,
-                locked: their_locked,
-                turn: &their_turn,
-            };
-            let done = with_manager(parts, body);
-            // Also where a call was refused: then no turn is waited for.
-            their_turn.store(u64::MAX, Ordering::SeqCst);
-            done
-        }),
-    );
+    let runner = start_turns(rt, parts, &locked, &turn);
     for odd in [1, 3, 5] {
-        let Some(held) = locked.mutex.try_lock() else {
-            panic!(rt; "the lock is kept");
-        };
-        turn.fetch_max(odd, Ordering::SeqCst);
-        thread::sleep(&rt, Duration::from_millis(20));
-        expect_same(&rt, &turn.load(Ordering::SeqCst), &odd);
-        drop(held);
-        expect_turn(&rt, &turn, odd + 1);
+        expect_wait(&rt, &locked, &turn, odd);
     }
     expect_same(&rt, &runner.join(&rt), &Ok(()));
-    expect_same(
-        &rt,
-        &locked.mutex.try_lock().map(|held| held.count),
-        &Some(2),
-    );
+    let count = locked.mutex.try_lock().map(|held| held.count);
+    expect_same(&rt, &count, &Some(2));
 }
 
 /// Serves a subscriber under a lock the two reports, and sets the flag when that is done.
@@ -184,7 +194,7 @@ fn subscriber_under_a_lock_counts_in_an_atomic(rt: HostRuntime) {
     let locked = Locked::new(expect_ok(&rt, shared_counting(&count)), rt);
     let over = expect_ok(&rt, Arc::new(rt.alloc(), AtomicU64::new(0)));
     let theirs = expect_ok(&rt, over.clone());
-    let script = expect_ok(&rt, two_reports(rt.alloc(), EventSet::IN, 0));
+    let script = expect_ok(&rt, two_reports(rt.alloc()));
     let parts = expect_ok(&rt, silent_parts(rt, rt.alloc(), script));
     let runner = expect_ok(
         &rt,

@@ -5,7 +5,7 @@ use event_manager::{
     Error, EventManager, EventPoller, Naming, NoJob, Result, SubscriberId, SubscriberOps,
 };
 use fixtures::counting::{Counting, counting_on};
-use fixtures::making::{WithManager, no_memory, with_manager};
+use fixtures::making::{WithManager, with_manager};
 use fixtures::parts::silent_parts;
 use fixtures::scripts::script_of;
 use std::alloc::Global;
@@ -40,12 +40,11 @@ fn expect_leave<S: SubscriberOps<Subscriber = Counting>, R: Abort>(
     rt: &R,
     manager: &mut S,
     id: SubscriberId,
-) -> Result<()> {
-    let left = manager.remove_subscriber(id)?;
+) {
+    let left = expect_ok(rt, manager.remove_subscriber(id));
     expect_same(rt, &left.count, &id.number());
     let again = manager.remove_subscriber(id).err();
     expect_same(rt, &again, &Some(Error::InvalidId));
-    Ok(())
 }
 
 impl<R: Abort> WithManager for Comings<'_, R> {
@@ -62,11 +61,11 @@ impl<R: Abort> WithManager for Comings<'_, R> {
         for number in 1..5001 {
             let mut newcomer = counting_on((number % 1000) as u16);
             newcomer.count = number;
-            let id = manager.add_subscriber(newcomer)?;
+            let id = expect_ok(rt, manager.add_subscriber(newcomer));
             expect_same(rt, &id.number(), &number);
-            staying.push(id).map_err(no_memory)?;
+            expect_ok(rt, staying.push(id));
             if staying.len() > STAYING {
-                expect_leave(rt, manager, staying.remove(number as usize * 7 % STAYING))?;
+                expect_leave(rt, manager, staying.remove(number as usize * 7 % STAYING));
             }
             for id in &staying {
                 expect_count(rt, manager, *id);
@@ -111,17 +110,27 @@ impl<R: Wait + Clock + Abort> WithManager for Replacing<'_, R> {
         manager: &mut EventManager<Counting, NoJob, N, P>,
     ) -> Result<(u64, u64, u64)> {
         let Replacing { rt, newcomer } = self;
-        let first = manager.add_subscriber(counting_on(3))?;
-        let middle = manager.add_subscriber(counting_on(4))?;
-        let last = manager.add_subscriber(counting_on(5))?;
-        manager.remove_subscriber(middle)?;
-        let newcomer = manager.add_subscriber(newcomer)?;
+        let first = expect_ok(rt, manager.add_subscriber(counting_on(3)));
+        let middle = expect_ok(rt, manager.add_subscriber(counting_on(4)));
+        let last = expect_ok(rt, manager.add_subscriber(counting_on(5)));
+        expect_ok(rt, manager.remove_subscriber(middle));
+        let newcomer = expect_ok(rt, manager.add_subscriber(newcomer));
         expect_same(rt, &manager.run(rt), &Ok(3));
-        let first = manager.remove_subscriber(first)?;
-        let last = manager.remove_subscriber(last)?;
-        let newcomer = manager.remove_subscriber(newcomer)?;
-        Ok((first.count, last.count, newcomer.count))
+        Ok((
+            count_of(rt, manager, first),
+            count_of(rt, manager, last),
+            count_of(rt, manager, newcomer),
+        ))
     }
+}
+
+/// Lets it leave: its count.
+fn count_of<S: SubscriberOps<Subscriber = Counting>, R: Abort>(
+    rt: &R,
+    manager: &mut S,
+    id: SubscriberId,
+) -> u64 {
+    expect_ok(rt, manager.remove_subscriber(id)).count
 }
 
 /// The counts after a report of 4, of 6 and of 3.

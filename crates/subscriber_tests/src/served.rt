@@ -4,7 +4,7 @@ use crate::expecting::expect_ok;
 use event_manager::MutEventSubscriber;
 use fixtures::parts::silent_parts;
 use fixtures::runs::run_alone;
-use fixtures::scripts::{push_words, script_of_words};
+use fixtures::scripts::{push_words, script_of};
 use std::alloc::Global;
 use std::process::Abort;
 use std::sync::Wait;
@@ -13,24 +13,20 @@ use vmm_sys::epoll::EventSet;
 use vmm_sys::errno::Errno;
 use vmm_sys::script_poller::ScriptPoller;
 
-/// The descriptor of the reports.
-const FD: u64 = 3;
-
-/// A report of `first` and one of `IN`, both of descriptor 3 with this data.
-pub fn two_reports(alloc: Global, first: EventSet, payload: u32) -> Result<ScriptPoller, Errno> {
-    let word = (payload as u64) << 32 | FD;
-    let mut script = script_of_words(alloc, first, &[word])?;
-    push_words(&mut script, alloc, EventSet::IN, &[word])?;
+/// Two reports of one event of descriptor 3.
+pub fn two_reports(alloc: Global) -> Result<ScriptPoller, Errno> {
+    let mut script = script_of(alloc, &[3])?;
+    push_words(&mut script, alloc, EventSet::IN, &[3])?;
     Ok(script)
 }
 
 /// The subscriber, after these reports.
-pub fn served<S, R>(rt: R, alloc: Global, first: EventSet, payload: u32, subscriber: S) -> S
+pub fn served<S, R>(rt: R, alloc: Global, subscriber: S) -> S
 where
     S: MutEventSubscriber + Drop,
     R: Wait + Clock + Abort + Copy + Send + Drop,
 {
-    let script = expect_ok(&rt, two_reports(alloc, first, payload));
+    let script = expect_ok(&rt, two_reports(alloc));
     let parts = expect_ok(&rt, silent_parts(rt, alloc, script));
     let runs = [(None, Ok(1)), (None, Ok(1))];
     expect_ok(&rt, run_alone(&rt, parts, subscriber, &runs))

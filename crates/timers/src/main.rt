@@ -6,8 +6,10 @@ pub mod stop;
 pub mod wheel;
 
 use event_manager::{
-    Error, EventManager, Ledgers, Naming, Result, SubscriberOps, WithLedgers, with_ledgers,
+    Error, EventManager, EventPoller, Ledgers, Naming, RemoteEndpoint, Result, SubscriberId,
+    SubscriberOps, WithLedgers, with_ledgers,
 };
+use std::alloc::Global;
 use std::process::ExitCode;
 use std::sync::Wait;
 use std::time::Clock;
@@ -30,6 +32,9 @@ const STOP_AT: u64 = 8;
 /// How many ticks a wheel runs at most.
 const MOST_TICKS: u64 = 100;
 
+/// The manager of a wheel.
+type Manager<R, N, P> = EventManager<Wheel<R>, Stop, N, P>;
+
 /// A wheel that is ready to run: all that it needs but the manager, which is made over ledgers.
 struct Program<'a, R> {
     rt: &'a R,
@@ -41,7 +46,7 @@ struct Program<'a, R> {
 impl<R: Wait + Clock + Print + AllocGlobal + Clone + Send + Drop> WithLedgers for Program<'_, R> {
     type Output = Result<u64>;
 
-    /// Arms the timers, and runs the wheel until it is stopped. Answers how many ticks it ran.
+    /// Makes the manager, and runs the wheel on it. Answers how many ticks it ran.
     fn run<N: Naming + Send + Sync>(self, ledgers: Ledgers<N>) -> Result<u64> {
         let Program {
             rt,
@@ -49,30 +54,72 @@ impl<R: Wait + Clock + Print + AllocGlobal + Clone + Send + Drop> WithLedgers fo
             endpoint,
             wheel,
         } = self;
-        let mut manager = EventManager::<Wheel<R>, Stop, N, _>::new(
-            rt.alloc(),
-            epoll,
-            endpoint,
-            ledgers,
-        )?;
-        let endpoint = manager.remote_endpoint()?;
-        let interests = wheel.interests(rt.alloc())?;
-        let wheel = manager.add_subscriber(wheel)?;
-        for events in interests {
-            manager.event_ops(wheel)?.add(events)?;
-        }
-        for tick in 1..=MOST_TICKS {
-            manager.subscriber_mut(wheel)?.advance(tick)?;
-            if tick == STOP_AT {
-                let _ticket = endpoint.fire(Stop(wheel), rt)?;
-            }
-            manager.run_with_timeout(0, rt)?;
-            if manager.subscriber_mut(wheel)?.is_stopped() {
-                return Ok(tick);
-            }
-        }
-        Ok(MOST_TICKS)
+        let mut manager = Manager::<R, N, _>::new(rt.alloc(), epoll, endpoint, ledgers)?;
+        run_wheel(&mut manager, wheel, rt)
     }
+}
+
+/// Takes the wheel in, arms its timers, and runs it until it is stopped. Answers how many ticks it ran.
+fn run_wheel<R: Wait + Clock + Print + AllocGlobal + Drop, N: Naming, P: EventPoller + Drop>(
+    manager: &mut Manager<R, N, P>,
+    wheel: Wheel<R>,
+    rt: &R,
+) -> Result<u64> {
+    let endpoint = manager.remote_endpoint()?;
+    let wheel = arm(manager, wheel, rt.alloc())?;
+    turn(manager, &endpoint, wheel, rt)
+}
+
+/// Takes the wheel in, and arms its timers.
+fn arm<R: Wait + Print + Drop, N: Naming, P: EventPoller>(
+    manager: &mut Manager<R, N, P>,
+    wheel: Wheel<R>,
+    alloc: Global,
+) -> Result<SubscriberId> {
+    let interests = wheel.interests(alloc)?;
+    let wheel = manager.add_subscriber(wheel)?;
+    let ops = manager.event_ops(wheel)?;
+    for events in interests {
+        ops.add(events)?;
+    }
+    Ok(wheel)
+}
+
+/// Runs the wheel tick by tick until it is stopped. Answers how many ticks it ran.
+fn turn<R: Wait + Clock + Print + Drop, N: Naming, P: EventPoller>(
+    manager: &mut Manager<R, N, P>,
+    endpoint: &RemoteEndpoint<Wheel<R>, Stop, N>,
+    wheel: SubscriberId,
+    rt: &R,
+) -> Result<u64> {
+    for tick in 1..=MOST_TICKS {
+        manager.subscriber_mut(wheel)?.advance(tick)?;
+        if tick == STOP_AT {
+            let _ticket = endpoint.fire(Stop(wheel), rt)?;
+        }
+        manager.run_with_timeout(0, rt)?;
+        if manager.subscriber_mut(wheel)?.is_stopped() {
+            return Ok(tick);
+        }
+    }
+    Ok(MOST_TICKS)
+}
+
+/// Makes the timers, each with a counter of the poller's table.
+fn make_timers<R: Wait + Clock + AllocGlobal + Clone + Send + Drop>(
+    epoll: &Epoll<R>,
+    rt: &R,
+) -> Result<Vec<Timer>> {
+    let mut timers = Vec::new(rt.alloc());
+    for (name, schedule) in TIMERS {
+        let counter = EventFd::new(epoll, 0, rt).map_err(Error::EventFd)?;
+        timers.push(Timer {
+            name,
+            schedule,
+            counter,
+        })?;
+    }
+    Ok(timers)
 }
 
 /// Makes the wheel, and runs it. Answers how many ticks it ran.
@@ -81,16 +128,7 @@ impl<R: Wait + Clock + Print + AllocGlobal + Clone + Send + Drop> WithLedgers fo
 fn run<R: Wait + Clock + Print + AllocGlobal + Copy + Send + Drop>(rt: &R) -> Result<u64> {
     let epoll = Epoll::new(*rt, rt.alloc()).map_err(Error::Epoll)?;
     let endpoint = EventFd::new(&epoll, 0, rt).map_err(Error::EventFd)?;
-    let mut timers = Vec::new(rt.alloc());
-    for (name, schedule) in TIMERS {
-        let counter = EventFd::new(&epoll, 0, rt).map_err(Error::EventFd)?;
-        timers.push(Timer {
-            name,
-            schedule,
-            counter,
-        })?;
-    }
-    let wheel = Wheel::new(timers, *rt);
+    let wheel = Wheel::new(make_timers(&epoll, rt)?, *rt);
     with_ledgers(Program {
         rt,
         epoll,

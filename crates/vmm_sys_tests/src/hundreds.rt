@@ -45,9 +45,9 @@ const INTERESTS: u64 = 4096;
 #[test]
 fn each_of_4096_interests_is_reported_in_turn(rt: HostRuntime) {
     let mut table = ready_table(&rt, rt.alloc());
-    expect_one_a_wait(&rt, &mut table);
+    expect_one_a_wait(&rt, &mut table, INTERESTS);
     // Round again, from the first.
-    expect_one_a_wait(&rt, &mut table);
+    expect_one_a_wait(&rt, &mut table, INTERESTS);
 }
 
 // The words are the descriptors.
@@ -60,13 +60,18 @@ fn ready_table<R: Abort>(rt: &R, alloc: Global) -> Table {
     table
 }
 
-// Waits with room for one report the interests in the order of their words.
-fn expect_one_a_wait<R: Abort>(rt: &R, table: &mut Table) {
-    for word in 0..INTERESTS {
-        let mut buffer = [no_event()];
-        expect_same(rt, &table.wait(&mut buffer), &Ok(1));
-        expect_same(rt, &buffer, &[input(word)]);
+// Waits with room for one report the words in their order.
+fn expect_one_a_wait<P: Poller, R: Abort>(rt: &R, poller: &mut P, words: u64) {
+    for word in 0..words {
+        expect_next(rt, poller, word);
     }
+}
+
+// A wait with room for one reports this word.
+fn expect_next<P: Poller, R: Abort>(rt: &R, poller: &mut P, word: u64) {
+    let mut buffer = [no_event()];
+    expect_same(rt, &poller.wait(0, &mut buffer), &Ok(1));
+    expect_same(rt, &buffer, &[input(word)]);
 }
 
 #[test]
@@ -78,9 +83,7 @@ fn half_of_4096_interests_are_taken_out(rt: HostRuntime) {
         }
     }
     for word in 0..INTERESTS {
-        let mut buffer = [no_event()];
-        expect_same(&rt, &table.wait(&mut buffer), &Ok(1));
-        expect_same(&rt, &buffer, &[input(word.wrapping_mul(2) % INTERESTS)]);
+        expect_next(&rt, &mut table, word.wrapping_mul(2) % INTERESTS);
     }
 }
 
@@ -129,11 +132,7 @@ fn a_thousand_reports(rt: HostRuntime) {
         let report = expect_ok(&rt, vec![in rt.alloc(); input(word)]);
         expect_ok(&rt, script.push_report(report));
     }
-    for word in 0..MANY {
-        let mut buffer = [no_event()];
-        expect_same(&rt, &script.wait(0, &mut buffer), &Ok(1));
-        expect_same(&rt, &buffer, &[input(word)]);
-    }
+    expect_one_a_wait(&rt, &mut script, MANY);
 }
 
 #[test]
@@ -172,7 +171,11 @@ fn a_report_of_a_thousand(rt: HostRuntime) {
     expect_ok(&rt, script.push_report(report));
     let mut buffer = [no_event(); 1000];
     expect_same(&rt, &script.wait(0, &mut buffer), &Ok(1000));
-    for (entry, word) in buffer.into_iter().zip(0..MANY) {
-        expect_same(&rt, &entry, &input(word));
+    expect_words_in_turn(&rt, &buffer);
+}
+
+fn expect_words_in_turn<R: Abort>(rt: &R, entries: &[EpollEvent]) {
+    for (entry, word) in entries.iter().zip(0..MANY) {
+        expect_same(rt, entry, &input(word));
     }
 }

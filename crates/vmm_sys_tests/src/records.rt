@@ -55,13 +55,9 @@ fn run<R: Abort, P: Poller>(rt: &R, poller: &mut P) {
     expect_same(rt, &poller.wait(-1, &mut []), &Err(Errno::EINVAL));
 }
 
-#[test]
-fn a_table_is_recorded_and_replayed(rt: HostRuntime) {
-    let mut recording = recording(&rt, rt.alloc(), 7);
-    run(&rt, &mut recording);
-    expect_same(&rt, &recording.is_complete(), &true);
-    let (_, record) = recording.into_parts();
-    let expected = [
+// The entries of that run.
+fn entries() -> [RecordEntry; 7] {
+    [
         added(0, Ok(())),
         added(0, Err(Errno::EEXIST)),
         added(1, Ok(())),
@@ -69,14 +65,26 @@ fn a_table_is_recorded_and_replayed(rt: HostRuntime) {
         RecordEntry::Reported(event(7)),
         RecordEntry::Reported(event(7)),
         waited(0, Err(Errno::EINVAL)),
-    ];
-    expect_same(&rt, &record.as_slice(), &expected.as_slice());
-    let mut replay = ReplayPoller::new(record);
-    run(&rt, &mut replay);
-    expect_same(&rt, &(replay.is_over(), replay.diverged()), &(true, None));
+    ]
+}
+
+#[test]
+fn a_table_is_recorded_and_replayed(rt: HostRuntime) {
+    let mut recording = recording(&rt, rt.alloc(), 7);
+    run(&rt, &mut recording);
+    expect_same(&rt, &recording.is_complete(), &true);
+    expect_same(&rt, &recording.record(), &entries().as_slice());
+    let (_, record) = recording.into_parts();
+    expect_replayed(&rt, &mut ReplayPoller::new(record));
+}
+
+// Makes the run again, and then one call too many.
+fn expect_replayed<R: Abort>(rt: &R, replay: &mut ReplayPoller) {
+    run(rt, replay);
+    expect_same(rt, &(replay.is_over(), replay.diverged()), &(true, None));
     let past = replay.ctl(ADD, 0, event(7));
-    expect_same(&rt, &past, &Err(Errno::EIO));
-    expect_same(&rt, &(replay.passed(), replay.diverged()), &(7, Some(7)));
+    expect_same(rt, &past, &Err(Errno::EIO));
+    expect_same(rt, &(replay.passed(), replay.diverged()), &(7, Some(7)));
 }
 
 #[test]
@@ -87,16 +95,20 @@ fn a_divergence_is_named(rt: HostRuntime) {
         RecordEntry::Reported(event(7)),
     ];
     let record = expect_ok(&rt, Vec::from_array(rt.alloc(), report));
-    let mut replay = ReplayPoller::new(record);
-    expect_same(&rt, &replay.ctl(ADD, 0, event(7)), &Ok(()));
+    expect_divergence(&rt, &mut ReplayPoller::new(record));
+}
+
+// Waits with more room than was recorded, and then with as much.
+fn expect_divergence<R: Abort>(rt: &R, replay: &mut ReplayPoller) {
+    expect_same(rt, &replay.ctl(ADD, 0, event(7)), &Ok(()));
     let mut buffer = [event(0); 2];
     let wait = replay.wait(-1, &mut buffer);
-    expect_same(&rt, &wait, &Err(Errno::EIO));
-    expect_same(&rt, &buffer, &[event(0); 2]);
+    expect_same(rt, &wait, &Err(Errno::EIO));
+    expect_same(rt, &buffer, &[event(0); 2]);
     let right = replay.wait(-1, &mut buffer[..1]);
-    expect_same(&rt, &right, &Err(Errno::EIO));
+    expect_same(rt, &right, &Err(Errno::EIO));
     expect_same(
-        &rt,
+        rt,
         &(replay.is_over(), replay.diverged()),
         &(false, Some(1)),
     );
@@ -107,10 +119,5 @@ fn a_full_record_is_the_front_of_the_run(rt: HostRuntime) {
     let mut recording = recording(&rt, rt.alloc(), 5);
     run(&rt, &mut recording);
     expect_same(&rt, &recording.is_complete(), &false);
-    let expected = [
-        added(0, Ok(())),
-        added(0, Err(Errno::EEXIST)),
-        added(1, Ok(())),
-    ];
-    expect_same(&rt, &recording.record(), &expected.as_slice());
+    expect_same(&rt, &recording.record(), &&entries()[..3]);
 }

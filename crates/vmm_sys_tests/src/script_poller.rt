@@ -1,6 +1,8 @@
 //! The poller that follows a script.
 
 use crate::expecting::{expect_ok, expect_same};
+use std::alloc::Global;
+use std::process::Abort;
 use vmm_sys::epoll::{ControlOperation, EpollEvent, EventSet};
 use vmm_sys::errno::Errno;
 use vmm_sys::poller::Poller;
@@ -19,36 +21,50 @@ fn event(word: u64) -> EpollEvent {
 #[test]
 fn reports_and_faults(rt: HostRuntime) {
     let mut script = ScriptPoller::new(rt.alloc());
-    let report = expect_ok(&rt, vec![in rt.alloc(); event(1), event(2), event(3)]);
-    expect_ok(&rt, script.push_report(report));
-    expect_ok(&rt, script.push_fault(Errno::EINTR));
-    expect_ok(&rt, script.push_report(Vec::new(rt.alloc())));
-    let boxed = expect_ok(&rt, Box::new(rt.alloc(), script));
-    let mut poller: Box<dyn Poller + Send> = boxed;
-    let table = [
+    push_waits(&rt, rt.alloc(), &mut script);
+    expect_waits(&rt, &mut script);
+}
+
+// A report of three events, a fault, and an empty report.
+fn push_waits<R: Abort>(rt: &R, alloc: Global, script: &mut ScriptPoller) {
+    let report = expect_ok(rt, vec![in alloc; event(1), event(2), event(3)]);
+    expect_ok(rt, script.push_report(report));
+    expect_ok(rt, script.push_fault(Errno::EINTR));
+    expect_ok(rt, script.push_report(Vec::new(alloc)));
+}
+
+// Waits without room, and with room for two events, until the script is over.
+fn expect_waits<R: Abort>(rt: &R, script: &mut ScriptPoller) {
+    let rows = [
         (Ok(2), [event(1), event(2)]),
         (Ok(1), [event(3), event(0)]),
-        (Err(Errno::EINTR), [event(0), event(0)]),
-        (Ok(0), [event(0), event(0)]),
-        (Ok(0), [event(0), event(0)]),
+        (Err(Errno::EINTR), [event(0); 2]),
+        (Ok(0), [event(0); 2]),
+        (Ok(0), [event(0); 2]),
     ];
-    for (answer, entries) in table {
+    for (answer, entries) in rows {
         let mut buffer = [event(0); 2];
-        expect_same(&rt, &poller.wait(-1, &mut []), &Err(Errno::EINVAL));
-        expect_same(&rt, &poller.wait(-1, &mut buffer), &answer);
-        expect_same(&rt, &buffer, &entries);
+        expect_same(rt, &script.wait(-1, &mut []), &Err(Errno::EINVAL));
+        expect_same(rt, &script.wait(-1, &mut buffer), &answer);
+        expect_same(rt, &buffer, &entries);
     }
 }
 
 #[test]
 fn refusals_in_the_order_of_pushing(rt: HostRuntime) {
     let mut script = ScriptPoller::new(rt.alloc());
-    expect_ok(&rt, script.push_refusal(ADD, 3, Errno(22)));
-    expect_ok(&rt, script.push_refusal(DELETE, 3, Errno(5)));
-    expect_ok(&rt, script.push_refusal(ADD, 3, Errno(23)));
-    let boxed = expect_ok(&rt, Box::new(rt.alloc(), script));
-    let mut poller: Box<dyn Poller + Send> = boxed;
-    let table = [
+    push_refusals(&rt, &mut script);
+    expect_requests(&rt, &mut script);
+}
+
+fn push_refusals<R: Abort>(rt: &R, script: &mut ScriptPoller) {
+    for (op, errno) in [(ADD, 22), (DELETE, 5), (ADD, 23)] {
+        expect_ok(rt, script.push_refusal(op, 3, Errno(errno)));
+    }
+}
+
+fn expect_requests<R: Abort>(rt: &R, script: &mut ScriptPoller) {
+    let rows = [
         (MODIFY, 3, Ok(())),
         (ADD, 4, Ok(())),
         (ADD, 3, Err(Errno(22))),
@@ -57,7 +73,7 @@ fn refusals_in_the_order_of_pushing(rt: HostRuntime) {
         (DELETE, 3, Err(Errno(5))),
         (DELETE, 3, Ok(())),
     ];
-    for (op, fd, answer) in table {
-        expect_same(&rt, &poller.ctl(op, fd, event(0)), &answer);
+    for (op, fd, answer) in rows {
+        expect_same(rt, &script.ctl(op, fd, event(0)), &answer);
     }
 }

@@ -3,7 +3,7 @@
 use crate::expecting::{expect_ok, expect_same};
 use crate::fixture::{HIGHEST, entry, want};
 use crate::host::Host;
-use crate::waiter::{Waiter, expect_set, no_event};
+use crate::waiter::{expect_set, no_event, report_of};
 use std::alloc::Global;
 use std::process::Abort;
 use std::sync::Arc;
@@ -92,7 +92,7 @@ fn expect_order_of_service<R: Host>(rt: R, alloc: Global, ms: i32) {
         want(&rt, &mut epoll, &counter, EventSet::IN);
     }
     for (first, second) in [(0, 1), (2, 3), (4, 0), (1, 2)] {
-        let report = Waiter::start(rt, alloc, &epoll, ms).report(&rt);
+        let report = report_of(rt, alloc, &epoll, ms);
         expect_same(&rt, &report.answer, &Ok(2));
         expect_same(
             &rt,
@@ -172,18 +172,4 @@ fn lines_of_one_table_are_apart(rt: HostRuntime) {
         expect_same(&rt, &epoll.wait(0, &mut buffer), &Ok(count));
         expect_same(&rt, &buffer, &[reported, no_event()]);
     }
-}
-
-#[test]
-fn a_boxed_poller_moves_to_another_thread(rt: HostRuntime) {
-    let mut epoll = expect_ok(&rt, Epoll::new(rt, rt.alloc()));
-    let counter = expect_ok(&rt, EventFd::new(&epoll, 1, &rt));
-    want(&rt, &mut epoll, &counter, EventSet::IN);
-    let boxed = expect_ok(&rt, Box::new(rt.alloc(), epoll));
-    let mut poller: Box<dyn Poller + Send> = boxed;
-    let waiter = expect_ok(
-        &rt,
-        thread::spawn(&rt, move || poller.wait(5_000, &mut [no_event()])),
-    );
-    expect_same(&rt, &waiter.join(&rt), &Ok(1));
 }

@@ -3,14 +3,14 @@
 use crate::expecting::expect_same;
 use crate::fixture::{Change, Fixture};
 use crate::host::pause;
-use crate::waiter::{Waiter, no_event};
+use crate::waiter::{Waiter, no_event, report_of};
 use std::time::Duration;
 
 #[test]
 fn a_timed_wait_ends_by_the_clock(rt: HostRuntime) {
     let fixture = Fixture::new(rt, rt.alloc());
     for ms in [1, 100] {
-        let report = Waiter::start(rt, rt.alloc(), &fixture.epoll, ms).report(&rt);
+        let report = report_of(rt, rt.alloc(), &fixture.epoll, ms);
         expect_same(&rt, &report.answer, &Ok(0));
         assert!(rt; report.took >= Duration::from_millis(ms as u64));
     }
@@ -19,7 +19,7 @@ fn a_timed_wait_ends_by_the_clock(rt: HostRuntime) {
 #[test]
 fn a_wait_with_limit_0_does_not_sleep(rt: HostRuntime) {
     let fixture = Fixture::new(rt, rt.alloc());
-    let report = Waiter::start(rt, rt.alloc(), &fixture.epoll, 0).report(&rt);
+    let report = report_of(rt, rt.alloc(), &fixture.epoll, 0);
     expect_same(&rt, &report.answer, &Ok(0));
 }
 
@@ -28,7 +28,7 @@ fn a_wait_does_not_sleep_where_something_is_ready(rt: HostRuntime) {
     let mut fixture = Fixture::new(rt, rt.alloc());
     let event = fixture.make(Change::Write, &rt);
     for ms in [-1, 0, 60_000] {
-        let report = Waiter::start(rt, rt.alloc(), &fixture.epoll, ms).report(&rt);
+        let report = report_of(rt, rt.alloc(), &fixture.epoll, ms);
         expect_same(&rt, &report.answer, &Ok(1));
         expect_same(&rt, &report.buffer, &[event, no_event()]);
     }

@@ -1,6 +1,6 @@
-//! Event sets and error numbers.
+//! Event sets, and the constants of error numbers.
 
-use crate::expecting::{expect_ok, expect_same};
+use crate::expecting::expect_same;
 use vmm_sys::epoll::EventSet;
 use vmm_sys::errno::Errno;
 
@@ -28,22 +28,21 @@ fn sets_by_their_operators(rt: HostRuntime) {
     }
 }
 
+/// Each constant, and its number in Linux.
+const NUMBERS: [(Errno, i32); 8] = [
+    (Errno::ENOENT, 2),
+    (Errno::EINTR, 4),
+    (Errno::EBADF, 9),
+    (Errno::EAGAIN, 11),
+    (Errno::ENOMEM, 12),
+    (Errno::EEXIST, 17),
+    (Errno::EINVAL, 22),
+    (Errno::EMFILE, 24),
+];
+
 #[test]
-fn numbers_and_texts(rt: HostRuntime) {
-    let table = [
-        (Errno::ENOENT, 2, "os error 2"),
-        (Errno::EINTR, 4, "os error 4"),
-        (Errno::EBADF, 9, "os error 9"),
-        (Errno::EAGAIN, 11, "os error 11"),
-        (Errno::ENOMEM, 12, "os error 12"),
-        (Errno::EEXIST, 17, "os error 17"),
-        (Errno::EINVAL, 22, "os error 22"),
-        (Errno::EMFILE, 24, "os error 24"),
-        (Errno(-5), -5, "os error -5"),
-    ];
-    for (errno, number, text) in table {
+fn constants_have_their_numbers(rt: HostRuntime) {
+    for (errno, number) in NUMBERS {
         expect_same(&rt, &errno.0, &number);
-        let printed = expect_ok(&rt, format!(in rt.alloc(); "{errno}"));
-        expect_same(&rt, &printed.as_str(), &text);
     }
 }

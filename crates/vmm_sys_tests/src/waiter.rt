@@ -15,7 +15,7 @@ use vmm_sys::poller::Poller;
 /// How many milliseconds a call may last past what ends it.
 const PATIENCE: u64 = 10_000;
 
-/// What a wait answered, the first two entries of its buffer, and how long it took.
+/// What a wait with room for two entries answered, its buffer, and how long it took.
 #[derive(Clone, Copy)]
 pub(crate) struct Report {
     pub(crate) answer: Result<usize, Errno>,
@@ -32,22 +32,11 @@ pub(crate) struct Waiter {
 
 impl Waiter {
     pub(crate) fn start<R: Host>(rt: R, alloc: Global, epoll: &Epoll<R>, ms: i32) -> Waiter {
-        Waiter::start_with_room(rt, alloc, epoll, ms, 2)
-    }
-
-    /// The room is 2 at most.
-    pub(crate) fn start_with_room<R: Host>(
-        rt: R,
-        alloc: Global,
-        epoll: &Epoll<R>,
-        ms: i32,
-        room: usize,
-    ) -> Waiter {
         let epoll = expect_ok(&rt, epoll.try_clone());
         let over = expect_ok(&rt, Arc::new(alloc, AtomicBool::new(false)));
         let theirs = expect_ok(&rt, Arc::try_clone(&over));
         let started = thread::spawn(&rt, move || {
-            let report = wait_once(&rt, epoll, ms, room);
+            let report = wait_once(&rt, epoll, ms);
             theirs.store(true, Ordering::SeqCst);
             report
         });
@@ -66,6 +55,11 @@ impl Waiter {
     }
 }
 
+/// What a thread is answered that waits once.
+pub(crate) fn report_of<R: Host>(rt: R, alloc: Global, epoll: &Epoll<R>, ms: i32) -> Report {
+    Waiter::start(rt, alloc, epoll, ms).report(&rt)
+}
+
 /// Ends the test unless the flag is soon set.
 pub(crate) fn expect_set<R: Host>(rt: &R, flag: &AtomicBool) {
     for _ in 0..PATIENCE {
@@ -81,11 +75,11 @@ pub(crate) fn no_event() -> EpollEvent {
     EpollEvent::new(EventSet::empty(), 0)
 }
 
-fn wait_once<R: Host>(rt: &R, epoll: Epoll<R>, ms: i32, room: usize) -> Report {
+fn wait_once<R: Host>(rt: &R, epoll: Epoll<R>, ms: i32) -> Report {
     let mut epoll = epoll;
     let mut buffer = [no_event(); 2];
     let start = Instant::now(rt).expect(rt, "the clock is read");
-    let answer = epoll.wait(ms, &mut buffer[..room.min(2)]);
+    let answer = epoll.wait(ms, &mut buffer);
     let took = start.elapsed(rt).expect(rt, "the clock is read");
     Report {
         answer,

@@ -9,7 +9,7 @@ use std::sync::Arc;
 use std::sync::atomic::{AtomicU64, Ordering};
 use std::thread;
 use std::time::Duration;
-use vmm_sys::epoll::{Epoll, EventSet};
+use vmm_sys::epoll::{Epoll, EpollEvent, EventSet};
 use vmm_sys::errno::Errno;
 use vmm_sys::eventfd::EventFd;
 use vmm_sys::poller::Poller;
@@ -53,20 +53,43 @@ fn a_set_ends_waits(rt: HostRuntime) {
 // The change ends three waits, without a limit and with a long one, which answer what is ready.
 fn expect_to_end_waits<R: Host>(rt: R, alloc: Global, change: Change) {
     let mut fixture = Fixture::new(rt, alloc);
+    let waiters = start_three(rt, alloc, &fixture.epoll);
+    pause(&rt, TO_SLEEP);
+    for waiter in &waiters {
+        assert!(rt; !waiter.is_over());
+    }
+    let event = fixture.make(change, &rt);
+    expect_reports(&rt, waiters, event);
+}
+
+fn start_three<R: Host>(rt: R, alloc: Global, epoll: &Epoll<R>) -> Vec<Waiter> {
     let mut waiters = Vec::new(alloc);
     for ms in [-1, LONG, -1] {
-        let waiter = Waiter::start(rt, alloc, &fixture.epoll, ms);
+        let waiter = Waiter::start(rt, alloc, epoll, ms);
         expect_ok(&rt, waiters.push(waiter));
     }
-    pause(&rt, TO_SLEEP);
-    assert!(rt; !waiters.iter().any(|waiter| waiter.is_over()));
-    let event = fixture.make(change, &rt);
+    waiters
+}
+
+// Each is soon answered with this event alone.
+fn expect_reports<R: Host>(rt: &R, waiters: Vec<Waiter>, event: EpollEvent) {
     for waiter in waiters {
-        let report = waiter.report(&rt);
-        expect_same(&rt, &report.answer, &Ok(1));
-        expect_same(&rt, &report.buffer, &[event, no_event()]);
+        let report = waiter.report(rt);
+        expect_same(rt, &report.answer, &Ok(1));
+        expect_same(rt, &report.buffer, &[event, no_event()]);
     }
 }
+
+/// What the calls of [`Fixture::make_refused`] are answered.
+const REFUSALS: [Option<Errno>; 7] = [
+    Some(Errno::EINVAL),
+    Some(Errno::EAGAIN),
+    Some(Errno::EAGAIN),
+    Some(Errno::EEXIST),
+    Some(Errno::ENOENT),
+    Some(Errno::EBADF),
+    Some(Errno::EINVAL),
+];
 
 #[test]
 fn refused_calls_end_no_wait(rt: HostRuntime) {
@@ -74,20 +97,7 @@ fn refused_calls_end_no_wait(rt: HostRuntime) {
     let waiter = Waiter::start(rt, rt.alloc(), &fixture.epoll, 400);
     for _ in 0..15 {
         pause(&rt, 20);
-        let refusals = fixture.make_refused(&rt);
-        expect_same(
-            &rt,
-            &refusals,
-            &[
-                Some(Errno::EINVAL),
-                Some(Errno::EAGAIN),
-                Some(Errno::EAGAIN),
-                Some(Errno::EEXIST),
-                Some(Errno::ENOENT),
-                Some(Errno::EBADF),
-                Some(Errno::EINVAL),
-            ],
-        );
+        expect_same(&rt, &fixture.make_refused(&rt), &REFUSALS);
     }
     let report = waiter.report(&rt);
     expect_same(&rt, &report.answer, &Ok(0));
