@@ -1,6 +1,6 @@
 //! Who owns which descriptor, and at which priority.
 
-ghost use Rattle.std.specs.Prelude.{◌≡◌, ◌<◌, ◌≤◌, length, None, Some, option_map, OnOk, OnErr};
+ghost use Rattle.std.specs.Prelude.{◌≡◌, ◌<◌, ◌≤◌, ◌==◌, ℕ, cond, length, None, Some, option_map, OnOk, OnErr};
 ghost use Rattle.std.specs.FinMap as map;
 ghost use Rattle.dispatch_tables.specs.Priority.{number_of};
 ghost use Rattle.dispatch_tables.specs.Ownership.{class_in};
@@ -143,10 +143,7 @@ impl Owners {
             put_at(&mut self.low, fd as usize, owner)?;
             return Ok(());
         }
-        match self.high.insert(fd, owner) {
-            Ok(_) => {}
-            Err(_) => return Err(AllocError),
-        }
+        put_in(&mut self.high, fd, owner)?;
         Ok(())
     }
 
@@ -158,7 +155,7 @@ impl Owners {
         if fd < LOW_DESCRIPTORS {
             return take_at(&mut self.low, fd as usize);
         }
-        self.high.remove(&fd)
+        take_from(&mut self.high, fd)
     }
 
     /// Notes where the descriptor stands in its owner's watch list now. Takes no memory.
@@ -200,6 +197,31 @@ fn find_in(high: &HashMap<u32, Owner>, fd: u32) -> Option<Owner>
     ensures { result ≡ owner_in high.now.entries fd }
 {
     high.get(&fd).copied()
+}
+
+/// Enters the owner of a descriptor in the map. Where memory is refused, all owners stay as they were.
+#[inline(never)]
+fn put_in(
+    high: &mut HashMap<u32, Owner>,
+    fd: u32,
+    owner: Owner,
+) -> std::result::Result<(), AllocError>
+    ensures ok { OnOk result ((q : ℕ) → owner_in high.new.entries q ≡ cond (fd == q) (Some owner) (owner_in high.old.entries q)) }
+    ensures err { OnErr result (high.new.entries ≡ high.old.entries) }
+{
+    match high.insert(fd, owner) {
+        Ok(_) => Ok(()),
+        Err(_) => Err(AllocError),
+    }
+}
+
+/// Takes the owner of a descriptor out of the map, and answers it.
+#[inline(never)]
+fn take_from(high: &mut HashMap<u32, Owner>, fd: u32) -> Option<Owner>
+    ensures value { result ≡ owner_in high.old.entries fd }
+    ensures taken { (q : ℕ) → owner_in high.new.entries q ≡ cond (fd == q) None (owner_in high.old.entries q) }
+{
+    high.remove(&fd)
 }
 
 /// Puts an owner at a descriptor, and makes the vector as long as it takes. Where memory is refused, it stays.

@@ -10,9 +10,9 @@ returns-then-fd-lt-LOW_DESCRIPTORS-clause-ok c =
 pub invariant_of-self-2 : goal.invariant_of-self-2
 invariant_of-self-2 c =
     let b = c.self.inside in
-    still_apart b.low.items b.low.items b.high.entries c.insert.new.self.entries c.args.fd c.self.invariant (Some c.args.owner) c.if-fd-lt-LOW_DESCRIPTORS.false c.in-Ok.ensures.updates.0
+    still_apart b.low.items b.low.items b.high.entries c.put_in.new.high.entries c.args.fd c.self.invariant (Some c.args.owner) c.if-fd-lt-LOW_DESCRIPTORS.false c.in_ok-put_in.ensures.ok
 
 pub returns-clause-ok : goal.returns-clause-ok
 returns-clause-ok c =
     let b = c.self.inside in
-    rw (← c.self.view_is) (owner_put_high b.low.items b.low.items b.high.entries c.insert.new.self.entries c.args.fd c.self.invariant (Some c.args.owner) c.if-fd-lt-LOW_DESCRIPTORS.false c.in-Ok.ensures.updates.0 c.args.owner refl)
+    rw (← c.self.view_is) (owner_put_high b.low.items b.low.items b.high.entries c.put_in.new.high.entries c.args.fd c.self.invariant (Some c.args.owner) c.if-fd-lt-LOW_DESCRIPTORS.false c.in_ok-put_in.ensures.ok c.args.owner refl)

@@ -15,14 +15,14 @@ returns-then-fd-lt-LOW_DESCRIPTORS-clause-removed c =
 pub invariant_of-self-2 : goal.invariant_of-self-2
 invariant_of-self-2 c =
     let b = c.self.inside in
-    still_apart b.low.items b.low.items b.high.entries c.remove.new.self.entries c.args.fd c.self.invariant None c.if-fd-lt-LOW_DESCRIPTORS.false c.remove.ensures.updates.0
+    still_apart b.low.items b.low.items b.high.entries c.take_from.new.high.entries c.args.fd c.self.invariant None c.if-fd-lt-LOW_DESCRIPTORS.false c.take_from.ensures.taken
 
 pub returns-clause-value : goal.returns-clause-value
 returns-clause-value c =
     let b = c.self.inside in
-    rw (← c.self.view_is) (high_owner b.low.items b.high.entries c.args.fd _ c.self.invariant c.if-fd-lt-LOW_DESCRIPTORS.false c.remove.ensures.value)
+    rw (← c.self.view_is) (high_owner b.low.items b.high.entries c.args.fd _ c.self.invariant c.if-fd-lt-LOW_DESCRIPTORS.false c.take_from.ensures.value)
 
 pub returns-clause-removed : goal.returns-clause-removed
 returns-clause-removed c =
     let b = c.self.inside in
-    rw (← c.self.view_is) (owner_taken_high b.low.items b.low.items b.high.entries c.remove.new.self.entries c.args.fd c.self.invariant None c.if-fd-lt-LOW_DESCRIPTORS.false c.remove.ensures.updates.0 refl)
+    rw (← c.self.view_is) (owner_taken_high b.low.items b.low.items b.high.entries c.take_from.new.high.entries c.args.fd c.self.invariant None c.if-fd-lt-LOW_DESCRIPTORS.false c.take_from.ensures.taken refl)
