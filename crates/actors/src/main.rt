@@ -7,11 +7,12 @@ pub mod mailbox;
 pub mod system;
 
 use event_manager::{
-    BoxedSubscriber, Error, EventManager, Ledgers, MutEventSubscriber, Naming, Result,
+    BoxedSubscriber, Error, EventManager, EventPoller, Ledgers, MutEventSubscriber, Naming, Result,
     StepSubscriber, WithLedgers, with_ledgers,
 };
 use kinds::{Greeter, Tally};
 use mailbox::{Deliver, Mailbox};
+use std::alloc::Global;
 use std::sync::Wait;
 use std::time::Clock;
 use system::ActorSystem;
@@ -28,7 +29,7 @@ struct Program<'a, S, R> {
     endpoint: EventFd,
     actors: Vec<S>,
     /// Where names are sent.
-    greeter: Mailbox,
+    greeter: &'a Mailbox,
 }
 
 impl<S, R> WithLedgers for Program<'_, S, R>
@@ -38,7 +39,7 @@ where
 {
     type Output = Result<()>;
 
-    /// Sends the rounds, with a run after each, and prints how many events that run had.
+    /// Makes the manager, takes the actors in, and sends the rounds.
     fn run<N: Naming + Send + Sync>(self, ledgers: Ledgers<N>) -> Result<()> {
         let Program {
             rt,
@@ -49,36 +50,63 @@ where
         } = self;
         let manager = EventManager::<S, Deliver, N, _>::new(rt.alloc(), epoll, endpoint, ledgers)?;
         let mut system = ActorSystem::new(manager)?;
-        for actor in actors {
-            system.spawn(actor)?;
-        }
-        for names in ROUNDS {
-            for name in names {
-                system.send(&greeter, name, rt)?;
-            }
-            let events = system.run(rt)?;
-            let _ = println!(rt; "{events} events");
-        }
-        Ok(())
+        play(&mut system, actors, greeter, rt)
     }
+}
+
+/// Takes the actors in. Then sends the rounds to the greeter, with a run after each, and prints how many events that run
+/// had.
+fn play<S, N, P, R>(
+    system: &mut ActorSystem<S, N, P>,
+    actors: Vec<S>,
+    greeter: &Mailbox,
+    rt: &R,
+) -> Result<()>
+where
+    S: MutEventSubscriber + Drop,
+    N: Naming,
+    P: EventPoller,
+    R: Wait + Clock + Print + AllocGlobal,
+{
+    for actor in actors {
+        system.spawn(actor)?;
+    }
+    for names in ROUNDS {
+        for name in names {
+            system.send(greeter, name, rt)?;
+        }
+        let events = system.run(rt)?;
+        let _ = println!(rt; "{events} events");
+    }
+    Ok(())
+}
+
+/// Makes the greeter and the tally; answers them, and the greeter's mailbox.
+fn make_actors<R: Wait + Clock + Copy + Send + Drop>(
+    epoll: &Epoll<R>,
+    alloc: Global,
+    rt: R,
+) -> Result<(Greeter<R>, Tally<R>, Mailbox)> {
+    let mailbox = Mailbox::new(epoll, alloc, &rt)?;
+    let tally = Mailbox::new(epoll, alloc, &rt)?;
+    let greeter = Greeter {
+        mailbox: mailbox.try_clone()?,
+        tally: tally.try_clone()?,
+        rt,
+    };
+    let tally = Tally {
+        mailbox: tally,
+        count: 0,
+        rt,
+    };
+    Ok((greeter, tally, mailbox))
 }
 
 fn main(rt: HostRuntime) -> Result<()> {
     let alloc = rt.alloc();
     let epoll = Epoll::new(rt, alloc).map_err(Error::Epoll)?;
     let endpoint = EventFd::new(&epoll, 0, &rt).map_err(Error::EventFd)?;
-    let greeter = Mailbox::new(&epoll, alloc, &rt)?;
-    let tally = Mailbox::new(&epoll, alloc, &rt)?;
-    let first = Greeter {
-        mailbox: greeter.try_clone()?,
-        tally: tally.try_clone()?,
-        rt,
-    };
-    let second = Tally {
-        mailbox: tally,
-        count: 0,
-        rt,
-    };
+    let (first, second, greeter) = make_actors(&epoll, alloc, rt)?;
     let first: Box<dyn StepSubscriber + Send> = Box::new(alloc, first)?;
     let second: Box<dyn StepSubscriber + Send> = Box::new(alloc, second)?;
     let actors = vec![in alloc; BoxedSubscriber(first), BoxedSubscriber(second)]?;
@@ -87,6 +115,6 @@ fn main(rt: HostRuntime) -> Result<()> {
         epoll,
         endpoint,
         actors,
-        greeter,
+        greeter: &greeter,
     })
 }
