@@ -3,7 +3,9 @@
 use crate::over_fixed::{Host, Manager};
 use crate::subscribers::Reader;
 use anyhow::Result;
-use event_manager::{EventPoller, Ledgers, Naming, SubscriberOps, WithLedgers, with_ledgers};
+use event_manager::{
+    EventPoller, Ledgers, Naming, SubscriberId, SubscriberOps, WithLedgers, with_ledgers,
+};
 use measures::arguments::{Family, Size};
 use measures::bench::{Bench, Measured, expect};
 use measures::timing::{REPEATS, Times};
@@ -23,7 +25,7 @@ const WRITES: u32 = 4096;
 struct WrittenCounters<'a, R> {
     epoll: Epoll<R>,
     endpoint: EventFd,
-    counters: Vec<EventFd>,
+    counters: &'a [EventFd],
     rounds: u32,
     alloc: Global,
     rt: &'a R,
@@ -42,29 +44,57 @@ impl<R: Wait + Clock + Copy + Send + Drop> WithLedgers for WrittenCounters<'_, R
             rt,
         } = self;
         let mut manager = Manager::<Reader<R>, N, _>::new(alloc, epoll, endpoint, ledgers)?;
-        let mut ids = Vec::new(alloc);
-        for counter in &counters {
-            let reader = Reader {
-                counter: counter.try_clone()?,
-                sum: 0,
-                rt: *rt,
-            };
-            ids.push(manager.add_subscriber(reader)?)?;
-        }
-        let times = Times::of(
-            || write_and_run(&mut manager, counters.as_slice(), rounds, rt),
-            rt,
-        )?;
-        let mut count = 0u64;
-        for id in ids {
-            count = count.saturating_add(manager.remove_subscriber(id)?.sum);
-        }
-        Ok(Measured {
-            times,
-            operations: rounds as u64,
-            count: expect(count, REPEATS as u64 * rounds as u64)?,
-        })
+        take(&mut manager, counters, rounds, alloc, rt)
     }
+}
+
+/// Takes the measure on a new manager. Refused where the readers have read another number than was written.
+fn take<N: Naming, P: EventPoller, R: Wait + Clock + Copy + Drop>(
+    manager: &mut Manager<Reader<R>, N, P>,
+    counters: &[EventFd],
+    rounds: u32,
+    alloc: Global,
+    rt: &R,
+) -> Result<Measured> {
+    let ids = join(manager, counters, alloc, rt)?;
+    let times = Times::of(|| write_and_run(manager, counters, rounds, rt), rt)?;
+    let count = leave(manager, ids.as_slice())?;
+    Ok(Measured {
+        times,
+        operations: rounds as u64,
+        count: expect(count, REPEATS as u64 * rounds as u64)?,
+    })
+}
+
+/// Lets a reader of each counter join, and answers the ids.
+fn join<N: Naming, P: EventPoller, R: Wait + Copy + Drop>(
+    manager: &mut Manager<Reader<R>, N, P>,
+    counters: &[EventFd],
+    alloc: Global,
+    rt: &R,
+) -> Result<Vec<SubscriberId>> {
+    let mut ids = Vec::new(alloc);
+    for counter in counters {
+        let reader = Reader {
+            counter: counter.try_clone()?,
+            sum: 0,
+            rt: *rt,
+        };
+        ids.push(manager.add_subscriber(reader)?)?;
+    }
+    Ok(ids)
+}
+
+/// Lets the readers leave, and answers what they have read in all.
+fn leave<N: Naming, P: EventPoller, R: Wait + Drop>(
+    manager: &mut Manager<Reader<R>, N, P>,
+    ids: &[SubscriberId],
+) -> Result<u64> {
+    let mut count = 0u64;
+    for id in ids {
+        count = count.saturating_add(manager.remove_subscriber(*id)?.sum);
+    }
+    Ok(count)
 }
 
 // Writes 1 to one counter after the other, so often in all, and runs the manager each time.
@@ -87,23 +117,34 @@ fn write_and_run<N: Naming, P: EventPoller, R: Wait + Clock>(
     Ok(())
 }
 
-fn measure<R: Host>(bench: &Bench<R>, count: u32) -> Result<()> {
+/// Opens so many counters of the poller's table.
+fn open_counters<R: Host>(bench: &Bench<R>, epoll: &Epoll<R>, count: u32) -> Result<Vec<EventFd>> {
+    let mut counters = Vec::new(bench.alloc);
+    for _ in 0..count {
+        counters.push(EventFd::new(epoll, 0, &bench.rt)?)?;
+    }
+    Ok(counters)
+}
+
+/// Takes the measure with so many counters, on a manager over a table of its own.
+fn take_over_table<R: Host>(bench: &Bench<R>, count: u32) -> Result<Measured> {
     let (alloc, rt) = (bench.alloc, &bench.rt);
     let epoll = Epoll::new(*rt, alloc)?;
     let endpoint = EventFd::new(&epoll, 0, rt)?;
-    let mut counters = Vec::new(alloc);
-    for _ in 0..count {
-        counters.push(EventFd::new(&epoll, 0, rt)?)?;
-    }
-    let measured = with_ledgers(WrittenCounters {
+    let counters = open_counters(bench, &epoll, count)?;
+    with_ledgers(WrittenCounters {
         epoll,
         endpoint,
-        counters,
+        counters: counters.as_slice(),
         rounds: bench.rounds(WRITES),
         alloc,
         rt,
-    })?;
-    let name = format!(in alloc; "a write, a run and a read, {count} counters")?;
+    })
+}
+
+fn measure<R: Host>(bench: &Bench<R>, count: u32) -> Result<()> {
+    let measured = take_over_table(bench, count)?;
+    let name = format!(in bench.alloc; "a write, a run and a read, {count} counters")?;
     bench.print(name.as_str(), measured)
 }
 

@@ -70,18 +70,10 @@ impl ManagerMeasure for Deliver {
     ) -> Result<Measured> {
         let (batch, rounds) = (BATCH as u64, self.rounds);
         let mut ids = Vec::new(alloc);
-        for k in 0..self.subscribers {
-            let fd = descriptor(k);
-            let id = manager.add_subscriber(Counter::new(fd, 1))?;
-            ids.push(id)?;
-            self.give_priority(manager, id, fd)?;
-        }
+        self.join(manager, &mut ids)?;
         run_rounds(manager, self.rounds_before, batch, rt)?;
         let times = Times::of(|| run_rounds(manager, rounds, batch, rt), rt)?;
-        let mut count = 0u64;
-        for id in ids {
-            count = count.saturating_add(manager.remove_subscriber(id)?.counted()?);
-        }
+        let count = leave(manager, ids.as_slice())?;
         let all_rounds = self.rounds_before as u64 + REPEATS as u64 * rounds as u64;
         Ok(Measured {
             times,
@@ -91,7 +83,34 @@ impl ManagerMeasure for Deliver {
     }
 }
 
+/// Lets the subscribers leave, and answers what they have counted in all.
+fn leave<N: Naming, P: EventPoller>(
+    manager: &mut Manager<Counter, N, P>,
+    ids: &[SubscriberId],
+) -> Result<u64> {
+    let mut count = 0u64;
+    for id in ids {
+        count = count.saturating_add(manager.remove_subscriber(*id)?.counted()?);
+    }
+    Ok(count)
+}
+
 impl Deliver {
+    /// Lets the subscribers join, and notes their ids.
+    fn join<N: Naming, P: EventPoller>(
+        &self,
+        manager: &mut Manager<Counter, N, P>,
+        ids: &mut Vec<SubscriberId>,
+    ) -> Result<()> {
+        for k in 0..self.subscribers {
+            let fd = descriptor(k);
+            let id = manager.add_subscriber(Counter::new(fd, 1))?;
+            ids.push(id)?;
+            self.give_priority(manager, id, fd)?;
+        }
+        Ok(())
+    }
+
     /// Gives the subscriber's descriptor its priority.
     fn give_priority<N: Naming, P: EventPoller>(
         &self,

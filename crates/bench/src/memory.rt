@@ -81,28 +81,33 @@ fn add(event_loop: &mut IdleLoop, count: u32) -> Result<()> {
     Ok(())
 }
 
-/// Fills a loop, and prints how many bytes the process then holds more for each of `count`; or the count alone, where times
-/// aren't wanted either. The loop comes back, so that its memory isn't used again.
+/// Fills the loop, and prints how many bytes the process then holds more for each of `count`; or the count alone, where
+/// times aren't wanted either.
 fn measure_filled<R: Host + Files + AllocGlobal>(
     bench: &Bench<R>,
     filling: Filling,
+    event_loop: &mut IdleLoop,
     count: u32,
-) -> Result<IdleLoop> {
-    let mut event_loop = idle_loop(bench.alloc)?;
+) -> Result<()> {
     if bench.wanted.checked {
-        filling.fill(&mut event_loop, count)?;
+        filling.fill(event_loop, count)?;
         println!(bench.rt; "{:<44} {:>10}", filling.name(), count)?;
-        return Ok(event_loop);
+        return Ok(());
     }
     let before = resident(&bench.rt)?;
-    filling.fill(&mut event_loop, count)?;
+    filling.fill(event_loop, count)?;
     let taken = resident(&bench.rt)?.saturating_sub(before);
     println!(bench.rt;
         "{:<44} {:>10} bytes",
         filling.name(),
         taken / count.max(1) as u64
     )?;
-    Ok(event_loop)
+    Ok(())
+}
+
+fn measure_descriptors<R: Host + Files + AllocGlobal>(bench: &Bench<R>, count: u32) -> Result<()> {
+    let mut event_loop = idle_loop(bench.alloc)?;
+    measure_filled(bench, Filling::Descriptors, &mut event_loop, count)
 }
 
 /// Measures the memory of a million subscribers with a descriptor each, and of a million descriptors of one.
@@ -111,9 +116,8 @@ pub fn measure_memory<R: Host + Files + AllocGlobal>(bench: &Bench<R>) -> Result
         return Ok(());
     }
     let count = bench.rounds(MANY);
-    let subscribers = measure_filled(bench, Filling::Subscribers, count)?;
-    let descriptors = measure_filled(bench, Filling::Descriptors, count)?;
-    drop(subscribers);
-    drop(descriptors);
-    Ok(())
+    let mut event_loop = idle_loop(bench.alloc)?;
+    measure_filled(bench, Filling::Subscribers, &mut event_loop, count)?;
+    // The loop is still there, so that its memory isn't used again.
+    measure_descriptors(bench, count)
 }

@@ -89,31 +89,34 @@ fn open_endpoint<R: Host>(rt: R, alloc: Global) -> Result<EventFd> {
     Ok(endpoint)
 }
 
+/// Takes a measure on a manager over the poller. Refused as the measure is.
+fn take_over<M: ManagerMeasure, P: EventPoller + Drop, R: Host>(
+    bench: &Bench<R>,
+    measure: &M,
+    poller: P,
+) -> Result<Measured> {
+    let (alloc, rt) = (bench.alloc, &bench.rt);
+    let endpoint = open_endpoint(*rt, alloc)?;
+    with_ledgers(Ready {
+        measure,
+        poller,
+        endpoint,
+        alloc,
+        rt,
+    })
+}
+
 /// Takes a measure, with the poller in a box or as it is, and prints its line. Refused as the measure is.
 pub fn measure<M: ManagerMeasure, R: Host>(bench: &Bench<R>, measure: &M) -> Result<()> {
-    let (alloc, rt) = (bench.alloc, &bench.rt);
-    let name = measure.name(alloc)?;
+    let alloc = bench.alloc;
     let fixed = measure.poller(alloc)?;
-    let endpoint = open_endpoint(*rt, alloc)?;
     let measured = if bench.wanted.boxed {
         let boxed: Box<dyn Poller + Send> = Box::new(alloc, fixed)?;
-        with_ledgers(Ready {
-            measure,
-            poller: BoxedPoller(boxed),
-            endpoint,
-            alloc,
-            rt,
-        })?
+        take_over(bench, measure, BoxedPoller(boxed))?
     } else {
-        with_ledgers(Ready {
-            measure,
-            poller: fixed,
-            endpoint,
-            alloc,
-            rt,
-        })?
+        take_over(bench, measure, fixed)?
     };
-    bench.print(name.as_str(), measured)
+    bench.print(measure.name(alloc)?.as_str(), measured)
 }
 
 /// Runs the manager so often; each run must answer `count`.
