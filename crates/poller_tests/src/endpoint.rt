@@ -2,8 +2,8 @@
 
 use crate::expecting::{expect, expect_ok, expect_same};
 use crate::parts::counter_at;
-use event_manager::{Error, EventOps, EventPoller, Events, MutEventSubscriber, Result};
-use fixtures::parts::{Idle, Parts, on_table};
+use event_manager::{Error, EventOps, EventPoller, Events, MutEventSubscriber};
+use fixtures::parts::{Idle, Parts};
 use fixtures::runs::{Run, run_alone, run_over};
 use fixtures::scripts::{script_of, script_of_words};
 use std::alloc::Global;
@@ -23,10 +23,11 @@ struct Probe<T> {
 }
 
 impl<T: Poller> Probe<T> {
-    fn new(mut poller: T, counter: &EventFd) -> std::result::Result<Probe<T>, Errno> {
+    fn new<R: Abort>(rt: &R, mut poller: T, counter: &EventFd) -> Probe<T> {
         let wanted = EpollEvent::new(EventSet::IN, 0);
-        poller.ctl(ControlOperation::Add, counter.as_raw_fd(), wanted)?;
-        Ok(Probe { poller })
+        let fd = counter.as_raw_fd();
+        expect_ok(rt, poller.ctl(ControlOperation::Add, fd, wanted));
+        Probe { poller }
     }
 
     fn is_read(&mut self) -> bool {
@@ -37,17 +38,16 @@ impl<T: Poller> Probe<T> {
 
 /// The parts of a manager over this script, whose endpoint has this descriptor and value 3, and what shows whether that
 /// is read.
-fn make_probed<R: Wait + Clock + Copy + Send + Drop>(
+fn make_probed<R: Wait + Clock + Abort + Copy + Send + Drop>(
     rt: &R,
     alloc: Global,
     script: ScriptPoller,
     endpoint: u8,
-) -> std::result::Result<(Parts<ScriptPoller>, Probe<Epoll<R>>), Errno> {
-    let epoll = Epoll::new(*rt, alloc)?;
-    let event_fd = counter_at(&epoll, endpoint, 3, rt)?;
-    let probe = Probe::new(epoll, &event_fd)?;
-    let parts = Parts::new(alloc, script, event_fd);
-    Ok((parts, probe))
+) -> (Parts<ScriptPoller>, Probe<Epoll<R>>) {
+    let epoll = expect_ok(rt, Epoll::new(*rt, alloc));
+    let event_fd = counter_at(&epoll, endpoint, 3, rt);
+    let probe = Probe::new(rt, epoll, &event_fd);
+    (Parts::new(alloc, script, event_fd), probe)
 }
 
 /// Whether the endpoint of this descriptor is read by this run over the script, of a manager without subscribers.
@@ -58,7 +58,7 @@ fn is_read_by<R: Wait + Clock + Abort + Copy + Send + Drop>(
     endpoint: u8,
     run: Run,
 ) -> bool {
-    let (parts, mut probe) = expect_ok(rt, make_probed(rt, alloc, script, endpoint));
+    let (parts, mut probe) = make_probed(rt, alloc, script, endpoint);
     expect_ok(
         rt,
         run_over::<Idle, _, R>(rt, parts, Vec::new(alloc), &[run]),
@@ -147,7 +147,7 @@ fn endpoint_is_left_where_the_wait_is_refused(rt: HostRuntime) {
 #[test]
 fn endpoint_is_read_after_the_deliveries(rt: HostRuntime) {
     let script = expect_ok(&rt, script_of(rt.alloc(), &[2, 3, 2]));
-    let (parts, probe) = expect_ok(&rt, make_probed(&rt, rt.alloc(), script, 2));
+    let (parts, probe) = make_probed(&rt, rt.alloc(), script, 2);
     let own = Events::new_raw(3, EventSet::IN);
     let looking = Looking {
         probe,
@@ -157,14 +157,4 @@ fn endpoint_is_read_after_the_deliveries(rt: HostRuntime) {
     let mut looking = expect_ok(&rt, run_alone(&rt, parts, looking, &[(None, Ok(3))]));
     expect_same(&rt, &looking.was_read, &Some(false));
     expect(&rt, looking.probe.is_read());
-}
-
-#[test]
-fn endpoint_is_read_once_after_its_event(rt: HostRuntime) {
-    let parts = expect_ok(&rt, on_table(rt, rt.alloc(), 3));
-    let runs = [(None, Ok(1)), (Some(0), Ok(0))];
-    expect_ok(
-        &rt,
-        run_over::<Idle, _, _>(&rt, parts, Vec::new(rt.alloc()), &runs),
-    );
 }

@@ -5,7 +5,8 @@ use event_manager::{Error, EventOps, EventPoller, Events, MutEventSubscriber, Re
 use fixtures::parts::silent_parts;
 use fixtures::runs::run_alone;
 use fixtures::scripts::{push_words, script_of};
-use std::alloc::{AllocError, Global};
+use std::alloc::Global;
+use std::process::Abort;
 use vmm_sys::epoll::{ControlOperation, EpollEvent, EventSet, RawFd};
 use vmm_sys::errno::Errno;
 use vmm_sys::script_poller::ScriptPoller;
@@ -65,7 +66,13 @@ fn each_wait_reports_another_number(rt: HostRuntime) {
         leaves_it: false,
         count: 0,
     };
-    let runs = [0, 1, 2, 3, 3].map(|count| (None, Ok(count)));
+    let runs = [
+        (None, Ok(0)),
+        (None, Ok(1)),
+        (None, Ok(2)),
+        (None, Ok(3)),
+        (None, Ok(3)),
+    ];
     let left = expect_ok(&rt, run_alone(&rt, parts, owner, &runs));
     expect_same(&rt, &left.count, &9);
 }
@@ -94,21 +101,23 @@ struct Asking {
     count: usize,
 }
 
-fn make_asking(alloc: Global) -> Result<Asking, AllocError> {
+fn make_asking<R: Abort>(rt: &R, alloc: Global) -> Asking {
     let mut adds = Vec::new(alloc);
     let mut removes = Vec::new(alloc);
     for fd in 10..510u16 {
         let own = Events::new_raw(fd as RawFd, EventSet::IN);
-        adds.extend_from_slice(&[Request::Add(own); 2])?;
-        removes.extend_from_slice(&[Request::Remove(own); 2])?;
+        for _ in 0..2 {
+            expect_ok(rt, adds.push(Request::Add(own)));
+            expect_ok(rt, removes.push(Request::Remove(own)));
+        }
     }
-    Ok(Asking {
+    Asking {
         adds,
         removes,
         has_them: false,
         first_refusals: [None; 5],
         count: 0,
-    })
+    }
 }
 
 impl MutEventSubscriber for Asking {
@@ -135,24 +144,25 @@ impl MutEventSubscriber for Asking {
     }
 }
 
-/// One report of each list of descriptors.
-fn reports_of(alloc: Global, reports: &[&[u64]]) -> Result<ScriptPoller, Errno> {
+/// One report of each list of descriptors. The first event of the second cancels those behind it; so does 509 in the last,
+/// but for 3.
+const REPORTS: [&[u64]; 4] = [&[3], &[10, 11, 12, 509, 10], &[3], &[509, 11, 3]];
+
+/// The poller that gives them.
+fn reports_of<R: Abort>(rt: &R, alloc: Global) -> ScriptPoller {
     let mut script = ScriptPoller::new(alloc);
-    for fds in reports {
-        push_words(&mut script, alloc, EventSet::IN, fds)?;
+    for fds in REPORTS {
+        expect_ok(rt, push_words(&mut script, alloc, EventSet::IN, fds));
     }
-    Ok(script)
+    script
 }
 
 #[test]
 fn a_thousand_requests_at_each_event_half_of_them_refused(rt: HostRuntime) {
-    let alloc = rt.alloc();
-    // The first event of the second report cancels those behind it; so does 509 in the last, but for 3.
-    let reports: [&[u64]; 4] = [&[3], &[10, 11, 12, 509, 10], &[3], &[509, 11, 3]];
-    let script = expect_ok(&rt, reports_of(alloc, &reports));
-    let parts = expect_ok(&rt, silent_parts(rt, alloc, script));
-    let runs = [1, 5, 1, 3].map(|count| (None, Ok(count)));
-    let asking = expect_ok(&rt, make_asking(alloc));
+    let script = reports_of(&rt, rt.alloc());
+    let parts = expect_ok(&rt, silent_parts(rt, rt.alloc(), script));
+    let runs = [(None, Ok(1)), (None, Ok(5)), (None, Ok(1)), (None, Ok(3))];
+    let asking = make_asking(&rt, rt.alloc());
     let left = expect_ok(&rt, run_alone(&rt, parts, asking, &runs));
     let owned = Some(Error::FdAlreadyRegistered);
     let not_owned = Some(Error::Epoll(Errno::ENOENT));

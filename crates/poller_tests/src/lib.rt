@@ -4,8 +4,6 @@
 #[cfg(test)]
 mod endpoint;
 #[cfg(test)]
-mod events;
-#[cfg(test)]
 mod expecting;
 #[cfg(test)]
 mod faults;

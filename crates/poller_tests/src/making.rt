@@ -3,14 +3,13 @@
 use crate::expecting::{expect, expect_ok, expect_same};
 use crate::parts::Recorder;
 use event_manager::{Error, EventLoop, MAX_READY_EVENTS_CAPACITY};
-use fixtures::counting::{Counting, counting_on};
+use fixtures::counting::Counting;
 use fixtures::parts::{Parts, silent_parts};
-use fixtures::runs::{Failure, run_alone, run_over};
+use fixtures::runs::{Failure, run_over};
 use fixtures::scripts::script_of;
 use std::process::Abort;
 use std::sync::Wait;
 use std::time::Clock;
-use vmm_sys::errno::Errno;
 
 /// What refuses a manager of these parts, if anything does.
 fn refusal<R: Wait + Clock + Abort>(rt: &R, parts: Parts<Recorder>) -> Option<Failure> {
@@ -29,19 +28,6 @@ fn capacity_above_the_limit_asks_the_poller_for_nothing(rt: HostRuntime) {
         expect_same(&rt, &refusal(&rt, parts), &refused);
     }
     expect(&rt, recorder.was_asked(&[]));
-}
-
-#[test]
-fn capacity_0_is_left_to_the_wait(rt: HostRuntime) {
-    let script = expect_ok(&rt, script_of(rt.alloc(), &[3]));
-    let mut parts = expect_ok(&rt, silent_parts(rt, rt.alloc(), script));
-    parts.capacity = Some(0);
-    let refused = Err(Error::Epoll(Errno::EINVAL));
-    let left = expect_ok(
-        &rt,
-        run_alone(&rt, parts, counting_on(3), &[(None, refused)]),
-    );
-    expect_same(&rt, &left.count, &0);
 }
 
 #[test]

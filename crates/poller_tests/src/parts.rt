@@ -1,8 +1,10 @@
 //! Parts of which managers are made: endpoints, and a poller that notes what it is asked.
 
+use crate::expecting::expect_ok;
 use event_manager::{EventPoller, Events};
 use std::alloc::{AllocError, Global};
 use std::cell::RefCell;
+use std::process::Abort;
 use std::rc::Rc;
 use std::sync::Wait;
 use std::time::Clock;
@@ -11,20 +13,20 @@ use vmm_sys::errno::Errno;
 use vmm_sys::eventfd::EventFd;
 
 /// A counter of this descriptor and value, in a table without descriptors so far.
-pub fn counter_at<R: Wait + Clock + Clone + Send + Drop>(
+pub fn counter_at<R: Wait + Clock + Abort + Clone + Send + Drop>(
     epoll: &Epoll<R>,
     fd: u8,
     value: u64,
     rt: &R,
-) -> Result<EventFd, Errno> {
+) -> EventFd {
     for _ in 0..fd {
-        EventFd::new(epoll, 0, rt)?;
+        expect_ok(rt, EventFd::new(epoll, 0, rt));
     }
-    EventFd::new(epoll, value, rt)
+    expect_ok(rt, EventFd::new(epoll, value, rt))
 }
 
 /// A call of `control`.
-#[derive(Clone, Copy, PartialEq, Eq)]
+#[derive(Clone, Copy, PartialEq)]
 pub struct Control {
     pub op: ControlOperation,
     pub fd: u32,

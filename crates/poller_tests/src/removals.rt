@@ -6,11 +6,11 @@ use event_manager::{EventOps, EventPoller, Events, MutEventSubscriber, Request};
 use fixtures::parts::Parts;
 use fixtures::runs::run_alone;
 use fixtures::scripts::push_words;
-use std::alloc::{AllocError, Global};
+use std::alloc::Global;
+use std::process::Abort;
 use std::sync::Wait;
 use std::time::Clock;
 use vmm_sys::epoll::{Epoll, EventSet, RawFd};
-use vmm_sys::errno::Errno;
 use vmm_sys::script_poller::ScriptPoller;
 
 /// Makes requests in `init`, and others at one of its events, which it counts.
@@ -44,63 +44,62 @@ impl MutEventSubscriber for Requesting {
 }
 
 /// Adds the descriptors, and later takes each out, and perhaps adds it again after that.
-fn make_requesting(
+fn make_requesting<R: Abort>(
+    rt: &R,
     alloc: Global,
     fds: &[RawFd],
     turning_point: u64,
     again: bool,
-) -> Result<Requesting, AllocError> {
+) -> Requesting {
     let mut first = Vec::new(alloc);
     let mut later = Vec::new(alloc);
     for fd in fds {
         let own = Events::new_raw((*fd).max(0), EventSet::IN);
-        first.push(Request::Add(own))?;
-        later.push(Request::Remove(own))?;
+        expect_ok(rt, first.push(Request::Add(own)));
+        expect_ok(rt, later.push(Request::Remove(own)));
     }
     if again {
-        later.extend_from_slice(&first)?;
+        expect_ok(rt, later.extend_from_slice(&first));
     }
-    Ok(Requesting {
+    Requesting {
         first,
         later,
         turning_point,
         count: 0,
         all_agreed: true,
-    })
+    }
 }
 
 /// So many reports of each of the descriptors.
-fn reports_of(alloc: Global, fds: &[RawFd], reports: u32) -> Result<ScriptPoller, Errno> {
+fn reports_of<R: Abort>(rt: &R, alloc: Global, fds: &[RawFd], reports: u32) -> ScriptPoller {
     let mut words = Vec::new(alloc);
     for fd in fds {
-        if words.push((*fd).max(0) as u64).is_err() {
-            return Err(Errno::ENOMEM);
-        }
+        expect_ok(rt, words.push((*fd).max(0) as u64));
     }
     let mut script = ScriptPoller::new(alloc);
     for _ in 0..reports {
-        push_words(&mut script, alloc, EventSet::IN, &words)?;
+        expect_ok(rt, push_words(&mut script, alloc, EventSet::IN, &words));
     }
-    Ok(script)
+    script
 }
 
 /// Parts over a script, with a silent endpoint on descriptor 201.
-fn parts_beside<R: Wait + Clock + Copy + Send + Drop>(
+fn parts_beside<R: Wait + Clock + Abort + Copy + Send + Drop>(
     rt: R,
     alloc: Global,
     script: ScriptPoller,
-) -> Result<Parts<ScriptPoller>, Errno> {
-    let epoll = Epoll::new(rt, alloc)?;
-    let event_fd = counter_at(&epoll, 201, 0, &rt)?;
-    Ok(Parts::new(alloc, script, event_fd))
+) -> Parts<ScriptPoller> {
+    let epoll = expect_ok(&rt, Epoll::new(rt, alloc));
+    let event_fd = counter_at(&epoll, 201, 0, &rt);
+    Parts::new(alloc, script, event_fd)
 }
 
 #[test]
 fn descriptors_at_the_ends_are_removed_and_added_again(rt: HostRuntime) {
     let fds = [0, 1048575, 1048576, 2147483647];
-    let script = expect_ok(&rt, reports_of(rt.alloc(), &fds, 3));
-    let parts = expect_ok(&rt, parts_beside(rt, rt.alloc(), script));
-    let subscriber = expect_ok(&rt, make_requesting(rt.alloc(), &fds, 5, true));
+    let script = reports_of(&rt, rt.alloc(), &fds, 3);
+    let parts = parts_beside(rt, rt.alloc(), script);
+    let subscriber = make_requesting(&rt, rt.alloc(), &fds, 5, true);
     // The first event of the second report cancels the three behind it.
     let runs = [(None, Ok(4)), (None, Ok(4)), (None, Ok(4))];
     let left = expect_ok(&rt, run_alone(&rt, parts, subscriber, &runs));
@@ -114,9 +113,9 @@ fn two_hundred_removals_at_one_event(rt: HostRuntime) {
     for fd in 0..200 {
         expect_ok(&rt, fds.push(fd));
     }
-    let script = expect_ok(&rt, reports_of(rt.alloc(), &fds, 2));
-    let parts = expect_ok(&rt, parts_beside(rt, rt.alloc(), script));
-    let subscriber = expect_ok(&rt, make_requesting(rt.alloc(), &fds, 1, false));
+    let script = reports_of(&rt, rt.alloc(), &fds, 2);
+    let parts = parts_beside(rt, rt.alloc(), script);
+    let subscriber = make_requesting(&rt, rt.alloc(), &fds, 1, false);
     let runs = [(None, Ok(200)), (None, Ok(200))];
     let left = expect_ok(&rt, run_alone(&rt, parts, subscriber, &runs));
     expect_same(&rt, &left.count, &1);

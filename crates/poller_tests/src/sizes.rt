@@ -10,6 +10,7 @@ use fixtures::parts::silent_parts;
 use fixtures::runs::{run_alone, run_over};
 use fixtures::scripts::script_of;
 use std::alloc::{AllocError, Global};
+use std::process::Abort;
 use std::sync::Arc;
 use std::sync::atomic::{AtomicU64, Ordering};
 use vmm_sys::epoll::{ControlOperation, EventSet};
@@ -66,16 +67,17 @@ fn make_grabbing(
 }
 
 /// One Delete for each descriptor from 1 up to 300.
-fn deletes(alloc: Global) -> Result<Vec<Control>, AllocError> {
+fn deletes<R: Abort>(rt: &R, alloc: Global) -> Vec<Control> {
     let mut deletes = Vec::new(alloc);
     for fd in 1..301 {
-        deletes.push(Control {
+        let delete = Control {
             op: ControlOperation::Delete,
             fd,
             event: Events::empty_raw(0),
-        })?;
+        };
+        expect(rt, deletes.push(delete).is_ok());
     }
-    Ok(deletes)
+    deletes
 }
 
 #[test]
@@ -87,8 +89,7 @@ fn three_hundred_descriptors_of_one_subscriber(rt: HostRuntime) {
     let grabbing = expect_ok(&rt, make_grabbing(rt.alloc(), true, &agreed));
     expect_ok(&rt, run_alone(&rt, parts, grabbing, &[(None, Ok(0))]));
     expect_same(&rt, &agreed.load(Ordering::SeqCst), &300);
-    let deletes = expect_ok(&rt, deletes(rt.alloc()));
-    expect(&rt, recorder.was_asked(&deletes));
+    expect(&rt, recorder.was_asked(&deletes(&rt, rt.alloc())));
 }
 
 #[test]
