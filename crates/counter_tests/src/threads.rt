@@ -8,10 +8,9 @@ use event_manager::utilities::subscribers::{
     CounterInnerMutSubscriber, CounterSubscriber, CounterSubscriberWithData,
 };
 use event_manager::{
-    Either, EventManager, Ledgers, MutEventSubscriber, Naming, NoJob, Result, SubscriberId,
-    SubscriberOps,
+    Either, EventManager, Ledgers, MutEventSubscriber, Naming, NoJob, SubscriberId, SubscriberOps,
 };
-use fixtures::making::{make, no_memory};
+use fixtures::making::make;
 use fixtures::parts::{OnTable, on_table};
 use std::alloc::Global;
 use std::marker::Brand;
@@ -37,68 +36,43 @@ fn run_hundred<S: MutEventSubscriber, N: Naming, R: Host>(
 
 /// Takes the subscribers in: their ids, in order.
 fn add_all<S: MutEventSubscriber + Drop, N: Naming, R: Host>(
+    rt: &R,
     alloc: Global,
     manager: &mut Loop<S, N, R>,
     subscribers: Vec<S>,
-) -> Result<Vec<SubscriberId>> {
+) -> Vec<SubscriberId> {
     let mut ids = Vec::new(alloc);
     for subscriber in subscribers {
-        ids.push(manager.add_subscriber(subscriber)?)?;
+        let id = expect_ok(rt, manager.add_subscriber(subscriber));
+        expect_ok(rt, ids.push(id));
     }
-    Ok(ids)
-}
-
-/// Lets one leave, to the others that left.
-fn remove_to<S: MutEventSubscriber + Drop, N: Naming, R: Host>(
-    manager: &mut Loop<S, N, R>,
-    id: SubscriberId,
-    left: &mut Vec<S>,
-) -> Result<()> {
-    let subscriber = manager.remove_subscriber(id)?;
-    left.push(subscriber).map_err(no_memory)
+    ids
 }
 
 /// Lets them leave: the subscribers.
 fn remove_all<S: MutEventSubscriber + Drop, N: Naming, R: Host>(
+    rt: &R,
     alloc: Global,
     manager: &mut Loop<S, N, R>,
     ids: &[SubscriberId],
-) -> Result<Vec<S>> {
+) -> Vec<S> {
     let mut left = Vec::new(alloc);
     for id in ids {
-        remove_to(manager, *id, &mut left)?;
+        let subscriber = expect_ok(rt, manager.remove_subscriber(*id));
+        expect_same(rt, &left.push(subscriber).is_ok(), &true);
     }
-    Ok(left)
+    left
 }
 
 /// The manager, after a second thread made a hundred runs with it.
-fn moved<S, N, R>(rt: R, manager: Loop<S, N, R>, count: usize) -> Result<Loop<S, N, R>>
+fn moved<S, N, R>(rt: R, manager: Loop<S, N, R>, count: usize) -> Loop<S, N, R>
 where
     S: MutEventSubscriber + Send + Drop + 'static,
     N: Naming + Send + Sync + 'static,
     R: Host,
 {
-    match thread::spawn(&rt, move || run_hundred(rt, manager, count)) {
-        Ok(runner) => Ok(runner.join(&rt)),
-        Err(e) => Err(no_memory(e)),
-    }
-}
-
-/// The subscribers, after a second thread made a hundred runs with the manager.
-fn move_and_leave<S, N, R>(
-    rt: R,
-    alloc: Global,
-    manager: Loop<S, N, R>,
-    ids: &[SubscriberId],
-    count: usize,
-) -> Result<Vec<S>>
-where
-    S: MutEventSubscriber + Send + Drop + 'static,
-    N: Naming + Send + Sync + 'static,
-    R: Host,
-{
-    let mut manager = moved(rt, manager, count)?;
-    remove_all(alloc, &mut manager, ids)
+    let runner = thread::spawn(&rt, move || run_hundred(rt, manager, count));
+    expect_ok(&rt, runner).join(&rt)
 }
 
 /// As [`run_on_second_thread`], whatever its ledgers.
@@ -109,7 +83,7 @@ fn run_moved<S, N, R>(
     count: usize,
     tickets: Blank,
     taken: Blank,
-) -> Result<Vec<S>>
+) -> Vec<S>
 where
     S: MutEventSubscriber + Send + Drop + 'static,
     N: Naming + Send + Sync + 'static,
@@ -119,9 +93,10 @@ where
 {
     let ledgers = Ledgers::<N>::new(tickets, taken);
     let alloc = parts.alloc;
-    let mut manager = make::<S, NoJob, N, _>(parts, ledgers)?;
-    let ids = add_all(alloc, &mut manager, subscribers)?;
-    move_and_leave(rt, alloc, manager, ids.as_slice(), count)
+    let mut manager = expect_ok(&rt, make::<S, NoJob, N, _>(parts, ledgers));
+    let ids = add_all(&rt, alloc, &mut manager, subscribers);
+    let mut manager = moved(rt, manager, count);
+    remove_all(&rt, alloc, &mut manager, ids.as_slice())
 }
 
 /// The subscribers, in order, after a manager of them was moved to a second thread and has made a hundred runs there,
@@ -131,7 +106,7 @@ fn run_on_second_thread<S: MutEventSubscriber + Send + Drop + 'static, R: Host>(
     parts: OnTable<R>,
     subscribers: Vec<S>,
     count: usize,
-) -> Result<Vec<S>> {
+) -> Vec<S> {
     let tickets = Blank::new(9223372036854775808);
     run_moved::<S, Brand, R>(rt, parts, subscribers, count, tickets, Blank::new(1))
 }
@@ -155,7 +130,7 @@ fn test_one_type_subscriber(rt: HostRuntime) {
     let first = triggered(&rt, rt.alloc(), &parts, 1);
     let second = triggered(&rt, rt.alloc(), &parts, 1999);
     let both = expect_ok(&rt, vec![in rt.alloc(); first, second]);
-    let left = expect_ok(&rt, run_on_second_thread(rt, parts, both, 6));
+    let left = run_on_second_thread(rt, parts, both, 6);
     expect_same(&rt, &left.len(), &2);
     for subscriber in &left {
         expect_values(&rt, subscriber, [100, 100, 100]);
@@ -170,7 +145,7 @@ fn test_diff_type_subscribers(rt: HostRuntime) {
     one.trigger_event(&rt);
     let both = vec![in rt.alloc(); Either::First(three), Either::Second(one)];
     let both = expect_ok(&rt, both);
-    let left = expect_ok(&rt, run_on_second_thread(rt, parts, both, 4));
+    let left = run_on_second_thread(rt, parts, both, 4);
     expect_same(&rt, &left.len(), &2);
     for subscriber in &left {
         match subscriber {
@@ -188,7 +163,7 @@ fn test_subscriber_inner_mut(rt: HostRuntime) {
     shared.trigger_event(&rt);
     let theirs = expect_ok(&rt, shared.clone());
     let one = expect_ok(&rt, vec![in rt.alloc(); theirs]);
-    let left = expect_ok(&rt, run_on_second_thread(rt, parts, one, 1));
+    let left = run_on_second_thread(rt, parts, one, 1);
     expect_same(&rt, &left.len(), &1);
     expect_same(&rt, &shared.counter(), &100);
 }
