@@ -32,11 +32,21 @@ pub struct Batch {
 }
 
 /// The subscribers by id, and their registrations.
-#[derive(Drop)]
 pub struct Registry<S, P = BoxedPoller> {
     pub(crate) subscribers: SubscriberPlaces<S>,
     pub(crate) next: u64,
     pub(crate) ops: EventOps<P>,
+}
+
+// Not derived: then each way out of a function that owns one has a call to prove, and not a drop of all that is in it.
+impl<S: Drop, P: Drop> Drop for Registry<S, P> {
+    fn drop(self) {
+        let Registry {
+            subscribers: _,
+            next: _,
+            ops: _,
+        } = self;
+    }
 }
 
 impl<S: MutEventSubscriber, P: EventPoller> Registry<S, P> {
