@@ -54,11 +54,7 @@ impl ManagerMeasure for JoinAndLeave {
         let (descriptors, rounds) = (self.descriptors, self.rounds);
         let mut count = 0u64;
         let times = Times::of(
-            || {
-                let left = join_and_leave(manager, descriptors, rounds)?;
-                count = count.saturating_add(left);
-                Ok(())
-            },
+            || join_and_leave(manager, descriptors, rounds, &mut count),
             rt,
         )?;
         Ok(Measured {
@@ -69,19 +65,19 @@ impl ManagerMeasure for JoinAndLeave {
     }
 }
 
-// Answers how many left; each must have counted nothing.
+// Adds how many left to the count; each must have counted nothing.
 fn join_and_leave<N: Naming, P: EventPoller>(
     manager: &mut Manager<Counter, N, P>,
     descriptors: u16,
     rounds: u32,
-) -> Result<u64> {
-    let mut left = 0u64;
+    count: &mut u64,
+) -> Result<()> {
     for _ in 0..rounds {
         let id = manager.add_subscriber(Counter::new(FIRST_OF_GUEST, descriptors))?;
         expect(manager.remove_subscriber(id)?.counted()?, 0)?;
-        left = left.saturating_add(1);
+        *count = count.saturating_add(1);
     }
-    Ok(left)
+    Ok(())
 }
 
 /// Measures a join and a leave at each wanted size, with each wanted number of descriptors.
