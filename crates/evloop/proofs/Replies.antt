@@ -2,6 +2,7 @@
 use Rattle.std.proofs.Common.{◌≡◌, arith, List, [], ◌∷◌, ◌++◌, length, ap, sym, subst, ◌∙◌, map, Ok, Err}
 use Rattle.std.proofs.lemmas.List.{length-map, length-append, nil_from_length}
 use Rattle.event_manager.specs.declared.calls.Call.{Call}
+use Rattle.event_manager.specs.declared.calls.Call.TheVariants.{Remove, Set, Ask}
 use Rattle.event_manager.specs.declared.calls.Reply.{Reply}
 use Rattle.event_manager.specs.Error.TheVariants.{InvalidId}
 use Rattle.event_manager.specs.Driven.{IsDriven}
@@ -29,6 +30,10 @@ matching_reply (Stepped (NotJoined value error)) call reply h = is_of_call reply
 matching_reply (Stepped (Left id value calls)) call reply h = is_of_call reply h.0 (Ok value, h.1)
 matching_reply (Stepped (Replaced id old new)) call reply h = is_of_call reply h.0 (Ok old, h.1)
 matching_reply (Stepped (Requested id exchanges calls)) call reply h = is_of_call reply h.2 (Ok h.1, h.3)
+matching_reply (Stepped (Refused id)) (Remove other) reply h = (Err InvalidId, h.1)
+matching_reply (Stepped (Refused id)) (Set other value) reply h = (Err InvalidId, h.1)
+matching_reply (Stepped (Refused id)) (Ask other requests) reply h = (Err InvalidId, h.1)
+matching_reply (Stepped (Refused id)) call reply h = absurd h
 matching_reply (Iterated iteration) call reply h = is_of_call reply h.0 (answer_of iteration.waited, h.1)
 
 module _ {S J R : Type 0} (begins : S → Exchanges → S → Type 0) (serves : S → Event → Exchanges → S → Type 0) (may : J → List (Step S) → R → Type 0) where
