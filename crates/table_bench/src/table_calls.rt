@@ -103,6 +103,18 @@ fn modify(
     Ok(())
 }
 
+/// Modifies the interest in a descriptor to another set and back so often, and adds the pairs to the count.
+fn modify_and_back(table: &mut Table, fd: i32, rounds: u32, count: &mut u64) -> Called<()> {
+    for _ in 0..rounds {
+        let event = EpollEvent::new(EventSet::IN.union(EventSet::OUT), *count);
+        table.ctl(ControlOperation::Modify, fd, event)?;
+        let event = EpollEvent::new(EventSet::IN, *count);
+        table.ctl(ControlOperation::Modify, fd, event)?;
+        *count = count.saturating_add(1);
+    }
+    Ok(())
+}
+
 /// Adds and deletes the interest in a descriptor so often, and adds the pairs to the count.
 fn add_and_delete(table: &mut Table, fd: i32, rounds: u32, count: &mut u64) -> Called<()> {
     for _ in 0..rounds {
@@ -143,6 +155,7 @@ impl<R: Clock + Print> TableCalls<'_, R> {
     fn measure(&self) -> Result<()> {
         self.measure_filling()?;
         self.measure_modify()?;
+        self.measure_modify_and_back()?;
         self.measure_add_and_delete()?;
         self.measure_report()?;
         self.measure_one_ready()?;
@@ -198,6 +211,26 @@ impl<R: Clock + Print> TableCalls<'_, R> {
         };
         let name = format!(in alloc; "Modify each of {interests} interests in turn")?;
         self.print(name, times, rounds as u64, reported)
+    }
+
+    /// Counts the pairs; the interests are then reported.
+    fn measure_modify_and_back(&self) -> Result<()> {
+        let mut table = filled(self.interests, 1, self.bench.alloc)?;
+        self.modify_one_and_back(&mut table)
+    }
+
+    fn modify_one_and_back(&self, table: &mut Table) -> Result<()> {
+        let (alloc, interests) = (self.bench.alloc, self.interests);
+        let (rounds, fd) = (self.bench.rounds(CONTROLS), (interests / 2).cast_signed());
+        let mut count = 0u64;
+        let times = Times::of(
+            || modify_and_back(table, fd, rounds, &mut count),
+            &self.bench.rt,
+        )?;
+        let mut buffer = buffer(interests as usize + 1, alloc)?;
+        expect(table.wait(buffer.as_mut_slice())? as u64, interests as u64)?;
+        let name = format!(in alloc; "Modify one of {interests} to another set and back")?;
+        self.print(name, times, rounds as u64, count)
     }
 
     /// Counts the pairs; the others are then reported.

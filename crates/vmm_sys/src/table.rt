@@ -302,13 +302,14 @@ impl Table {
         requires { interest.descriptor < length self.old.sources }
         ensures { Answers (changed self.old op interest (place_in self.old interest.descriptor)) self.old result self.new }
     {
-        let ready = is_ready(&self.sources, interest);
         match (op, self.interests.slot_of(interest.descriptor)) {
-            (ControlOperation::Add, None) => self.interests.push_back(interest, ready),
+            (ControlOperation::Add, None) => {
+                let ready = is_ready(&self.sources, interest);
+                self.interests.push_back(interest, ready);
+            }
             (ControlOperation::Add, Some(_)) => return Err(Errno::EEXIST),
             (ControlOperation::Modify, Some(slot)) => {
-                self.interests.replace(slot, interest);
-                self.interests.mark(slot, ready);
+                modify(&self.sources, &mut self.interests, slot, interest);
             }
             (ControlOperation::Delete, Some(slot)) => {
                 self.interests.remove(slot, interest.descriptor);
@@ -377,6 +378,25 @@ fn is_ready(sources: &[Source], interest: Interest) -> bool
     ensures { result ≡ is_ready sources.now interest }
 {
     !entry_of(sources, interest).event_set().is_empty()
+}
+
+// Replaces the interest in a slot by one of its descriptor. Where it wants the same set, what is ready stays so.
+#[inline(always)]
+fn modify(sources: &[Source], interests: &mut Interests, slot: usize, interest: Interest)
+    requires { Holds interests.old.slots slot interest.descriptor }
+    ensures slots { interests.new.slots ≡ slice_set interests.old.slots slot (Some interest) }
+    ensures room { interests.new.room ≡ interests.old.room }
+    ensures marks { AreMarked (is_ready sources.now) interests.old → AreMarked (is_ready sources.now) interests.new }
+{
+    let before = interests.interest_in(slot);
+    interests.replace(slot, interest);
+    if let Some(before) = before
+        && before.event.event_set() == interest.event.event_set()
+    {
+        return;
+    }
+    let ready = is_ready(sources, interest);
+    interests.mark(slot, ready);
 }
 
 // Marks the interest of a descriptor as it is now.

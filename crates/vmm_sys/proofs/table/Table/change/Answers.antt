@@ -18,12 +18,12 @@ returns-in-Add-None c =
 pub returns-in-Modify-Some : goal.returns-in-Modify-Some
 returns-in-Modify-Some c =
     let s = stands c.self.inside.interests.slots _ c.args.interest.descriptor c.in-Modify-Some.ensures in
-    rw (c.in-Modify-Some.is-0, ← c.self.view_is, s.1.place) (refl, rw (c.mark.ensures.marked, c.replace.ensures, s.1.replaced) refl)
+    rw (c.in-Modify-Some.is-0, ← c.self.view_is, s.1.place) (refl, rw (c.modify.ensures.slots, s.1.replaced) refl)
 
 pub returns-in-Delete-Some : goal.returns-in-Delete-Some
 returns-in-Delete-Some c =
     let s = stands c.self.inside.interests.slots _ c.args.interest.descriptor c.in-Delete-Some.ensures in
-    rw (c.in-Delete-Some.is-0, ← c.self.view_is, s.1.place) (refl, rw (c.give_back.ensures.list, c.mark-in-Delete-Some.ensures.marked, c.remove.ensures, s.1.removed) refl)
+    rw (c.in-Delete-Some.is-0, ← c.self.view_is, s.1.place) (refl, rw (c.give_back.ensures.list, c.mark.ensures.marked, c.remove.ensures, s.1.removed) refl)
 
 pub returns-in-Modify-None : goal.returns-in-Modify-None
 returns-in-Modify-None c =
@@ -41,9 +41,9 @@ invariant_of-self-in-Delete-Some c =
     let interests = c.self.inside.interests in
     let slot = c.in-Delete-Some.slot in
     let lt = holds-within interests.slots slot c.args.interest.descriptor c.in-Delete-Some.ensures.it in
-    let within = subst (λ (s : InterestsState). slot < length s.marks) c.remove.ensures c.mark-in-Delete-Some.ensures.within in
+    let within = subst (λ (s : InterestsState). slot < length s.marks) c.remove.ensures c.mark.ensures.within in
     let fit = fit-set p interests.marks interests.slots slot None false c.self.invariant.2 within lt refl in (
       c.self.invariant.0,
-      rw (c.give_back.ensures.room, c.mark-in-Delete-Some.ensures.marked, c.remove.ensures) c.self.invariant.1,
-      c.give_back.ensures.marks p (rw (c.mark-in-Delete-Some.ensures.marked, c.remove.ensures) fit),
+      rw (c.give_back.ensures.room, c.mark.ensures.marked, c.remove.ensures) c.self.invariant.1,
+      c.give_back.ensures.marks p (rw (c.mark.ensures.marked, c.remove.ensures) fit),
     )
