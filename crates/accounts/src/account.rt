@@ -17,10 +17,12 @@ pub struct Account<R> {
 }
 
 impl<R: Wait + Drop> Account<R> {
-    ghost use Rattle.std.specs.Prelude.{◌≡◌, ◌≤◌, ◌<◌, ◌+◌, MatchOption};
+    ghost use Rattle.std.specs.Prelude.{◌≡◌, ◌≤◌, ◌<◌, ◌+◌, MatchOption, IfOk};
 
     /// An account of balance 0 with a handle of its own on the counter. `ENOMEM`: one more owner of its table was refused.
-    pub fn new(counter: &EventFd, rt: R) -> Result<Self, Errno> {
+    pub fn new(counter: &EventFd, rt: R) -> Result<Self, Errno>
+        ensures { IfOk result (λ account. account.balance ≡ 0) }
+    {
         Ok(Account {
             balance: 0,
             counter: counter.try_clone()?,

@@ -18,8 +18,7 @@ pub struct Bank {
     pub counter: EventFd,
 }
 
-impl<R: Wait + Clock + Print + Copy + Drop> LoopWithSenders<Account<R>, Order, Customer, R>
-    for Bank {
+impl<R: Wait + Clock + Copy + Drop> LoopWithSenders<Account<R>, Order, Customer, R> for Bank {
     fn begin<N: Naming, P: EventPoller>(
         &mut self,
         rt: &R,

@@ -87,6 +87,7 @@ fn record<R: Wait + Clock + Clone + Send + Print + Drop>(
     Ok(text)
 }
 
+/// Runs devices over the table, each call of which is recorded, and answers the text of the record.
 fn run_in_production<R: Wait + Clock + Clone + Send + Print + Drop>(
     epoll: Epoll<R>,
     guest: &Present<R>,

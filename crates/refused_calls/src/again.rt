@@ -6,7 +6,10 @@
 #[macro_export]
 macro_rules! again {
     ($name:expr, $call:expr) => {
-        $crate::again!($name, $call, true)
+        match $crate::fault::named($name, $call) {
+            Err($crate::fault::Fault::Memory(_)) => $crate::fault::named($name, $call),
+            answer => answer,
+        }
     };
     ($name:expr, $call:expr, $unchanged:expr) => {
         match $crate::fault::named($name, $call) {

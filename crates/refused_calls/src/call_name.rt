@@ -3,7 +3,7 @@
 use std::fmt;
 
 /// A call of the libraries, or something that a program makes for one.
-#[derive(Clone, Copy, PartialEq, Eq, Debug)]
+#[derive(Clone, Copy, Debug)]
 pub enum CallName {
     AddCounter,
     AddLine,

@@ -39,12 +39,12 @@ pub fn is_taken_out<R: Host>(epoll: &mut Epoll<R>, fd: RawFd) -> bool {
 
 /// A poller over a new table.
 pub fn make_epoll<R: Host>(rt: &R, alloc: Global) -> Result<Epoll<R>, Fault> {
-    again!(CallName::EpollNew, Epoll::new(*rt, alloc), true)
+    again!(CallName::EpollNew, Epoll::new(*rt, alloc))
 }
 
 /// A poller over the same table.
 pub fn copy_epoll<R: Host>(epoll: &Epoll<R>) -> Result<Epoll<R>, Fault> {
-    again!(CallName::EpollTryClone, epoll.try_clone(), true)
+    again!(CallName::EpollTryClone, epoll.try_clone())
 }
 
 /// A counter of value 0, whose descriptor must be this one.

@@ -79,7 +79,7 @@ pub fn open_table<R: Host>(rt: &R, alloc: Global) -> Result<OnTable<R>, Fault> {
 
 /// Another handle on the same counter.
 pub fn copy_counter(counter: &EventFd) -> Result<EventFd, Fault> {
-    again!(CallName::EventFdTryClone, counter.try_clone(), true)
+    again!(CallName::EventFdTryClone, counter.try_clone())
 }
 
 /// A manager over the table, made once, and what is done with it; `Err` within where the manager was refused.
@@ -155,7 +155,6 @@ pub fn over_script<R: Host, B: Body>(
     let silent = open_table(rt, alloc)?;
     again!(
         CallName::EventManagerNew,
-        make_over_script(alloc, entries, reports, &silent.endpoint, body)?,
-        true
+        make_over_script(alloc, entries, reports, &silent.endpoint, body)?
     )?
 }

@@ -14,11 +14,7 @@ pub fn event_of(fd: RawFd) -> EpollEvent {
 
 /// A report of these entries.
 fn report_of(entries: &[EpollEvent], alloc: Global) -> Result<Vec<EpollEvent>, Fault> {
-    let mut report = again!(
-        CallName::Report,
-        Vec::with_capacity(alloc, entries.len()),
-        true
-    )?;
+    let mut report = again!(CallName::Report, Vec::with_capacity(alloc, entries.len()))?;
     named(CallName::Report, report.extend_from_slice(entries))?;
     Ok(report)
 }
@@ -31,7 +27,6 @@ pub fn push_report(
 ) -> Result<(), Fault> {
     again!(
         CallName::PushReport,
-        script.push_report(report_of(entries, alloc)?),
-        true
+        script.push_report(report_of(entries, alloc)?)
     )
 }

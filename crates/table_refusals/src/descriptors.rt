@@ -38,10 +38,10 @@ fn open_in_turn<R: Host>(epoll: &mut Epoll<R>, rt: &R) -> Result<(), Fault> {
 /// Opens a counter and a line of the table, and copies each.
 fn open_and_copy<R: Host>(epoll: &mut Epoll<R>, rt: &R) -> Result<(), Fault> {
     let counter = open_counter(epoll, 18, rt)?;
-    let other = again!(CallName::EventFdTryClone, counter.try_clone(), true)?;
+    let other = again!(CallName::EventFdTryClone, counter.try_clone())?;
     println!(rt; "EventFd::try_clone: descriptor {}", other.as_raw_fd())?;
     let line = open_line(epoll, 19, rt)?;
-    let other = again!(CallName::LineTryClone, line.try_clone(), true)?;
+    let other = again!(CallName::LineTryClone, line.try_clone())?;
     println!(rt; "Line::try_clone: descriptor {}", other.as_raw_fd())?;
     Ok(())
 }

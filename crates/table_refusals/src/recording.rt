@@ -26,8 +26,7 @@ fn script_of_one(alloc: Global) -> Result<ScriptPoller, Fault> {
 fn make_recording(alloc: Global) -> Result<RecordingPoller<ScriptPoller>, Fault> {
     again!(
         CallName::RecordingPollerNew,
-        RecordingPoller::new(script_of_one(alloc)?, alloc, ENTRIES),
-        true
+        RecordingPoller::new(script_of_one(alloc)?, alloc, ENTRIES)
     )
 }
 

@@ -99,13 +99,12 @@ fn answers_as_pushed(script: &mut ScriptPoller) -> bool {
 
 /// Pushes a fault, a report of the descriptor and a refusal of it.
 fn push_three(script: &mut ScriptPoller, fd: RawFd, alloc: Global) -> Result<(), Fault> {
-    again!(CallName::PushFault, script.push_fault(Errno::EINTR), true)?;
+    again!(CallName::PushFault, script.push_fault(Errno::EINTR))?;
     push_report(script, &[event_of(fd)], alloc)?;
     let op = ControlOperation::Add;
     again!(
         CallName::PushRefusal,
-        script.push_refusal(op, fd, Errno(fd)),
-        true
+        script.push_refusal(op, fd, Errno(fd))
     )
 }
 
