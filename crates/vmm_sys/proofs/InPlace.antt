@@ -1,7 +1,7 @@
 -- A report of the interests that are ready and stand last: it leaves them where they are.
 use Rattle.std.proofs.Common.{◌≡◌, ℕ, zero, suc, ◌+◌, ◌-◌, ◌<◌, ◌≤◌, Bool, true, false, inl, inr, List, [], ◌∷◌, ◌++◌, length, take, drop, set, map, filter, get_or, refl, ap, ◌∙◌, sym, subst, arith, append_assoc, Option, Some, None}
 use Rattle.std.specs.Prelude.{IsSome}
-use Rattle.std.proofs.lemmas.Bool.{cases_lt, cases_Bool, false≢true}
+use Rattle.std.proofs.lemmas.Bool.{cases_lt, false≢true}
 use Rattle.std.proofs.lemmas.List.{append-nil, get_or_past, get_or-drop, get_or-take, length-drop, length-map, length-take, take-append-drop, take_more, drop_more, set_at, map-append}
 use Rattle.std.proofs.lemmas.List.Elements.{filter-append}
 use Rattle.std.proofs.lemmas.Option.{get_or_from_slice_get, none-some, same_Some}
@@ -12,7 +12,7 @@ use Rattle.vmm_sys.specs.Interests.{InterestsState, slot_at, passes, AreMarked}
 use Rattle.vmm_sys.specs.ReadySet.{IsMarked, IsFirstFrom}
 use Rattle.vmm_sys.proofs.Held.{held-append, slot-within}
 use Rattle.vmm_sys.proofs.Picks.{Picked, fails, IsDone, done_by_none}
-use Rattle.vmm_sys.proofs.Walked.{NoneIn, none_filter, get_marked}
+use Rattle.vmm_sys.proofs.Walked.{NoneIn, none_filter, bare_fails}
 
 -- slots each of which holds something
 pub full : {A : Type 0} (slots : List (Option A)) → ((t : ℕ) → t < length slots → IsSome (get_or slots t None)) → slots ≡ map Some (held slots)
@@ -69,14 +69,14 @@ pub record StandLast (p : Interest → Bool) (now : InterestsState) (first : ℕ
   pub ready : (s : ℕ) → first ≤ s → s < length now.slots → IsMarked now.marks s
 
 module _ {p : Interest → Bool} {now : InterestsState} {first : ℕ} (h : StandLast p now first) where
-  marked_passes : (s : ℕ) → IsMarked now.marks s → passes p (slot_at now.slots s) ≡ true
-  marked_passes s marked = sym (h.marks s) ∙ get_or_from_slice_get now.marks s true false marked
+  marked_passes : (s : ℕ) → s < length now.slots → IsMarked now.marks s → passes p (slot_at now.slots s) ≡ true
+  marked_passes s lt marked = sym (h.marks s lt) ∙ get_or_from_slice_get now.marks s true false marked
 
   pub some_last : (s : ℕ) → first ≤ s → s < length now.slots → IsSome (slot_at now.slots s)
-  some_last s ge lt = some_passes p (slot_at now.slots s) (marked_passes s (h.ready s ge lt))
+  some_last s ge lt = some_passes p (slot_at now.slots s) (marked_passes s lt (h.ready s ge lt))
 
   unmarked : (s : ℕ) → s < first → passes p (slot_at now.slots s) ≡ false
-  unmarked s lt = elim (cases_Bool (passes p (slot_at now.slots s))) [ inl b ↦ absurd (h.front.first s (omega arith) lt (get_marked now.marks s (h.marks s ∙ b))) | inr b ↦ b ]
+  unmarked s lt = bare_fails p now h.marks s (h.front.first s (omega arith) lt)
 
   none_before : NoneIn p (take first now.slots)
   none_before t =
@@ -88,7 +88,7 @@ module _ {p : Interest → Bool} {now : InterestsState} {first : ℕ} (h : Stand
   all_last : (t : ℕ) → t < length (drop first now.slots) → passes p (slot_at (drop first now.slots) t) ≡ true
   all_last t lt =
       let rest = length-drop first now.slots in
-      ap (passes p) (get_or-drop first now.slots t None) ∙ marked_passes (first + t) (h.ready (first + t) (omega arith) (omega arith))
+      ap (passes p) (get_or-drop first now.slots t None) ∙ marked_passes (first + t) (omega arith) (h.ready (first + t) (omega arith) (omega arith))
 
   pub split : held now.slots ≡ held (take first now.slots) ++ held (drop first now.slots)
   split = ap held (sym (take-append-drop first now.slots)) ∙ held-append (take first now.slots) (drop first now.slots)

@@ -10,7 +10,7 @@ use Rattle.vmm_sys.specs.declared.table.Interest.{Interest}
 use Rattle.vmm_sys.specs.Lists.{held}
 use Rattle.vmm_sys.specs.Interests.{InterestsState, slot_at, passes, AreMarked}
 use Rattle.vmm_sys.specs.ReadySet.{IsMarked, IsFirstFrom}
-use Rattle.vmm_sys.proofs.Held.{held-append, held-full, split-at}
+use Rattle.vmm_sys.proofs.Held.{held-append, held-full, slot-within, split-at}
 use Rattle.vmm_sys.proofs.Picks.{Picked, fails, IsDone, done_by_none}
 
 -- the slots below `from` were looked at, and so those of `looked`: those that pass came to the back in their order, and the others are in `left`
@@ -74,6 +74,14 @@ get_marked [] n e = absurd (false≢true e)
 get_marked (b ∷ marks) zero e = ap Some e
 get_marked (b ∷ marks) (suc n) e = get_marked marks n e
 
+-- what a slot without a mark holds doesn't pass
+pub bare_fails : (p : Interest → Bool) (now : InterestsState) → AreMarked p now → (s : ℕ) → ¬ IsMarked now.marks s → passes p (slot_at now.slots s) ≡ false
+bare_fails p now h s bare =
+    elim (cases_lt s (length now.slots)) [
+      | inl lt ↦ elim (cases_Bool (passes p (slot_at now.slots s))) [ inl b ↦ absurd (bare (get_marked now.marks s (h s lt ∙ b))) | inr b ↦ b ]
+      | inr ge ↦ ap (passes p) (get_or_past now.slots s None ge)
+    ]
+
 module _ {p : Interest → Bool} {f : Interest → EpollEvent} {before now : InterestsState} {ys ws : List EpollEvent} {count from : ℕ} (h : Walked p f before ys now ws count from) where
   abbrev moved : List Interest
   moved = filter p h.looked
@@ -94,7 +102,16 @@ module _ {p : Interest → Bool} {f : Interest → EpollEvent} {before now : Int
       ∙ ap (slot_at (h.rest ++ map Some moved)) there ∙ get_or_append_left h.rest (map Some moved) None t lt
 
   unmarked : (s : ℕ) → ¬ IsMarked now.marks s → passes p (slot_at now.slots s) ≡ false
-  unmarked s bare = elim (cases_Bool (passes p (slot_at now.slots s))) [ inl b ↦ absurd (bare (get_marked now.marks s (h.marks s ∙ b))) | inr b ↦ b ]
+  unmarked = bare_fails p now h.marks
+
+  -- a slot that was in use is
+  pub stays_in_use : (s : ℕ) → s < length before.slots → s < length now.slots
+  stays_in_use s lt =
+      let whole = ap length h.slots_are ∙ length-append h.left (h.rest ++ map Some moved) in
+      let rest = length-append h.rest (map Some moved) in
+      let l = h.left_is in
+      let e = h.end_is in
+      omega arith
 
   -- where none is marked any more, up to the end that there was, the walk is over
   pub done_by_marks : count ≤ length ys → ((s : ℕ) → from ≤ s → s < length before.slots → ¬ IsMarked now.marks s) → IsDone p f picked
@@ -139,7 +156,7 @@ module _ {p : Interest → Bool} {f : Interest → EpollEvent} {before now : Int
         ]
 
     i_passes : p i ≡ true
-    i_passes = sym (ap (passes p) at) ∙ sym (h.marks slot) ∙ get_or_from_slice_get now.marks slot true false first.marked
+    i_passes = sym (ap (passes p) at) ∙ sym (h.marks slot (slot-within now.slots slot i at)) ∙ get_or_from_slice_get now.marks slot true false first.marked
 
     front_is : length (h.left ++ cut.0) ≡ slot
     front_is = let l = h.left_is in let c = cut.3 in let g = first.from in let a = length-append h.left cut.0 in omega arith

@@ -1,5 +1,5 @@
 -- The interests of a table: a row of slots, each of which holds an interest or is empty, and a mark at each slot whose interest is ready.
-use Rattle.std.specs.Prelude.{ℕ, ◌≡◌, ◌≢◌, ◌*◌, ◌≤◌, ◌^◌, Bool, false, List, length, slice_index_or, Option, Some, None}
+use Rattle.std.specs.Prelude.{ℕ, ◌≡◌, ◌≢◌, ◌*◌, ◌<◌, ◌≤◌, ◌^◌, Bool, false, List, length, slice_index_or, Option, Some, None}
 use Rattle.vmm_sys.specs.declared.entries.EpollEvent.{EpollEvent}
 use Rattle.vmm_sys.specs.declared.table.Interest.{Interest}
 
@@ -35,9 +35,17 @@ abbrev pub passes : (Interest → Bool) → Option Interest → Bool
 passes p None = false
 passes p (Some i) = p i
 
--- exactly the slots whose interest passes a test are marked
+-- a slot is marked exactly where its interest passes a test
+abbrev pub IsMarkedBy : (Interest → Bool) → InterestsState → ℕ → Type 0
+IsMarkedBy p state s = slice_index_or state.marks s false ≡ passes p (slot_at state.slots s)
+
+-- each slot in use is; what is marked behind them says nothing
 abbrev pub AreMarked : (Interest → Bool) → InterestsState → Type 0
-AreMarked p state = (s : ℕ) → slice_index_or state.marks s false ≡ passes p (slot_at state.slots s)
+AreMarked p state = (s : ℕ) → s < length state.slots → IsMarkedBy p state s
+
+-- each but one is
+abbrev pub AreMarkedBut : ℕ → (Interest → Bool) → InterestsState → Type 0
+AreMarkedBut n p state = (s : ℕ) → s < length state.slots → s ≢ n → IsMarkedBy p state s
 
 -- two tests say the same of the interests of other descriptors than n
 abbrev pub AgreeBut : ℕ → (Interest → Bool) → (Interest → Bool) → Type 0

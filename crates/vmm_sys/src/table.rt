@@ -313,8 +313,6 @@ impl Table {
             }
             (ControlOperation::Delete, Some(slot)) => {
                 self.interests.remove(slot, interest.descriptor);
-                self.interests.mark(slot, false);
-                self.interests.give_back(slot);
             }
             (ControlOperation::Modify, None) => return Err(Errno::ENOENT),
             (ControlOperation::Delete, None) => return Err(Errno::ENOENT),

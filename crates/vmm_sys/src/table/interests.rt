@@ -2,7 +2,7 @@
 
 ghost use Rattle.std.specs.Prelude.{◌≡◌, ◌≢◌, ◌<◌, ◌≤◌, ◌+◌, ◌*◌, ◌^◌, ◌++◌, ◌∷◌, [], ℕ, Bool, true, false, length, map, slice_index_or, slice_set, Some, None, IsSome, IsTrue, IfSome, MatchOption, OnOk, OnErr};
 ghost use Rattle.vmm_sys.specs.Lists.{held};
-ghost use Rattle.vmm_sys.specs.Interests.{slot_at, place_at, Holds, NoneHolds, AloneHolds, AreMarked};
+ghost use Rattle.vmm_sys.specs.Interests.{slot_at, place_at, Holds, NoneHolds, AloneHolds, AreMarked, AreMarkedBut};
 ghost use Rattle.vmm_sys.specs.ReadySet.{IsMarked, IsFirstFrom, NoneFrom};
 
 use super::Interest;
@@ -145,16 +145,6 @@ impl Interests {
         }
     }
 
-    // Marks a slot in use as ready.
-    #[inline(always)]
-    fn mark_ready(&mut self, slot: usize)
-        requires { slot < length self.old.slots }
-        ensures within { slot < length self.old.marks }
-        ensures marked { self.new ≡ record self.old { marks = slice_set self.old.marks slot true } }
-    {
-        self.ready.insert(slot);
-    }
-
     /// Puts an interest in as the last one.
     #[inline(always)]
     pub(super) fn push_back(&mut self, interest: Interest, ready: bool)
@@ -167,9 +157,7 @@ impl Interests {
         self.leave_unused(1);
         let slot = self.slots.len();
         self.put_last(interest);
-        if ready {
-            self.mark_ready(slot);
-        }
+        self.mark(slot, ready);
     }
 
     // Puts an interest into the next slot.
@@ -192,26 +180,31 @@ impl Interests {
         set_event(&mut self.slots[slot], interest);
     }
 
-    /// Takes the interest of a descriptor out of its slot.
+    /// Takes the interest of a descriptor out of its slot, and its mark; where that slot is the last one in use, it is given
+    /// back as it is marked.
+    #[inline(always)]
     pub(super) fn remove(&mut self, slot: usize, descriptor: usize)
+        requires { Holds self.old.slots slot descriptor }
+        ensures room { self.new.room ≡ self.old.room }
+        ensures list { held self.new.slots ≡ held (slice_set self.old.slots slot None) }
+        ensures marks { (p : Interest → Bool) → AreMarked p self.old → AreMarked p self.new }
+    {
+        self.empty(slot, descriptor);
+        if self.slots.len() - slot == 1 {
+            self.slots.truncate(slot);
+        } else {
+            self.mark(slot, false);
+        }
+    }
+
+    // Empties the slot of a descriptor's interest.
+    #[inline(always)]
+    fn empty(&mut self, slot: usize, descriptor: usize)
         requires { Holds self.old.slots slot descriptor }
         ensures { self.new ≡ record self.old { slots = slice_set self.old.slots slot None } }
     {
         self.slots[slot] = None;
         self.places[descriptor] = None;
-    }
-
-    /// Gives an empty slot back, where it is the last one in use.
-    pub(super) fn give_back(&mut self, slot: usize)
-        requires used { slot < length self.old.slots }
-        requires none { slot_at self.old.slots slot ≡ None }
-        ensures room { self.new.room ≡ self.old.room }
-        ensures list { held self.new.slots ≡ held self.old.slots }
-        ensures marks { (p : Interest → Bool) → AreMarked p self.old → AreMarked p self.new }
-    {
-        if self.slots.len() - slot == 1 {
-            self.slots.truncate(slot);
-        }
     }
 
     /// Leaves so many slots unused: where there are fewer, those that hold an interest come to the
@@ -249,7 +242,7 @@ impl Interests {
         requires used { to < length self.old.slots }
         ensures room { self.new.room ≡ self.old.room }
         ensures slots { self.new.slots ≡ slice_set (slice_set self.old.slots from None) to (slot_at self.old.slots from) }
-        ensures marks { (p : Interest → Bool) → AreMarked p self.old → AreMarked p self.new }
+        ensures marks { (p : Interest → Bool) → AreMarkedBut to p self.old → AreMarked p self.new }
     {
         let Some(interest) = self.slots[from] else {
             return;
@@ -311,17 +304,19 @@ fn set_event(held: &mut Option<Interest>, interest: Interest)
     }
 }
 
-// Takes the mark of one number for another, where it has one.
+// Takes the mark of one number for another, or the lack of one.
 #[inline(always)]
 fn move_mark(ready: &mut ReadySet, from: usize, to: usize)
     requires from { from < length ready.old }
     requires to { to < length ready.old }
     ensures length { length ready.new ≡ length ready.old }
     ensures marked { slice_index_or ready.old from false ≡ true → ready.new ≡ slice_set (slice_set ready.old from false) to true }
-    ensures unmarked { slice_index_or ready.old from false ≡ false → ready.new ≡ ready.old }
+    ensures unmarked { slice_index_or ready.old from false ≡ false → ready.new ≡ slice_set ready.old to false }
 {
     if ready.contains(from) {
         ready.remove(from);
         ready.insert(to);
+    } else if ready.contains(to) {
+        ready.remove(to);
     }
 }

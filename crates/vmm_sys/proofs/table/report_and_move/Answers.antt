@@ -5,7 +5,7 @@ use Rattle.vmm_sys.specs.Table.{is_ready, entry_of, first_ready, first_ready_las
 use Rattle.vmm_sys.specs.Lists.{held}
 use Rattle.vmm_sys.specs.Interests.{slot_at, passes}
 use Rattle.vmm_sys.proofs.Picks.{IsDone, done_by_room}
-use Rattle.vmm_sys.proofs.Walked.{Walked-start, Walked-more, picked, done_by_marks, done_by_all}
+use Rattle.vmm_sys.proofs.Walked.{Walked-start, Walked-more, picked, stays_in_use, done_by_marks, done_by_all}
 use Rattle.vmm_sys.proofs.table.report_and_move.Goals as goal
 
 pub loop-count-init : goal.loop-count-init
@@ -68,7 +68,8 @@ holds-one c =
     let p = is_ready c.args.sources.now in
     let slot = c.in-Some.slot in
     let none = ap (passes p) (sym c.interest_in.ensures ∙ c.in_default-interest_in.is) in
-    false≢true (sym (c.loop-count.invariant.marks slot ∙ none) ∙ get_or_from_slice_get c.loop-count.interests.marks slot true false c.in-Some.ensures.marked)
+    let within = stays_in_use c.loop-count.invariant slot (omega arith) in
+    false≢true (sym (c.loop-count.invariant.marks slot within ∙ none) ∙ get_or_from_slice_get c.loop-count.interests.marks slot true false c.in-Some.ensures.marked)
 
 pub returns-in_default-interest_in-clause-count : goal.returns-in_default-interest_in-clause-count
 returns-in_default-interest_in-clause-count c = absurd (holds-one c)

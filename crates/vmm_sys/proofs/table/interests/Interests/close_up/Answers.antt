@@ -1,4 +1,4 @@
-use Rattle.std.proofs.Common.{◌≡◌, ℕ, ◌≤◌, ◌∙◌, ap, sym, subst, refl, arith, length, take}
+use Rattle.std.proofs.Common.{◌≡◌, ℕ, ◌≤◌, ◌∙◌, ap, sym, subst, arith, length, take}
 use Rattle.std.proofs.lemmas.List.{length-take}
 use Rattle.vmm_sys.specs.Interests.{InterestsState, AreMarked, slot_at}
 use Rattle.vmm_sys.proofs.Closing.{Closing-start, Closing-step, closed_same}
@@ -46,4 +46,5 @@ returns-clause-marks c = λ p h.
     let w = ap (λ (s : InterestsState). s.slots) c.self-2.view_is in
     let same : (s : ℕ) → slot_at (take c.loop-slot.next slots) s ≡ slot_at slots s = λ s. ap (λ l. slot_at (take c.loop-slot.next l) s) w ∙ closed_same c.loop-slot.invariant le s ∙ sym (ap (λ l. slot_at l s) w) in
     let fit = subst (AreMarked p) (sym c.self-2.view_is) (c.loop-slot.invariant.marks p h) in
-    rw c.truncate.ensures.items (fit-same p c.self-2.inside.ready c.self-2.inside.ready slots (take c.loop-slot.next slots) (λ s. refl) same fit)
+    let cut = length-take c.loop-slot.next slots in
+    rw c.truncate.ensures.items (fit-same p c.self-2.inside.ready slots (take c.loop-slot.next slots) (omega arith) same fit)

@@ -1,10 +1,10 @@
-use Rattle.std.proofs.Common.{◌≡◌, ◌<◌, ◌*◌, ◌∙◌, sym, subst, refl, arith, length, None}
+use Rattle.std.proofs.Common.{◌≡◌, ◌<◌, ◌*◌, ◌∙◌, sym, subst, arith, length, None}
 use Rattle.std.specs.Prelude.{IsSome}
 use Rattle.std.proofs.lemmas.List.{length_push}
 use Rattle.vmm_sys.specs.Interests.{InterestsState, slot_at, AreMarked}
 use Rattle.vmm_sys.proofs.Held.{slot-moved, slot-grown}
 use Rattle.vmm_sys.proofs.Slots.{in-slots-same}
-use Rattle.vmm_sys.proofs.SlotMarks.{fit-same}
+use Rattle.vmm_sys.proofs.SlotMarks.{fit-grown}
 use Rattle.vmm_sys.proofs.table.interests.Interests.move_to_back.Goals as goal
 
 pub invariant_of-self : goal.invariant_of-self
@@ -28,4 +28,5 @@ pub returns-clause-marks : goal.returns-clause-marks
 returns-clause-marks c = λ p h.
     let slots = c.self.inside.slots.items in
     let fit = subst (AreMarked p) (sym c.self.view_is) h in
-    c.shift.ensures.marks p (rw c.push_reserved.ensures.items (fit-same p c.self.inside.ready c.self.inside.ready slots _ (λ s. refl) (slot-grown slots) fit))
+    let last : c.len-last.result ≡ length slots = c.len-last.ensures ∙ c.self.inside.slots.ok.0 in
+    c.shift.ensures.marks p (rw (c.push_reserved.ensures.items, last) (fit-grown p c.self.inside.ready slots fit))

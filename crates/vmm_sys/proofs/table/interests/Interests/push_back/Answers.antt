@@ -1,31 +1,22 @@
-use Rattle.std.proofs.Common.{◌≡◌, ◌<◌, ◌∙◌, ◌++◌, ◌∷◌, [], ap, arith, length, Some, true, rules}
+use Rattle.std.proofs.Common.{◌≡◌, ◌<◌, ◌∙◌, ◌++◌, ◌∷◌, [], ap, arith, length, Some, rules}
 use Rattle.vmm_sys.specs.Interests.{InterestsState}
 use Rattle.vmm_sys.proofs.Held.{held-append}
 use Rattle.vmm_sys.proofs.Slots.{none-kept}
-use Rattle.vmm_sys.proofs.SlotMarks.{fit-push, fit-push-bare}
+use Rattle.vmm_sys.proofs.SlotMarks.{fit-push}
 use Rattle.vmm_sys.proofs.table.interests.Interests.push_back.Goals as goal
 
 pub put_last-requires-clause-absent : goal.put_last-requires-clause-absent
 put_last-requires-clause-absent c = none-kept c.args.self.now.slots c.leave_unused.new.self.slots c.args.interest.descriptor c.leave_unused.ensures.list c.requires.absent
 
-pub returns-then-ready-clause-list : goal.returns-then-ready-clause-list
-returns-then-ready-clause-list c =
+pub returns-clause-list : goal.returns-clause-list
+returns-clause-list c =
     let i = c.args.interest in
-    rw (c.mark_ready.ensures.marked, c.put_last.ensures) (held-append c.leave_unused.new.self.slots (Some i ∷ []) ∙ ap (λ l. l ++ i ∷ []) c.leave_unused.ensures.list)
+    rw (c.mark.ensures.marked, c.put_last.ensures) (held-append c.leave_unused.new.self.slots (Some i ∷ []) ∙ ap (λ l. l ++ i ∷ []) c.leave_unused.ensures.list)
 
-pub returns-else-ready-clause-list : goal.returns-else-ready-clause-list
-returns-else-ready-clause-list c =
-    let i = c.args.interest in
-    rw c.put_last.ensures (held-append c.leave_unused.new.self.slots (Some i ∷ []) ∙ ap (λ l. l ++ i ∷ []) c.leave_unused.ensures.list)
-
-pub returns-then-ready-clause-marks : goal.returns-then-ready-clause-marks
-returns-then-ready-clause-marks c = λ p h e.
+pub returns-clause-marks : goal.returns-clause-marks
+returns-clause-marks c = λ p h e.
     let fit = c.leave_unused.ensures.marks p h in
     let same = ap (λ (s : InterestsState). length s.marks) c.put_last.ensures in
     let slot : c.len-slot.result ≡ length c.leave_unused.new.self.slots = search rules in
-    let within : length c.leave_unused.new.self.slots < length c.leave_unused.new.self.marks = (let w = c.mark_ready.ensures.within in omega arith) in
-    rw (c.mark_ready.ensures.marked, c.put_last.ensures, slot) (fit-push p c.leave_unused.new.self.marks c.leave_unused.new.self.slots c.args.interest true fit within (e ∙ c.if-ready.true))
-
-pub returns-else-ready-clause-marks : goal.returns-else-ready-clause-marks
-returns-else-ready-clause-marks c = λ p h e.
-    rw c.put_last.ensures (fit-push-bare p c.leave_unused.new.self.marks c.leave_unused.new.self.slots c.args.interest (c.leave_unused.ensures.marks p h) (e ∙ c.if-ready.false))
+    let within : length c.leave_unused.new.self.slots < length c.leave_unused.new.self.marks = (let w = c.mark.ensures.within in omega arith) in
+    rw (c.mark.ensures.marked, c.put_last.ensures, slot) (fit-push p c.leave_unused.new.self.marks c.leave_unused.new.self.slots c.args.interest c.args.ready fit within e)

@@ -1,17 +1,36 @@
-use Rattle.std.proofs.Common.{sym, subst, length-set}
-use Rattle.vmm_sys.specs.Interests.{InterestsState, Holds}
-use Rattle.vmm_sys.proofs.Slots.{in-slots-remove, holds-below}
+use Rattle.std.proofs.Common.{◌≡◌, ◌+◌, ◌≤◌, ◌∙◌, ap, arith, length, take, None}
+use Rattle.std.proofs.lemmas.List.{get_or-set_same, length-take}
+use Rattle.vmm_sys.specs.Lists.{held}
+use Rattle.vmm_sys.specs.Interests.{InterestsState, slot_at}
+use Rattle.vmm_sys.proofs.Held.{slot-last, held-cut}
+use Rattle.vmm_sys.proofs.Slots.{holds-within, in-slots-same}
 use Rattle.vmm_sys.proofs.table.interests.Interests.remove.Goals as goal
 
-pub index_mut-requires-2 : goal.index_mut-requires-2
-index_mut-requires-2 c =
-    let h = subst (λ (s : InterestsState). Holds s.slots c.args.slot c.args.descriptor) (sym c.self.view_is) c.requires in
-    rw c.self.inside.places.ok.0 (holds-below c.self.inside.places.items c.self.inside.slots.items c.self.invariant.0 c.args.slot c.args.descriptor h)
+last-is : (c : goal.After-truncate) → length c.self.inside.slots.items ≤ c.args.slot + 1
+last-is c =
+    let len = c.len.ensures ∙ c.self.inside.slots.ok.0 in
+    let test = c.if-len-slot-eq1.true in
+    omega arith
+
+is-empty : (c : goal.After-truncate) → slot_at c.self.inside.slots.items c.args.slot ≡ None
+is-empty c =
+    let old = c.args.self.now.slots in
+    let within = holds-within old c.args.slot c.args.descriptor c.requires in
+    ap (λ (s : InterestsState). slot_at s.slots c.args.slot) (c.self.view_is ∙ c.empty.ensures) ∙ get_or-set_same old c.args.slot None None within
 
 pub invariant_of-self : goal.invariant_of-self
 invariant_of-self c =
-    let h = subst (λ (s : InterestsState). Holds s.slots c.args.slot c.args.descriptor) (sym c.self.view_is) c.requires in
-    let room = c.self.invariant.1 in (
-      in-slots-remove c.self.inside.places.items c.self.inside.slots.items c.self.invariant.0 c.args.slot c.args.descriptor h,
-      rw length-set (record { descriptors = room.descriptors; slots = room.slots; marks = room.marks; used = rw length-set room.used }),
+    let slots = c.self.inside.slots.items in
+    let last = c.args.slot in
+    let room = c.self.invariant.1 in
+    let cut = length-take last slots in
+    let used = room.used in (
+      rw c.truncate.ensures.items (in-slots-same c.self.inside.places.items slots (take last slots) (λ t. slot-last slots last t (last-is c) (is-empty c)) c.self.invariant.0),
+      rw (c.truncate.ensures.items, c.truncate.ensures.capacity) (record { descriptors = room.descriptors; slots = room.slots; marks = room.marks; used = omega arith }),
     )
+
+pub returns-then-len-slot-eq1-clause-list : goal.returns-then-len-slot-eq1-clause-list
+returns-then-len-slot-eq1-clause-list c =
+    let slots = c.self.inside.slots.items in
+    let last = c.args.slot in
+    ap held c.truncate.ensures.items ∙ held-cut slots last (last-is c) (is-empty c) ∙ ap (λ (s : InterestsState). held s.slots) (c.self.view_is ∙ c.empty.ensures)

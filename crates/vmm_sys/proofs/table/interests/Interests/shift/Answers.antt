@@ -1,5 +1,5 @@
 use Rattle.std.proofs.Common.{◌≡◌, ◌<◌, ◌∙◌, ap, sym, subst, refl, arith, length, length-set, get_or, Some, None}
-use Rattle.vmm_sys.specs.Interests.{InterestsState, slot_at, AreMarked}
+use Rattle.vmm_sys.specs.Interests.{InterestsState, slot_at, AreMarkedBut}
 use Rattle.std.specs.Prelude.{IsSome}
 use Rattle.std.proofs.lemmas.List.{get_or_read}
 use Rattle.vmm_sys.proofs.Held.{slot-within, some-within}
@@ -36,7 +36,7 @@ returns-clause-marks c = λ p h.
     let at : slot_at slots c.args.from ≡ Some i = sym (get_or_read slots c.args.from (Some i) lt (sym c.in-Some.is ∙ c.index.ensures ∙ ap (get_or slots c.args.from) c.in-Some.is) None) in
     let empty = subst (λ (s : InterestsState). slot_at s.slots c.args.to ≡ None) (sym c.self.view_is) c.requires.none in
     let used = subst (λ (s : InterestsState). c.args.to < length s.slots) (sym c.self.view_is) c.requires.used in
-    let fit = subst (AreMarked p) (sym c.self.view_is) h in
+    let fit = subst (AreMarkedBut c.args.to p) (sym c.self.view_is) h in
     let r1 = c.self.invariant.1.used in
     let r2 = c.self.invariant.1.marks in
     let within = slot-within slots c.args.from i at in
