@@ -46,8 +46,9 @@ fn a_read_ends_waits(rt: HostRuntime) {
 
 #[test]
 fn a_set_ends_waits(rt: HostRuntime) {
-    expect_to_end_waits(rt, rt.alloc(), Change::Set(EventSet::IN));
-    expect_to_end_waits(rt, rt.alloc(), Change::Set(EventSet::HANG_UP));
+    for set in [EventSet::IN, EventSet::ERROR, EventSet::HANG_UP] {
+        expect_to_end_waits(rt, rt.alloc(), Change::Set(set));
+    }
 }
 
 // The change ends three waits, without a limit and with a long one, which answer what is ready.
