@@ -2,13 +2,12 @@
 use Rattle.std.proofs.Common.{◌≡◌, ℕ, ◌<◌, ◌^◌, sym, ap, subst, ◌∙◌, Option, Some, None, is_some, IsSome, arith, nat_cmp, cond, true, List}
 use Rattle.std.proofs.lemmas.Bool.{false≢true}
 use Rattle.std.specs.FinMap.{get, insert, remove, empty, len, get-empty}
-use Rattle.event_loop.specs.Consistency.{AreConsistent, AreWatched}
+use Rattle.event_loop.specs.Consistency.{AreConsistent, AreWatched, AreDescriptors}
 use Rattle.event_loop.specs.Registry.{is_id}
 use Rattle.event_loop.specs.Releasing.{AreWithout}
 use Rattle.dispatch_tables.specs.Ownership.{Ownership, OwnerMap, owner_id, owner_of}
 use Rattle.dispatch_tables.specs.Owners.{AreCounted}
 use Rattle.dispatch_tables.specs.WatchLists.{times_in, times_watched, AreDistinct, HasOneMore, HasNone}
-use Rattle.event_loop.specs.ReadyList.{AreDescriptors}
 use Rattle.dispatch_tables.specs.declared.watch_lists.WatchLists.{WatchLists}
 use Rattle.dispatch_tables.proofs.Counting.{held_one, one_fewer}
 use Rattle.dispatch_tables.proofs.Owning.{owned_is_some}

@@ -6,7 +6,7 @@ use Rattle.std.specs.Cmp.{nat_cmp_total}
 use Rattle.std.specs.FinMap.{get, remove, len, empty, contains_key, get-remove, get-empty, len-remove, len-empty, same_map, nat_cmp-IsAntisymmetric}
 use Rattle.dispatch_tables.specs.Ownership.{Ownership, OwnerMap}
 use Rattle.dispatch_tables.proofs.NumberTests.{same_tests}
-use Rattle.event_loop.specs.ReadyList.{AreDescriptors}
+use Rattle.event_loop.specs.Consistency.{AreDescriptors}
 
 nobody : (o : Option Ownership) → (IsSome o → ⊥) → o ≡ None
 nobody None none = refl

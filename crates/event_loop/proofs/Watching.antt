@@ -14,8 +14,7 @@ use Rattle.dispatch_tables.proofs.TimesListed.{flipped, counted, contained, dist
 use Rattle.event_loop.specs.Registrations.{Registrations}
 use Rattle.event_loop.specs.Registry.{is_id, without_owner, AreOwnedBy}
 use Rattle.dispatch_tables.specs.WatchLists.{times_in, times_watched, HasOneMore, HasNone, HasSameLists}
-use Rattle.event_loop.specs.Consistency.{AreWatched}
-use Rattle.event_loop.specs.ReadyList.{AreDescriptors}
+use Rattle.event_loop.specs.Consistency.{AreWatched, AreDescriptors}
 use Rattle.event_loop.specs.Releasing.{AreWithout}
 use Rattle.dispatch_tables.specs.declared.watch_lists.WatchLists.{WatchLists}
 use Rattle.dispatch_tables.proofs.NumberTests.{same_tests, nat_tied}

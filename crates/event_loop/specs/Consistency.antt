@@ -1,11 +1,15 @@
 -- What holds of the owners and the watch lists together.
-use Rattle.std.specs.Prelude.{◌≡◌, ℕ, cond}
+use Rattle.std.specs.Prelude.{◌≡◌, ℕ, ◌<◌, ◌^◌, cond, IsSome}
+use Rattle.std.specs.FinMap.{get}
 use Rattle.dispatch_tables.specs.Ownership.{OwnerMap, owner_of}
 use Rattle.dispatch_tables.specs.Owners.{AreCounted}
 use Rattle.event_loop.specs.Registry.{is_id}
 use Rattle.dispatch_tables.specs.WatchLists.{times_watched, AreDistinct}
-use Rattle.event_loop.specs.ReadyList.{AreDescriptors}
 use Rattle.dispatch_tables.specs.declared.watch_lists.WatchLists.{WatchLists}
+
+-- each owned descriptor is one from 0 up, as `i32` reads it
+abbrev pub AreDescriptors : OwnerMap → Type 0
+AreDescriptors owners = (q : ℕ) → IsSome (get owners q) → q < 2 ^ 31
 
 -- each descriptor stands once in its owner's list, and in no other list
 abbrev pub AreWatched : OwnerMap → WatchLists → Type 0

@@ -1,10 +1,8 @@
 -- The ready list: the part of the buffer that is still to come.
-use Rattle.std.specs.Prelude.{ℕ, ◌^◌, Bool, List, take, drop, map, ◌<◌, IsSome, Result, Ok, Err}
+use Rattle.std.specs.Prelude.{ℕ, Bool, List, take, drop, map, Result, Ok, Err}
 use Rattle.vmm_sys.specs.declared.errno.Errno.{Errno}
-use Rattle.std.specs.FinMap as finite
 use Rattle.vmm_sys.specs.declared.entries.EpollEvent.{EpollEvent}
 use Rattle.dispatch_tables.specs.Event.{Event, event_of_entry}
-use Rattle.dispatch_tables.specs.Ownership.{OwnerMap}
 use Rattle.dispatch_tables.specs.Cancelled.{is_among}
 
 -- whether the entry's descriptor stands in the list
@@ -14,10 +12,6 @@ is_cancelled cancelled e = is_among (event_of_entry e).fd cancelled
 -- the positions from i up to n, each with a mark where its descriptor stands in the list
 abbrev pub ready_of : List EpollEvent → List ℕ → ℕ → ℕ → List (Event × Bool)
 ready_of buffer cancelled i n = map (λ e. (event_of_entry e, is_cancelled cancelled e)) (drop i (take n buffer))
-
--- each descriptor is one from 0 up, as `i32` reads it
-abbrev pub AreDescriptors : OwnerMap → Type 0
-AreDescriptors owners = (q : ℕ) → IsSome (finite.get owners q) → q < 2 ^ 31
 
 -- what a wait reported
 abbrev pub report_of : Result ℕ Errno → List EpollEvent → Result (List Event) Errno

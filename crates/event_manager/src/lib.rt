@@ -10,10 +10,11 @@ mod calls;
 mod endpoint;
 pub mod jobs;
 pub mod laws;
+mod lists;
 mod manager;
 mod senders;
 
-pub use calls::{Call, Reply, drive};
+pub use calls::{Call, Reply};
 pub use endpoint::RemoteEndpoint;
 pub use endpoint::closed::Closed;
 pub use event_loop::{
@@ -26,5 +27,6 @@ pub use job_tickets::ledgers::{Ledgers, WithLedgers, with_ledgers};
 pub use job_tickets::naming::Naming;
 pub use job_tickets::tickets::Ticket;
 pub use jobs::{Job, NoJob};
+pub use lists::drive;
 pub use manager::EventManager;
 pub use senders::{Ended, LoopWithSenders, Sender, Senders, with_senders};

@@ -117,7 +117,8 @@ impl<S: MutEventSubscriber, J: Job<S>, N: Naming, P: EventPoller> EventManager<S
     pub fn remote_endpoint(&self) -> Result<RemoteEndpoint<S, J, N>>
         ensures refusals { IfErr result (λ e. e ≡ Error.OutOfMemory) }
     {
-        self.channel.remote_endpoint()
+        let channel = self.channel.shared()?;
+        Ok(RemoteEndpoint { channel })
     }
 
     /// Whether jobs wait.

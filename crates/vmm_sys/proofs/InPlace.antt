@@ -6,7 +6,7 @@ use Rattle.std.proofs.lemmas.List.{append-nil, get_or_past, get_or-drop, get_or-
 use Rattle.std.proofs.lemmas.List.Elements.{filter-append}
 use Rattle.std.proofs.lemmas.Option.{get_or_from_slice_get, none-some, same_Some}
 use Rattle.vmm_sys.specs.declared.entries.EpollEvent.{EpollEvent}
-use Rattle.vmm_sys.specs.declared.table.Interest.{Interest}
+use Rattle.vmm_sys.specs.declared.table.interests.Interest.{Interest}
 use Rattle.vmm_sys.specs.Lists.{held}
 use Rattle.vmm_sys.specs.Interests.{InterestsState, slot_at, passes, AreMarked}
 use Rattle.vmm_sys.specs.ReadySet.{IsMarked, IsFirstFrom}

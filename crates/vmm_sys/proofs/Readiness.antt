@@ -4,7 +4,7 @@ use Rattle.std.specs.Prelude.{slice_get, not, ◌==◌}
 use Rattle.std.specs.Int.RustNames.{bit_and, bit_or}
 use Rattle.std.proofs.lemmas.Bool.{cases_eq}
 use Rattle.vmm_sys.specs.declared.table.Source.{Source}
-use Rattle.vmm_sys.specs.declared.table.Interest.{Interest}
+use Rattle.vmm_sys.specs.declared.table.interests.Interest.{Interest}
 use Rattle.vmm_sys.specs.EventSet.{bits_of}
 use Rattle.vmm_sys.specs.EpollEvent.{set_of}
 use Rattle.vmm_sys.specs.Interests.{AgreeBut}

@@ -11,7 +11,7 @@ use Rattle.vmm_sys.specs.declared.event_set.EventSet.{EventSet}
 use Rattle.vmm_sys.specs.declared.errno.Errno.{Errno}
 use Rattle.vmm_sys.specs.declared.table.Source.{Source}
 use Rattle.vmm_sys.specs.declared.table.Source.TheVariants.{Counter, Line}
-use Rattle.vmm_sys.specs.declared.table.Interest.{Interest}
+use Rattle.vmm_sys.specs.declared.table.interests.Interest.{Interest}
 use Rattle.vmm_sys.specs.EventSet.{with_bits}
 use Rattle.vmm_sys.specs.Lists.{without_first}
 use Rattle.vmm_sys.specs.Table.{TableState, is_ready, is_of, place_of, chosen, has_mode, changed, ctl_at, opened, write_to, read_from, set_at, with_source, open_of, source_of, entry_of, Answers, ctl_of, moved_back}

@@ -3,7 +3,7 @@ use Rattle.std.proofs.Common.{◌≡◌, ◌≢◌, ℕ, ◌+◌, ◌<◌, ◌�
 use Rattle.std.proofs.lemmas.Bool.{cases_eq, cases_Bool}
 use Rattle.std.proofs.lemmas.List.{get_or-set_same, get_or-set_other, length-set, length_push, set_at}
 use Rattle.std.proofs.lemmas.Option.{none-some}
-use Rattle.vmm_sys.specs.declared.table.Interest.{Interest}
+use Rattle.vmm_sys.specs.declared.table.interests.Interest.{Interest}
 use Rattle.vmm_sys.specs.Interests.{slot_at, NoneHolds, AloneHolds, passes, AgreeBut}
 use Rattle.vmm_sys.proofs.Held.{slot-within, slot-grown}
 use Rattle.vmm_sys.proofs.Slots.{holds-by}

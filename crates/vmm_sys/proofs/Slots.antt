@@ -5,7 +5,7 @@ use Rattle.std.proofs.lemmas.Bool.{cases_eq, eq-eqb, ne_eqb, eqb-true}
 use Rattle.std.proofs.lemmas.List.{get_or-set_same, get_or-set_other, get_or_past, get_or_append_left, length-map, length-set, length_push, set_at, set-set}
 use Rattle.std.proofs.lemmas.List.Edits.{remove-append_right}
 use Rattle.std.proofs.lemmas.Option.{none-some, same_Some}
-use Rattle.vmm_sys.specs.declared.table.Interest.{Interest}
+use Rattle.vmm_sys.specs.declared.table.interests.Interest.{Interest}
 use Rattle.vmm_sys.specs.Lists.{held}
 use Rattle.vmm_sys.specs.Interests.{slot_at, place_at, Holds, NoneHolds, AloneHolds, AreInSlots}
 use Rattle.vmm_sys.specs.Table.{is_of}

@@ -1,7 +1,7 @@
 -- The interests of a table: a row of slots, each of which holds an interest or is empty, and a mark at each slot whose interest is ready.
 use Rattle.std.specs.Prelude.{ℕ, ◌≡◌, ◌≢◌, ◌*◌, ◌<◌, ◌≤◌, ◌^◌, Bool, false, List, length, slice_index_or, Option, Some, None}
 use Rattle.vmm_sys.specs.declared.entries.EpollEvent.{EpollEvent}
-use Rattle.vmm_sys.specs.declared.table.Interest.{Interest}
+use Rattle.vmm_sys.specs.declared.table.interests.Interest.{Interest}
 
 -- how many descriptors may have an interest: those below it; the slots that are in use, some of them empty; the marks
 pub record InterestsState : Type 0 where

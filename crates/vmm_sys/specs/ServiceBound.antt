@@ -5,7 +5,7 @@ use Rattle.vmm_sys.specs.declared.entries.ControlOperation.{ControlOperation}
 use Rattle.vmm_sys.specs.declared.entries.ControlOperation.TheVariants.{Delete}
 use Rattle.vmm_sys.specs.declared.event_set.EventSet.{EventSet}
 use Rattle.vmm_sys.specs.declared.errno.Errno.{Errno}
-use Rattle.vmm_sys.specs.declared.table.Interest.{Interest}
+use Rattle.vmm_sys.specs.declared.table.interests.Interest.{Interest}
 use Rattle.vmm_sys.specs.Table.{TableState, is_ready, is_of, place_of, chosen, ctl_of, wait_of, write_of, read_of, set_line_of, add_counter_of, add_line_of}
 
 -- a step of a table: one of its calls, or a call to which memory was refused

@@ -9,7 +9,7 @@ use Rattle.vmm_sys.specs.declared.errno.Errno.{Errno}
 use Rattle.vmm_sys.specs.declared.errno.TheConstants.Errno.{EBADF, EINVAL, EEXIST, ENOENT, EAGAIN, EMFILE, ENOMEM}
 use Rattle.vmm_sys.specs.declared.table.Source.{Source}
 use Rattle.vmm_sys.specs.declared.table.Source.TheVariants.{Counter, Line}
-use Rattle.vmm_sys.specs.declared.table.Interest.{Interest}
+use Rattle.vmm_sys.specs.declared.table.interests.Interest.{Interest}
 use Rattle.vmm_sys.specs.EventSet.{bits_of, with_bits}
 use Rattle.vmm_sys.specs.EpollEvent.{event, set_of, word_of}
 use Rattle.vmm_sys.specs.Lists.{without_first}

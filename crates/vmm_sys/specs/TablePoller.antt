@@ -9,7 +9,7 @@ use Rattle.vmm_sys.specs.declared.event_set.EventSet.{EventSet}
 use Rattle.vmm_sys.specs.declared.errno.Errno.{Errno}
 use Rattle.vmm_sys.specs.declared.table.Source.{Source}
 use Rattle.vmm_sys.specs.declared.table.Source.TheVariants.{Counter, Line}
-use Rattle.vmm_sys.specs.declared.table.Interest.{Interest}
+use Rattle.vmm_sys.specs.declared.table.interests.Interest.{Interest}
 use Rattle.vmm_sys.specs.Codes.{set_code, event_code}
 use Rattle.vmm_sys.specs.Table.{TableState, Answers, ctl_of, wait_of, counted, entries_of}
 

@@ -15,6 +15,7 @@ use crate::entries::{ControlOperation, EpollEvent, RawFd};
 use crate::errno::Errno;
 use crate::event_set::EventSet;
 use crate::poller::Poller;
+pub use interests::Interest;
 use interests::Interests;
 use std::alloc::Global;
 use std::marker::Model;
@@ -55,14 +56,6 @@ impl Source {
             Source::Line(set) => set,
         }
     }
-}
-
-/// What is wanted of a descriptor, and the word to report it with; the contracts of [`Table`] speak
-/// of it.
-#[derive(Clone, Copy)]
-pub struct Interest {
-    descriptor: usize,
-    event: EpollEvent,
 }
 
 /// Descriptors, numbered from 0 in the order of opening, and a list of interests in them; it stands

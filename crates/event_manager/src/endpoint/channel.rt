@@ -4,7 +4,6 @@ ghost use Rattle.std.specs.Prelude.{◌≡◌, ℕ, List, IfErr, IfOk};
 ghost use Rattle.event_manager.specs.JobRuns.{JobsAreRun};
 ghost use Rattle.event_loop.specs.Subscribers.{loop_state};
 
-use crate::endpoint::RemoteEndpoint;
 use crate::endpoint::closed::Closed;
 use crate::endpoint::runner::{JobRunner, WaitingJob};
 use crate::endpoint::slot::ReplySender;
@@ -85,12 +84,11 @@ impl<S: MutEventSubscriber, J: Job<S>, N: Naming> EventManagerChannel<S, J, N> {
         })
     }
 
-    /// An endpoint of this channel. `OutOfMemory` where one more owner is refused.
-    pub(crate) fn remote_endpoint(&self) -> Result<RemoteEndpoint<S, J, N>>
+    /// What its endpoints share, with one more owner. `OutOfMemory` where that is refused.
+    pub(crate) fn shared(&self) -> Result<Arc<Channel<S, J, N>>>
         ensures refusals { IfErr result (λ e. e ≡ Error.OutOfMemory) }
     {
-        let channel = Arc::try_clone(&self.channel)?;
-        Ok(RemoteEndpoint { channel })
+        Ok(Arc::try_clone(&self.channel)?)
     }
 
     /// Whether jobs wait.

@@ -5,14 +5,22 @@ ghost use Rattle.vmm_sys.specs.Lists.{held};
 ghost use Rattle.vmm_sys.specs.Interests.{slot_at, place_at, Holds, NoneHolds, AloneHolds, AreMarked, AreMarkedBut};
 ghost use Rattle.vmm_sys.specs.ReadySet.{IsMarked, IsFirstFrom, NoneFrom};
 
-use super::Interest;
 use super::ready_set::ReadySet;
+use crate::entries::EpollEvent;
 use std::alloc::{AllocError, Global};
 use std::marker::Model;
 
 /// How many slots there are for each descriptor. With fewer, a wait that reports one of many might
 /// have to close the slots up each time.
 const SLOTS: usize = 3;
+
+/// What is wanted of a descriptor, and the word to report it with; the contracts of
+/// [`Table`](crate::table::Table) speak of it.
+#[derive(Clone, Copy)]
+pub struct Interest {
+    pub(super) descriptor: usize,
+    pub(super) event: EpollEvent,
+}
 
 /// Interests in the order of their slots, at most one of each descriptor below a room. A slot is
 /// used once, until the slots are closed up: what comes last takes the next one.
@@ -96,7 +104,7 @@ impl Interests {
         self.slots.len()
     }
 
-    /// The first marked slot.
+    /// The first marked slot. One behind the slots in use says nothing, so it may stand there.
     pub(super) fn first_ready(&mut self) -> Option<usize>
         ensures unchanged { self.new ≡ self.old }
         ensures first { MatchOption result (NoneFrom self.old.marks 0) (λ s. IsFirstFrom self.old.marks 0 s) }
@@ -104,7 +112,7 @@ impl Interests {
         self.ready.first()
     }
 
-    /// The first marked slot from one on.
+    /// The first marked slot from one on, in use or not.
     pub(super) fn ready_from(&self, slot: usize) -> Option<usize>
         ensures { MatchOption result (NoneFrom self.now.marks slot) (λ s. IsFirstFrom self.now.marks slot s) }
     {

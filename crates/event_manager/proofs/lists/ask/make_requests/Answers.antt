@@ -1,6 +1,6 @@
 use Rattle.std.proofs.Common.{ap, arith, length, subst, sym}
 use Rattle.event_loop.proofs.RequestsSoFar.{AreRequestedSoFar, none_requested, one_more_requested, all_requested}
-use Rattle.event_manager.proofs.calls.ask.make_requests.Goals as goal
+use Rattle.event_manager.proofs.lists.ask.make_requests.Goals as goal
 
 pub loop-request-init : goal.loop-request-init
 loop-request-init g c = record {

@@ -1,6 +1,6 @@
 use Rattle.std.proofs.Common.{◌≡◌, ◌≤◌, length, vec_len, vec_capacity}
 use Rattle.event_loop.proofs.RequestsSoFar.{AreRequestedSoFar}
-use Rattle.event_manager.proofs.calls.ask.make_requests.Given as goal
+use Rattle.event_manager.proofs.lists.ask.make_requests.Given as goal
 
 abbrev pub invariant-loop-request : goal.invariant-loop-request
 invariant-loop-request g l = record {

@@ -6,7 +6,7 @@ use Rattle.event_manager.specs.Trace.{Stepped, Iterated}
 use Rattle.event_manager.specs.declared.calls.Call.TheVariants as call
 use Rattle.event_manager.specs.declared.calls.Reply.TheVariants as reply
 use Rattle.event_manager.proofs.TraceSoFar.{join_matches, leave_matches, replacement_matches, ask_matches, step_called, iteration_called}
-use Rattle.event_manager.proofs.calls.make_call.Goals as goal
+use Rattle.event_manager.proofs.lists.make_call.Goals as goal
 
 pub returns-in-Add : goal.returns-in-Add
 returns-in-Add g c =

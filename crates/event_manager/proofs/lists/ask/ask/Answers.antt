@@ -1,7 +1,7 @@
 use Rattle.std.proofs.Common.{refl}
 use Rattle.event_loop.specs.Registry.{Requested}
 use Rattle.event_manager.proofs.LentSteps.{lent_step}
-use Rattle.event_manager.proofs.calls.ask.ask.Goals as goal
+use Rattle.event_manager.proofs.lists.ask.ask.Goals as goal
 
 pub returns-in-Ok : goal.returns-in-Ok
 returns-in-Ok g c =

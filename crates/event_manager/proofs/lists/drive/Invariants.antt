@@ -1,7 +1,7 @@
 use Rattle.std.proofs.Common.{◌+◌, ◌≤◌, map, reverse, vec_len, vec_capacity}
 use Rattle.event_manager.specs.Manager.{state_of}
 use Rattle.event_manager.proofs.TraceSoFar.{IsTracedSoFar}
-use Rattle.event_manager.proofs.calls.drive.Given as goal
+use Rattle.event_manager.proofs.lists.drive.Given as goal
 
 abbrev pub invariant-loop-planned : goal.invariant-loop-planned
 invariant-loop-planned g l = record {

@@ -2,7 +2,7 @@ use Rattle.std.proofs.Common.{ap, ◌∙◌, map, reverse, [], ◌∷◌, arith}
 use Rattle.std.proofs.lemmas.List.{nil_from_length, reverse-append}
 use Rattle.event_manager.specs.Manager.{state_of}
 use Rattle.event_manager.proofs.TraceSoFar.{none_traced, one_more_traced, all_traced}
-use Rattle.event_manager.proofs.calls.drive.Goals as goal
+use Rattle.event_manager.proofs.lists.drive.Goals as goal
 
 pub loop-planned-init : goal.loop-planned-init
 loop-planned-init g c = record {

@@ -1,5 +1,5 @@
 use Rattle.std.proofs.Common.{◌≡◌, ◌+◌, ◌++◌, map, reverse, vec_len}
-use Rattle.event_manager.proofs.calls.plan.plan_all.Given as goal
+use Rattle.event_manager.proofs.lists.plan.plan_all.Given as goal
 
 abbrev pub invariant-loop-call : goal.invariant-loop-call
 invariant-loop-call g l = record {
