@@ -14,10 +14,19 @@ use std::sync::{Arc, Condvar, CondvarTimeouts, Mutex, Wait};
 use std::time::{Clock, Duration};
 
 /// A table under a lock, and the notice that it changed.
-#[derive(Drop)]
 pub(crate) struct SharedTable {
     table: Mutex<Table>,
     changed: Condvar,
+}
+
+// Not derived: then who owns one has a call to prove, and not a drop of all that is in it.
+impl Drop for SharedTable {
+    fn drop(self) {
+        let SharedTable {
+            table: _,
+            changed: _,
+        } = self;
+    }
 }
 
 /// One of the owners of a table.

@@ -74,11 +74,21 @@ impl Source {
 ///
 /// A refused call leaves the table as it was. Where several refusals apply, the first of the call's
 /// list is answered.
-#[derive(Drop)]
 pub struct Table {
     sources: Vec<Source>,
     interests: Interests,
     limit: usize,
+}
+
+// Not derived: then who owns one has a call to prove, and not a drop of all that is in it.
+impl Drop for Table {
+    fn drop(self) {
+        let Table {
+            sources: _,
+            interests: _,
+            limit: _,
+        } = self;
+    }
 }
 
 impl Model for Table {
