@@ -6,6 +6,7 @@ pub mod Marks
 pub mod Numbers
 pub mod Picks
 pub mod Places
+pub mod Reachable
 pub mod Readiness
 pub mod RecordingLemmas
 pub mod ReplayLemmas

@@ -1,6 +1,7 @@
 -- The in-process table: what it holds, and what each call answers and leaves.
-use Rattle.std.specs.Prelude.{ℕ, ℤ, pos, negsuc, ◌+◌, ◌≡◌, ◌⊎◌, Bool, false, not, ◌==◌, nat_lt, nat_le, if◌then◌else◌, List, [], ◌∷◌, ◌++◌, length, map, filter, take, drop, remove, slice_get, slice_set, position, Option, Some, None, Result, Ok, Err, IsOk}
+use Rattle.std.specs.Prelude.{ℕ, ℤ, pos, negsuc, ◌+◌, ◌<◌, ◌≤◌, ◌≡◌, ◌⊎◌, Bool, false, not, ◌==◌, nat_lt, nat_le, if◌then◌else◌, List, [], ◌∷◌, ◌++◌, length, map, filter, take, drop, remove, slice_get, slice_set, position, Option, Some, None, Result, Ok, Err, IsOk}
 use Rattle.std.specs.Int.RustNames.{bit_and, bit_or}
+use Rattle.std.specs.List.{All, count_by}
 use Rattle.vmm_sys.specs.declared.entries.EpollEvent.{EpollEvent}
 use Rattle.vmm_sys.specs.declared.entries.ControlOperation.{ControlOperation}
 use Rattle.vmm_sys.specs.declared.entries.ControlOperation.TheVariants.{Add, Modify, Delete}
@@ -188,3 +189,17 @@ counted (Err errno) = Err errno
 -- the buffer after a wait: its entries in front, and what stood behind them
 abbrev pub filled : Result (List EpollEvent × TableState) Errno → List EpollEvent → List EpollEvent
 filled r buffer = entries_of r ++ drop (length (entries_of r)) buffer
+
+-- What calls keep
+
+-- the value of a counter is at most 18446744073709551614
+abbrev pub HasAllowedValue : Source → Type 0
+HasAllowedValue (Counter value) = value ≤ 18446744073709551614
+HasAllowedValue (Line set) = Unit {0}
+
+-- each table that calls have made: its counters have allowed values; its interests are of open descriptors, one of each at most, and without modes
+pub record IsReachable (t : TableState) : Type 0 where
+  pub values : All HasAllowedValue t.sources
+  pub descriptors : All (λ i. i.descriptor < length t.sources) t.interests
+  pub one_each : (n : ℕ) → count_by (is_of n) t.interests ≤ 1
+  pub without_modes : All (λ i. has_mode Add i.event ≡ false) t.interests

@@ -1,6 +1,7 @@
 //! The poller over a shared table. What a poller is given and what it reports is handed out here too, as in `vmm-sys-util`.
 
-ghost use Rattle.std.specs.Prelude.{IsOkUnless};
+ghost use Rattle.std.specs.Prelude.{◌≡◌, ◌↔◌, ◌<ℤ◌, ◌*ℤ◌, pos, IsNone, IfSome, IsOkUnless};
+ghost use Rattle.std.specs.Duration.{as_nanos};
 ghost use base.Stored.{gnil};
 ghost use Rattle.vmm_sys.specs.SharedTable.{MayCtl, MayWait};
 
@@ -47,6 +48,17 @@ impl<R: Wait + Clock + Clone + Send + Drop> Epoll<R> {
     }
 }
 
+// How long a wait of so many milliseconds lasts at most: for ever where they are negative.
+fn limit_of(ms: i32) -> Option<Duration>
+    ensures for_ever { IsNone result ↔ ms <ℤ pos 0 }
+    ensures time { IfSome result (λ limit. pos (as_nanos limit) ≡ ms *ℤ pos 1_000_000) }
+{
+    if ms < 0 {
+        return None;
+    }
+    Some(Duration::from_millis(ms as u64))
+}
+
 impl<R: Wait + Clock + Clone + Send + Drop> Poller for Epoll<R> {
     // Others change the table at any time, so a state of this poller says nothing.
     ghost meaning = { λ _. gnil };
@@ -67,10 +79,9 @@ impl<R: Wait + Clock + Clone + Send + Drop> Poller for Epoll<R> {
     /// once it is told of a change or interrupted by a signal, so 0 may be answered early. `EINVAL`,
     /// at once: the buffer has no room.
     fn wait(&mut self, ms: i32, buffer: &mut [EpollEvent]) -> Result<usize, Errno> {
-        if ms < 0 {
-            return self.table.wait_until_ready(buffer, &self.rt);
+        match limit_of(ms) {
+            Some(limit) => self.table.wait_at_most(limit, buffer, &self.rt),
+            None => self.table.wait_until_ready(buffer, &self.rt),
         }
-        let limit = Duration::from_millis(ms as u64);
-        self.table.wait_at_most(limit, buffer, &self.rt)
     }
 }

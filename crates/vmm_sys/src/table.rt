@@ -1,8 +1,8 @@
 //! The in-process table: counters and lines, and a list of interests in them.
 
-ghost use Rattle.std.specs.Prelude.{◌≡◌, ◌≢◌, ◌<◌, ◌≤◌, ◌+◌, ◌-◌, ◌^◌, List, length, ◌++◌, ◌∷◌, take, drop, filter, find, map, slice_get, slice_set, ℕ, Bool, Some, None, IsSome};
+ghost use Rattle.std.specs.Prelude.{false, ◌≡◌, ◌≢◌, ◌<◌, ◌≤◌, ◌+◌, ◌-◌, ◌^◌, List, length, ◌++◌, ◌∷◌, take, drop, filter, find, map, slice_get, slice_set, ℕ, Bool, Some, None, IsSome};
 ghost use Rattle.vmm_sys.specs.EventSet.{bits_of};
-ghost use Rattle.vmm_sys.specs.Table.{new_table, state_of, state_at, is_ready, entry_of as entry_in, opened, source_of as source_in, with_source, place_of as place_in, changed, has_mode, Answers, AnswersWithMemory, ctl_of, wait_of, write_of, read_of, set_line_of, open_of, add_counter_of, add_line_of, filled, counted, chosen, moved_back, first_ready, first_ready_last};
+ghost use Rattle.vmm_sys.specs.Table.{new_table, state_of, state_at, is_ready, entry_of as entry_in, opened, source_of as source_in, with_source, place_of as place_in, changed, has_mode, Answers, AnswersWithMemory, IsReachable, HasAllowedValue, ctl_of, wait_of, write_of, read_of, set_line_of, open_of, add_counter_of, add_line_of, filled, counted, chosen, moved_back, first_ready, first_ready_last};
 ghost use Rattle.vmm_sys.specs.Lists.{held};
 ghost use Rattle.vmm_sys.specs.Interests.{slot_at, Holds, AreMarked, AgreeBut};
 ghost use Rattle.vmm_sys.specs.ServiceBound.{Ctl, Wait, MovesForward, EachStepMovesForward, ReportedWithinRooms, ReportedWithinWaits};
@@ -94,14 +94,15 @@ impl Drop for Table {
 impl Model for Table {
     ghost use Rattle.std.specs.Prelude.{◌≡◌, ◌≤◌, ◌^◌, length};
     ghost use Rattle.vmm_sys.specs.Lists.{held};
-    ghost use Rattle.vmm_sys.specs.Table.{TableState, is_ready};
+    ghost use Rattle.vmm_sys.specs.Table.{TableState, IsReachable, is_ready};
     ghost use Rattle.vmm_sys.specs.Interests.{AreMarked};
 
     ghost Value = { TableState };
 
     ghost view = { λ t. record { sources = t.sources.items; interests = held t.interests.slots; limit = t.limit } };
 
-    ghost invariant = { λ t. (t.limit ≤ 2 ^ 31) × (t.interests.room ≡ length t.sources.items) × AreMarked (is_ready t.sources.items) t.interests };
+    ghost invariant = { λ t. (t.limit ≤ 2 ^ 31) × (t.interests.room ≡ length t.sources.items) × AreMarked (is_ready t.sources.items) t.interests
+        × IsReachable (record { sources = t.sources.items; interests = held t.interests.slots; limit = t.limit }) };
 }
 
 impl Table {
@@ -117,6 +118,7 @@ impl Table {
     }
 
     fn open(&mut self, source: Source) -> Result<RawFd, Errno>
+        requires { HasAllowedValue source }
         ensures { AnswersWithMemory (open_of self.old source) self.old result self.new }
     {
         let number = self.sources.len();
@@ -164,9 +166,11 @@ impl Table {
     /// has none. No memory is requested.
     #[inline(always)]
     pub fn ctl(&mut self, op: ControlOperation, fd: RawFd, event: EpollEvent) -> Result<(), Errno>
+        ensures reachable { IsReachable self.old }
         ensures answer { Answers (ctl_of self.old op fd event) self.old result self.new }
         ensures forward { MovesForward self.old (Ctl op fd event) self.new }
     {
+        self.stays_reachable();
         let Some(descriptor) = self.descriptor(fd) else {
             return Err(Errno::EBADF);
         };
@@ -182,10 +186,12 @@ impl Table {
     /// The answer is their number, which may be 0; entries of the buffer past it stay. Those that
     /// aren't ready cost nothing, and no memory is requested. `EINVAL`: the buffer has no room.
     pub fn wait(&mut self, buffer: &mut [EpollEvent]) -> Result<usize, Errno>
+        ensures reachable { IsReachable self.old }
         ensures answer { Answers (counted (wait_of self.old (length buffer.old))) self.old result self.new }
         ensures entries { buffer.new ≡ filled (wait_of self.old (length buffer.old)) buffer.old }
         ensures forward { MovesForward self.old (Wait (length buffer.old)) self.new }
     {
+        self.stays_reachable();
         if buffer.is_empty() {
             return Err(Errno::EINVAL);
         }
@@ -197,8 +203,10 @@ impl Table {
     /// `EBADF`: `fd` is no counter. `EINVAL`: `value` is 18446744073709551615. `EAGAIN`: the sum is
     /// above 18446744073709551614.
     pub fn write(&mut self, fd: RawFd, value: u64) -> Result<(), Errno>
-        ensures { Answers (write_of self.old fd value) self.old result self.new }
+        ensures reachable { IsReachable self.old }
+        ensures answer { Answers (write_of self.old fd value) self.old result self.new }
     {
+        self.stays_reachable();
         let Some(Source::Counter(held)) = self.source(fd) else {
             return Err(Errno::EBADF);
         };
@@ -218,8 +226,10 @@ impl Table {
     ///
     /// `EBADF`: `fd` is no counter. `EAGAIN`: its value is 0.
     pub fn read(&mut self, fd: RawFd) -> Result<u64, Errno>
-        ensures { Answers (read_of self.old fd) self.old result self.new }
+        ensures reachable { IsReachable self.old }
+        ensures answer { Answers (read_of self.old fd) self.old result self.new }
     {
+        self.stays_reachable();
         let Some(Source::Counter(held)) = self.source(fd) else {
             return Err(Errno::EBADF);
         };
@@ -234,13 +244,23 @@ impl Table {
     ///
     /// `EBADF`: `fd` is no line.
     pub fn set_line(&mut self, fd: RawFd, set: EventSet) -> Result<(), Errno>
-        ensures { Answers (set_line_of self.old fd set) self.old result self.new }
+        ensures reachable { IsReachable self.old }
+        ensures answer { Answers (set_line_of self.old fd set) self.old result self.new }
     {
+        self.stays_reachable();
         let Some(Source::Line(_)) = self.source(fd) else {
             return Err(Errno::EBADF);
         };
         self.replace(fd, Source::Line(set));
         Ok(())
+    }
+
+    // It does nothing, and states what all calls keep.
+    #[inline(always)]
+    fn stays_reachable(&self)
+        ensures { IsReachable self.now }
+    {
+        let _limit = self.limit;
     }
 
     // Reports the first ready interests and moves them to the back.
@@ -279,7 +299,8 @@ impl Table {
 
     #[inline(always)]
     fn replace(&mut self, fd: RawFd, source: Source)
-        requires { IsSome (source_in self.old fd) }
+        requires there { IsSome (source_in self.old fd) }
+        requires value { HasAllowedValue source }
         ensures { self.new ≡ with_source self.old fd source }
     {
         if fd >= 0 {
@@ -290,7 +311,8 @@ impl Table {
     // Replaces the source of a descriptor; where its state changes, its interest is marked anew.
     #[inline(always)]
     fn set_source(&mut self, number: usize, source: Source)
-        requires { number < length self.old.sources }
+        requires there { number < length self.old.sources }
+        requires value { HasAllowedValue source }
         ensures { self.new ≡ record self.old { sources = slice_set self.old.sources number source } }
     {
         let before = self.sources[number].state();
@@ -302,7 +324,8 @@ impl Table {
 
     #[inline(always)]
     fn change(&mut self, op: ControlOperation, interest: Interest) -> Result<(), Errno>
-        requires { interest.descriptor < length self.old.sources }
+        requires there { interest.descriptor < length self.old.sources }
+        requires without_mode { has_mode op interest.event ≡ false }
         ensures { Answers (changed self.old op interest (place_in self.old interest.descriptor)) self.old result self.new }
     {
         match (op, self.interests.slot_of(interest.descriptor)) {

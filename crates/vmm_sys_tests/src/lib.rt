@@ -17,6 +17,8 @@ mod hundreds;
 #[cfg(test)]
 mod memory;
 #[cfg(test)]
+mod missed;
+#[cfg(test)]
 mod random_calls;
 #[cfg(test)]
 mod records;

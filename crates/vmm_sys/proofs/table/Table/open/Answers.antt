@@ -1,7 +1,9 @@
 use Rattle.std.proofs.Common.{◌≡◌, ◌+◌, arith, rules, length, ◌++◌, ◌∷◌, []}
 use Rattle.std.proofs.lemmas.List.{length_push}
+use Rattle.vmm_sys.specs.Lists.{held}
 use Rattle.vmm_sys.specs.Table.{is_ready}
 use Rattle.vmm_sys.specs.Interests.{NoneHolds}
+use Rattle.vmm_sys.proofs.Reachable.{reachable-open}
 use Rattle.vmm_sys.proofs.Readiness.{agree-push}
 use Rattle.vmm_sys.proofs.SlotMarks.{fit-none, fit-marks}
 use Rattle.vmm_sys.proofs.table.Table.open.Goals as goal
@@ -16,4 +18,9 @@ invariant_of-self-2 c =
     let none : NoneHolds old.slots (length xs) = λ s h. (let lt = c.make_room.ensures.below s (length xs) h in omega arith) in
     let more = length_push xs c.args.source in
     let fit = fit-none (length xs) (is_ready xs) (is_ready (xs ++ c.args.source ∷ [])) old.marks old.slots c.self.invariant.2 (agree-push xs c.args.source) none in
-    (c.self.invariant.0, rw grown (omega arith), rw (grown, c.make_room.ensures.slots) (fit-marks (is_ready (xs ++ c.args.source ∷ [])) old.marks c.make_room.new.self.marks old.slots c.make_room.ensures.marks fit))
+    let reachable = reachable-open (record { sources = xs; interests = held old.slots; limit = c.self.inside.limit }) c.args.source c.self.invariant.3 c.requires in (
+      c.self.invariant.0,
+      rw grown (omega arith),
+      rw (grown, c.make_room.ensures.slots) (fit-marks (is_ready (xs ++ c.args.source ∷ [])) old.marks c.make_room.new.self.marks old.slots c.make_room.ensures.marks fit),
+      rw (grown, c.make_room.ensures.slots) reachable,
+    )

@@ -1,7 +1,9 @@
 use Rattle.std.proofs.Common.{◌≡◌, ◌<◌, sym, subst, set, length, length-set, rules, refl, Some}
 use Rattle.std.specs.Prelude.{slice_get}
 use Rattle.std.proofs.lemmas.Option.{slice_get_read}
+use Rattle.vmm_sys.specs.Lists.{held}
 use Rattle.vmm_sys.specs.Table.{TableState, is_ready, state_of}
+use Rattle.vmm_sys.proofs.Reachable.{reachable-set}
 use Rattle.vmm_sys.proofs.Readiness.{agree-set, same-state}
 use Rattle.vmm_sys.proofs.SlotMarks.{fit-agree}
 use Rattle.vmm_sys.proofs.table.Table.set_source.Goals as goal
@@ -12,7 +14,8 @@ invariant_of-self c =
     let n = c.args.number in
     let source = c.args.source in
     let fit = c.renew.ensures.marks (is_ready xs) c.self.invariant.2 (rw c.deref.ensures.value (agree-set xs n source)) in
-    (c.self.invariant.0, rw (length-set, c.renew.ensures.room) c.self.invariant.1, rw c.deref.ensures.value at fit)
+    let reachable = reachable-set (record { sources = xs; interests = held c.self.inside.interests.slots; limit = c.self.inside.limit }) n source c.self.invariant.3 c.requires.value in
+    (c.self.invariant.0, rw (length-set, c.renew.ensures.room) c.self.invariant.1, rw c.deref.ensures.value at fit, rw c.renew.ensures.slots reachable)
 
 pub invariant_of-self-else-ne : goal.invariant_of-self-else-ne
 invariant_of-self-else-ne c =
@@ -20,7 +23,11 @@ invariant_of-self-else-ne c =
     let n = c.args.number in
     let source = c.args.source in
     let x = c.index.result.now in
-    let below = subst (λ (s : TableState). n < length s.sources) (sym c.self.view_is) c.requires in
+    let below = subst (λ (s : TableState). n < length s.sources) (sym c.self.view_is) c.requires.there in
     let at : slice_get xs n ≡ Some x = slice_get_read xs (length xs) n x refl below c.index.ensures in
-    let same : state_of source ≡ state_of x = search rules in
-    (c.self.invariant.0, rw length-set c.self.invariant.1, fit-agree (is_ready xs) (is_ready (set xs n source)) c.self.inside.interests.marks c.self.inside.interests.slots c.self.invariant.2 (λ s i e. same-state xs n x source at same i))
+    let same : state_of source ≡ state_of x = search rules in (
+      c.self.invariant.0,
+      rw length-set c.self.invariant.1,
+      fit-agree (is_ready xs) (is_ready (set xs n source)) c.self.inside.interests.marks c.self.inside.interests.slots c.self.invariant.2 (λ s i e. same-state xs n x source at same i),
+      reachable-set (record { sources = xs; interests = held c.self.inside.interests.slots; limit = c.self.inside.limit }) n source c.self.invariant.3 c.requires.value,
+    )
