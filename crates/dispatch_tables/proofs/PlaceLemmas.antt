@@ -9,16 +9,16 @@ use Rattle.std.specs.Ordering.{eq_by_cmp, is_eq}
 use Rattle.std.specs.FinMap.{FinMap, find, get, insert, remove, same_map, get-insert, get-remove, get-from_entries, nat_cmp-IsAntisymmetric}
 use Rattle.dispatch_tables.specs.declared.places.Place.{Place}
 use Rattle.dispatch_tables.specs.declared.places.Place.TheVariants.{Held, Vacant}
-use Rattle.dispatch_tables.specs.Places.{held_id, subscriber_of, with_subscriber, id_at, subscriber_at, entries_of, values_of, AreUpTo, AreIndexed, AreLinked, AreSound, HaveSameHolders}
+use Rattle.dispatch_tables.specs.Places.{held_id, subscriber_of, with_subscriber, id_at, subscriber_at, entries_of, values_of, ArePlacedBelow, AreIndexed, AreLinked, AreSound, HaveSameHolders}
 use Rattle.dispatch_tables.proofs.NumberTests.{nat_tied, fd_tells}
 use Rattle.dispatch_tables.proofs.VacantPlaces.{none_some, same_some, linked_fill, linked_vacate, linked_rewrite}
 
 -- another place, or none, for one id
-pub up_to_changed : (newest later_newest : ℕ) (index later : ℕ → Option ℕ) (id : ℕ) (o : Option ℕ) → AreUpTo newest index → newest ≤ later_newest → (later_newest < id → o ≡ None)
-    → ((j : ℕ) → later j ≡ cond (nat_eq id j) o (index j)) → AreUpTo later_newest later
-up_to_changed newest later_newest index later id o kept more own changed j above =
+pub placed_below_changed : (next later_next : ℕ) (index later : ℕ → Option ℕ) (id : ℕ) (o : Option ℕ) → ArePlacedBelow next index → next ≤ later_next → (later_next ≤ id → o ≡ None)
+    → ((j : ℕ) → later j ≡ cond (nat_eq id j) o (index j)) → ArePlacedBelow later_next later
+placed_below_changed next later_next index later id o kept more own changed j above =
     changed j ∙ elim (eqb_tells id j) [
-      | inl p ↦ ap (λ b. cond b o (index j)) p.0 ∙ own (subst (λ k. later_newest < k) (sym p.1) above)
+      | inl p ↦ ap (λ b. cond b o (index j)) p.0 ∙ own (subst (λ k. later_next ≤ k) (sym p.1) above)
       | inr p ↦ ap (λ b. cond b o (index j)) p.0 ∙ kept j (omega (arith, more, above))
     ]
 
@@ -222,6 +222,14 @@ module _ {S : Type 0} where
 
   pub no_place : (places : List (Place S)) (index : ℕ → Option ℕ) (id : ℕ) → AreIndexed places index → index id ≡ None → get (values_of places) id ≡ None
   no_place places index id indexed is = get_of_places places index id indexed ∙ ap (at_index places) is
+
+  -- each id that has a subscriber is below the next
+  pub held_below : (places : List (Place S)) (index : ℕ → Option ℕ) (next id : ℕ) (subscriber : S) → AreIndexed places index → ArePlacedBelow next index → get (values_of places) id ≡ Some subscriber → id < next
+  held_below places index next id subscriber indexed below held =
+      elim (cases_lt id next) [
+        | inl less ↦ less
+        | inr more ↦ absurd (none_some subscriber (sym (no_place places index id indexed (below id (omega (arith, more)))) ∙ held))
+      ]
 
   pub no_subscriber : (places : List (Place S)) (index : ℕ → Option ℕ) (id : ℕ) → AreIndexed places index → get (values_of places) id ≡ None → index id ≡ None
   no_subscriber places index id indexed none = none_if (index id) (index_tells places index id indexed (index id) refl ∙ ap is_some none)

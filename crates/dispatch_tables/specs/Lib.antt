@@ -4,6 +4,7 @@ pub mod Ownership
 pub mod ClassOrder
 pub mod Owners
 pub mod Classes
+pub mod Members
 pub mod Places
 pub mod WatchLists
 pub mod Cancelled

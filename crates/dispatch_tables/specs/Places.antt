@@ -1,13 +1,13 @@
 -- The places of the subscribers, as the code keeps them.
-use Rattle.std.specs.Prelude.{◌≡◌, ◌↔◌, ℕ, zero, suc, ◌<◌, Bool, true, false, List, [], ◌∷◌, map, Option, Some, None, count_by, slice_get, slice_index_or}
+use Rattle.std.specs.Prelude.{◌≡◌, ◌↔◌, ℕ, zero, suc, ◌≤◌, Bool, true, false, List, [], ◌∷◌, map, Option, Some, None, count_by, slice_get, slice_index_or}
 use Rattle.std.specs.Ordering.{nat_cmp}
 use Rattle.std.specs.FinMap.{FinMap, from_entries}
 use Rattle.dispatch_tables.specs.declared.places.Place.{Place}
 use Rattle.dispatch_tables.specs.declared.places.Place.TheVariants.{Held, Vacant}
 
--- no id above the newest has a place
-abbrev pub AreUpTo : ℕ → (ℕ → Option ℕ) → Type 0
-AreUpTo newest index = (id : ℕ) → newest < id → index id ≡ None
+-- no id from the next one on has a place
+abbrev pub ArePlacedBelow : ℕ → (ℕ → Option ℕ) → Type 0
+ArePlacedBelow next index = (id : ℕ) → next ≤ id → index id ≡ None
 
 module _ {S : Type 0} where
   -- the id that a place holds, and its subscriber

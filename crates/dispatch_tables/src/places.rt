@@ -1,10 +1,11 @@
 //! The places of the subscribers: a delivery finds its subscriber at its place, without a search.
 
-ghost use Rattle.std.specs.Prelude.{◌≡◌, ◌↔◌, IsTrue, IfNone, IfSome, IfOk, OnSome, OnOk, OnErr, MatchOption, Some, None, is_some, IsSome, nat_eq, option_map};
+ghost use Rattle.std.specs.Prelude.{◌≡◌, ◌↔◌, IsTrue, IfNone, IfSome, IfOk, OnSome, OnOk, OnErr, MatchOption, ◌<◌, Some, None, is_some, IsSome, nat_eq, option_map};
 ghost use Rattle.std.specs.Option.{option_copied, option_copied_mut};
 ghost use Rattle.std.specs.Borrow.{Lends, LendsIf, sem};
 ghost use Rattle.std.specs.FinMap as map;
 ghost use Rattle.std.specs.HashMap.{get};
+ghost use Rattle.dispatch_tables.specs.Members.{nobody, joined_by, with_member, without_member, AreBelow};
 ghost use Rattle.dispatch_tables.specs.Places.{held_id, subscriber_of, id_at, with_subscriber, AreIndexed, AreLinked, HaveSameHolders};
 
 use std::alloc::{AllocError, Global};
@@ -67,26 +68,24 @@ pub struct SubscriberPlaces<S> {
     first_vacant: Option<usize>,
     // The place of each id.
     index: HashMap<u64, usize>,
-    // No later id has a place.
-    newest: u64,
+    // The id that is given next.
+    next: u64,
 }
 
 impl<S> Model for SubscriberPlaces<S> {
     ghost use Rattle.std.specs.Prelude.{nat_eq};
-    ghost use Rattle.std.specs.Ordering.{nat_cmp};
-    ghost use Rattle.std.specs.Coded.{coded_ℕ};
-    ghost use Rattle.std.specs.FinMap as map;
     ghost use Rattle.std.specs.HashMap.{get};
+    ghost use Rattle.dispatch_tables.specs.Members.{Members, members_code};
 
-    ghost Value = { map.FinMap nat_cmp S };
+    ghost Value = { Members S };
 
-    ghost coded = { map.code coded_ℕ S.code };
+    ghost coded = { members_code S.code };
 
-    ghost use Rattle.dispatch_tables.specs.Places.{values_of, AreSound, AreUpTo};
+    ghost use Rattle.dispatch_tables.specs.Places.{values_of, AreSound, ArePlacedBelow};
 
-    ghost view = { λ s. values_of s.places.items };
+    ghost view = { λ s. record { by_id = values_of s.places.items; next = s.next } };
 
-    ghost invariant = { λ s. AreSound s.places.items s.first_vacant (get nat_eq s.index) × AreUpTo s.newest (get nat_eq s.index) };
+    ghost invariant = { λ s. AreSound s.places.items s.first_vacant (get nat_eq s.index) × ArePlacedBelow s.next (get nat_eq s.index) };
 }
 
 /// The place of the id by the index.
@@ -145,30 +144,40 @@ impl<S> SubscriberPlaces<S> {
 
     /// No place.
     pub fn new(alloc: Global) -> Self
-        ensures { result ≡ map.empty }
+        ensures { result ≡ nobody }
     {
         SubscriberPlaces {
             places: Vec::new(alloc),
             first_vacant: None,
             index: HashMap::new(alloc),
-            newest: 0,
+            next: 1,
         }
     }
 
-    /// Gives the subscriber a place under an id that nobody has. Where memory is refused all stays as it was.
-    fn insert_new(&mut self, id: u64, subscriber: S) -> Result<usize, AllocError>
+    /// The id that is given next: no subscriber has it or a later one.
+    pub fn next_id(&self) -> u64
+        ensures next { result ≡ self.now.next }
+        ensures below { AreBelow self.now }
+    {
+        self.next
+    }
+
+    /// Gives the subscriber the next id and a place, and answers the place. Where memory is refused all stays as it was,
+    /// and the subscriber doesn't come back.
+    pub fn insert(&mut self, subscriber: S) -> Result<usize, AllocError>
     where
         S: Drop,
-        requires { map.get self.old id ≡ None }
-        ensures ok { OnOk result (self.new ≡ map.insert self.old id subscriber) }
+        requires { self.old.next < 18446744073709551615 }
+        ensures ok { OnOk result (self.new ≡ joined_by self.old subscriber) }
         ensures err { OnErr result (self.new ≡ self.old) }
     {
         let place = vacant_place(&mut self.places, &mut self.first_vacant)?;
+        let id = self.next;
         match self.index.insert(id, place) {
             Ok(_) => {}
             Err(_) => return Err(AllocError),
         }
-        self.newest = self.newest.max(id);
+        self.next = id + 1;
         match mem::replace(&mut self.places[place], Place::Held(id, subscriber)) {
             Place::Vacant(next) => self.first_vacant = next,
             Place::Held(_, _) => unreachable!(),
@@ -176,27 +185,10 @@ impl<S> SubscriberPlaces<S> {
         Ok(place)
     }
 
-    /// Puts the subscriber at the id, and answers its place; one that had the id is dropped. Where memory is refused
-    /// all stays as it was, and the subscriber doesn't come back.
-    pub fn insert(&mut self, id: u64, subscriber: S) -> Result<usize, AllocError>
-    where
-        S: Drop,
-        ensures ok { OnOk result (self.new ≡ map.insert self.old id subscriber) }
-        ensures err { OnErr result (self.new ≡ self.old) }
-    {
-        let Some(place) = self.place_of(id) else {
-            return self.insert_new(id, subscriber);
-        };
-        if let Some(held) = self.get_mut_at(place, id) {
-            *held = subscriber;
-        }
-        Ok(place)
-    }
-
     /// Takes the subscriber of the id out, and leaves its place to one that comes later; answers both. Takes no memory.
     pub fn remove(&mut self, id: u64) -> Option<(usize, S)>
-        ensures value { option_map (λ left. left.1) result ≡ map.get self.old id }
-        ensures removed { OnSome result (self.new ≡ map.remove self.old id) }
+        ensures value { option_map (λ left. left.1) result ≡ map.get self.old.by_id id }
+        ensures removed { OnSome result (self.new ≡ without_member self.old id) }
         ensures absent { IfNone result (self.new ≡ self.old) }
     {
         let Some(place) = self.index.remove(&id) else {
@@ -218,9 +210,9 @@ impl<S> SubscriberPlaces<S> {
 
     /// The place of the id.
     pub fn place_of(&self, id: u64) -> Option<usize>
-        ensures { is_some result ≡ is_some (map.get self.now id) }
+        ensures { is_some result ≡ is_some (map.get self.now.by_id id) }
     {
-        if self.newest < id {
+        if self.next <= id {
             return None;
         }
         self.index.get(&id).copied()
@@ -228,7 +220,7 @@ impl<S> SubscriberPlaces<S> {
 
     /// The subscriber of the id, which is found by the index.
     pub fn get(&self, id: u64) -> Option<&S>
-        ensures { option_copied result ≡ map.get self.now id }
+        ensures { option_copied result ≡ map.get self.now.by_id id }
     {
         match self.index.get(&id).copied() {
             Some(place) => Some(self.places[place].subscriber()),
@@ -238,8 +230,8 @@ impl<S> SubscriberPlaces<S> {
 
     /// Lends the subscriber of the id, which is found by the index. Takes no memory.
     pub fn get_mut(&mut self, id: u64) -> Option<&mut S>
-        ensures* lent { sem 𝓛 (LendsIf (the_row S.row) S.row self.entry result (map.insert self.old id) self.old) }
-        ensures value { option_copied_mut result ≡ map.get self.old id }
+        ensures* lent { sem 𝓛 (LendsIf (the_row S.row) S.row self.entry result (with_member self.old id) self.old) }
+        ensures value { option_copied_mut result ≡ map.get self.old.by_id id }
     {
         match self.index.get(&id).copied() {
             Some(place) => Some(self.places[place].subscriber_mut()),
@@ -251,8 +243,8 @@ impl<S> SubscriberPlaces<S> {
     /// search where it is the subscriber's place.
     #[inline(always)]
     pub fn get_mut_at(&mut self, place: usize, id: u64) -> Option<&mut S>
-        ensures* lent { sem 𝓛 (LendsIf (the_row S.row) S.row self.entry result (map.insert self.old id) self.old) }
-        ensures value { option_copied_mut result ≡ map.get self.old id }
+        ensures* lent { sem 𝓛 (LendsIf (the_row S.row) S.row self.entry result (with_member self.old id) self.old) }
+        ensures value { option_copied_mut result ≡ map.get self.old.by_id id }
     {
         match place_by_hint(&self.places, &self.index, place, id) {
             Some(place) => Some(self.places[place].subscriber_mut()),

@@ -6,7 +6,8 @@ use Rattle.std.proofs.lemmas.List.{append-nil, map-append}
 use Rattle.std.proofs.lemmas.List.Concat.{flat_map-append}
 use Rattle.std.proofs.lemmas.List.Folds.{list_any-append}
 use Rattle.std.proofs.lemmas.List.Sorted.{list_any-IsPermutation}
-use Rattle.std.specs.FinMap.{get, insert}
+use Rattle.std.specs.FinMap.{get}
+use Rattle.dispatch_tables.specs.Members.{with_member}
 use Rattle.dispatch_tables.specs.Event.{Event}
 use Rattle.event_loop.specs.Registrations.{Registrations, Owns}
 use Rattle.dispatch_tables.specs.Ownership.{owner_id, owner_of}
@@ -30,18 +31,18 @@ use Rattle.event_loop.proofs.ExchangeLemmas.{or_false, cancel_removed_marks, mar
 
 module _ {S P : Type 0} {controls : Controls P} {waits : Waits P} (serves : S → Event → Exchanges → S → Type 0) where
   pub nobody_position : (before after : Registry S P) (event : Event) (cancelled is_endpoint : Bool) (rest : List (Event × Bool))
-      → before.ops.epoll.registrations.ready ≡ (event, cancelled) ∷ rest → after.ops.epoll.registrations ≡ record before.ops.epoll.registrations { ready = rest } → after.subscribers ≡ before.subscribers → after.next ≡ before.next
+      → before.ops.epoll.registrations.ready ≡ (event, cancelled) ∷ rest → after.ops.epoll.registrations ≡ record before.ops.epoll.registrations { ready = rest } → after.subscribers ≡ before.subscribers
       → ((cancelled ≡ true) ⊎ ((i : ℕ) (value : S) → ¬ (Owns i (registrations_of before.ops.epoll.registrations) event.fd × HasId (registry_of before) i value)))
       → Leads controls waits before.ops.epoll.poller [] after.ops.epoll.poller
       → is_endpoint ≡ (event.fd == before.ops.epoll.registrations.endpoint)
       → TakesPosition serves controls waits before is_endpoint after
-  nobody_position before after event cancelled is_endpoint rest was registrations subs next why led noticed = record {
+  nobody_position before after event cancelled is_endpoint rest was registrations subs why led noticed = record {
     event = event;
     cancelled = cancelled;
     later = rest;
     outcome = Nobody;
     was = was;
-    had = (why, λ k. record { values = subs k; next = next k; registrations = registrations_of (registrations k) });
+    had = (why, λ k. record { values = (subs k).by_id; next = (subs k).next; registrations = registrations_of (registrations k) });
     ready = ap (λ (b : RegistrationState). b.ready) registrations;
     led = led;
     same_capacity = ap (λ (b : RegistrationState). b.capacity) registrations;
@@ -53,10 +54,10 @@ module _ {S P : Type 0} {controls : Controls P} {waits : Waits P} (serves : S �
       (id : ℕ) (value held : S) (exchanges : Exchanges) (calls : List PollerCall)
       → before.ops.epoll.registrations.ready ≡ (event, false) ∷ rest → mid ≡ record before.ops.epoll.registrations { ready = rest } → owner_of mid.owners event.fd ≡ Some id → HasId (registry_of before) id value → serves value event exchanges held
       → AreMade controls waits (record { registrations = mid; poller = before.ops.epoll.poller }) after.ops.epoll id exchanges calls
-      → after.subscribers ≡ insert before.subscribers id held → after.next ≡ before.next
+      → after.subscribers ≡ with_member before.subscribers id held
       → is_endpoint ≡ (event.fd == before.ops.epoll.registrations.endpoint)
       → TakesPosition serves controls waits before is_endpoint after
-  served_position before after event is_endpoint rest mid id value held exchanges calls was registrations owns has served made values next noticed = record {
+  served_position before after event is_endpoint rest mid id value held exchanges calls was registrations owns has served made members noticed = record {
     event = event;
     cancelled = false;
     later = rest;
@@ -69,7 +70,7 @@ module _ {S P : Type 0} {controls : Controls P} {waits : Waits P} (serves : S �
       has,
       served,
       subst (λ (b : RegistrationState). ExchangesFit id (registrations_of b) exchanges calls (registrations_of after.ops.epoll.registrations)) registrations made.fits,
-      λ k. record { values = values k; next = next k; registrations = registrations_of after.ops.epoll.registrations },
+      λ k. record { values = (members k).by_id; next = (members k).next; registrations = registrations_of after.ops.epoll.registrations },
     );
     ready = made.ready ∙ ap (λ (b : RegistrationState). cancel_removed exchanges b.ready) registrations;
     led = made.led;
@@ -92,10 +93,10 @@ module _ {S P : Type 0} (before : Registry S P) (mid : RegistrationState) (fd : 
   pub not_owned : mid ≡ record before.ops.epoll.registrations { ready = rest } → owner_of mid.owners fd ≡ None → (i : ℕ) (value : S) → ¬ (Owns i (registrations_of before.ops.epoll.registrations) fd × HasId (registry_of before) i value)
   not_owned registrations none i value h = taken i (sym (subst (λ (b : RegistrationState). owner_of b.owners fd ≡ None) registrations none) ∙ h.0)
 
-  pub not_there : (id : ℕ) → mid ≡ record before.ops.epoll.registrations { ready = rest } → owner_of mid.owners fd ≡ Some id → get before.subscribers id ≡ None → (i : ℕ) (value : S) → ¬ (Owns i (registrations_of before.ops.epoll.registrations) fd × HasId (registry_of before) i value)
+  pub not_there : (id : ℕ) → mid ≡ record before.ops.epoll.registrations { ready = rest } → owner_of mid.owners fd ≡ Some id → get before.subscribers.by_id id ≡ None → (i : ℕ) (value : S) → ¬ (Owns i (registrations_of before.ops.epoll.registrations) fd × HasId (registry_of before) i value)
   not_there id registrations owns none i value h =
       let same = same_some _ id i (subst (λ (b : RegistrationState). owner_of b.owners fd ≡ Some id) registrations owns) h.0 in
-      taken value (sym (subst (λ j. get before.subscribers j ≡ None) same none) ∙ h.1)
+      taken value (sym (subst (λ j. get before.subscribers.by_id j ≡ None) same none) ∙ h.1)
 
 -- with a mark where one of these positions removed the descriptor
 abbrev pub cancelled_by : {V : Type 0} → List (Position V) → List Event → List (Event × Bool)
@@ -242,13 +243,13 @@ module _ {V : Type 0} (serves : V → Event → Exchanges → V → Type 0) wher
 module _ {S P : Type 0} (serves : S → Event → Exchanges → S → Type 0) (controls : Controls P) (waits : Waits P) where
   pub batch_ok : (start after : Registry S P) (registrations : RegistrationState) (poller : P) (ms : ℤ) (answer : Result (List Event) Errno) (result : Result ℕ Errno) (n : ℕ) (endpoint_ready : Bool)
       → Leads controls waits start.ops.epoll.poller (Wait ms start.ops.epoll.registrations.capacity answer ∷ []) poller → HasWaited start.ops.epoll.registrations answer result registrations → result ≡ Ok n
-      → IsDispatched serves controls waits (record { subscribers = start.subscribers; next = start.next; ops = record { epoll = record { registrations = registrations; poller = poller }; id = start.ops.id; place = start.ops.place } }) after (map (λ (p : Event × Bool). p.0) registrations.ready) endpoint_ready
+      → IsDispatched serves controls waits (record { subscribers = start.subscribers; ops = record { epoll = record { registrations = registrations; poller = poller }; id = start.ops.id; place = start.ops.place } }) after (map (λ (p : Event × Bool). p.0) registrations.ready) endpoint_ready
       → IsBatch serves controls waits (loop_state start) ms (Ok (record { count = n; endpoint_ready = endpoint_ready })) (loop_state after)
   batch_ok start after registrations poller ms (Ok report) result n endpoint_ready led waited is dispatched =
       let (ordered, order, counted, after_wait) = waited in
       let came = ap (λ (b : RegistrationState). b.ready) after_wait in
       let ready = ap (map (λ (p : Event × Bool). p.0)) came ∙ fst_all_pending ordered in
-      let from = subst (λ (b : RegistrationState). AreDispatched serves (record { values = start.subscribers; next = start.next; registrations = registrations_of b }) [] dispatched.positions (registry_of after)) after_wait dispatched.dispatched in
+      let from = subst (λ (b : RegistrationState). AreDispatched serves (record { values = start.subscribers.by_id; next = start.subscribers.next; registrations = registrations_of b }) [] dispatched.positions (registry_of after)) after_wait dispatched.dispatched in
       let onto = subst (λ l. AreDispatched serves (idle (registry_of start)) [] dispatched.positions (record (registry_of after) { registrations = record (registrations_of after.ops.epoll.registrations) { pending = not_cancelled l } })) dispatched.over
       (from_any_pending serves (idle (registry_of start)) (not_cancelled (all_pending ordered)) dispatched.positions (registry_of after) from) in
       record {

@@ -25,7 +25,7 @@ idle registry = record registry { registrations = record registry.registrations 
 module _ {S P : Type 0} where
   -- in the middle of a batch: the pending events are the entries of the ready list that aren't cancelled
   abbrev pub registry_of : Registry S P → model.Registry S
-  registry_of r = record { values = r.subscribers; next = r.next; registrations = registrations_of r.ops.epoll.registrations }
+  registry_of r = record { values = r.subscribers.by_id; next = r.subscribers.next; registrations = registrations_of r.ops.epoll.registrations }
 
   -- between two batches nothing is pending: the next wait writes over the ready list; a registry alone takes no jobs
   abbrev pub loop_state : Registry S P → LoopState S P

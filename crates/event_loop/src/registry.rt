@@ -1,7 +1,7 @@
 //! The registry: the subscribers by id, over their registrations.
 
 ghost use Rattle.std.specs.Prelude.{◌≡◌, [], map, IfErr, IfOk, MatchOption};
-ghost use Rattle.std.specs.FinMap as finite;
+ghost use Rattle.dispatch_tables.specs.Members.{nobody};
 ghost use Rattle.event_loop.specs.Registry.{Step};
 ghost use Rattle.event_loop.specs.RegistrationState.{all_pending};
 ghost use Rattle.event_loop.specs.LoopState.{HasStepped, IsJoin, IsLeave, new_loop, no_descriptor};
@@ -34,7 +34,6 @@ pub struct Batch {
 /// The subscribers by id, and their registrations.
 pub struct Registry<S, P = BoxedPoller> {
     pub(crate) subscribers: SubscriberPlaces<S>,
-    pub(crate) next: u64,
     pub(crate) ops: EventOps<P>,
 }
 
@@ -43,7 +42,6 @@ impl<S: Drop, P: Drop> Drop for Registry<S, P> {
     fn drop(self) {
         let Registry {
             subscribers: _,
-            next: _,
             ops: _,
         } = self;
     }
@@ -88,11 +86,10 @@ impl<S: MutEventSubscriber, P: EventPoller> Registry<S, P> {
 
     /// No subscriber, over these registrations and this poller.
     fn over(alloc: Global, epoll: EpollWrapper<P>) -> Self
-        ensures { (result.subscribers ≡ finite.empty) × (result.next ≡ 1) × (result.ops.epoll ≡ epoll) }
+        ensures { (result.subscribers ≡ nobody) × (result.ops.epoll ≡ epoll) }
     {
         Registry {
             subscribers: SubscriberPlaces::new(alloc),
-            next: 1,
             ops: EventOps {
                 epoll,
                 id: 0,
@@ -186,20 +183,19 @@ impl<S: MutEventSubscriber, P: EventPoller> Registry<S, P> {
         ensures { (step : Step S) × IsJoin subscriber result step
             × HasStepped S.begins P.controls P.waits (loop_state self.old) step (loop_state self.new) }
     {
-        if self.next == u64::MAX {
+        let id = self.subscribers.next_id();
+        if id == u64::MAX {
             return Err(Error::IdsUsedUp);
         }
-        let id = self.next;
         let place = self.subscribers.next_place();
         self.ops.epoll.registrations.open(id, place)?;
-        let place = self.subscribers.insert(id, subscriber)?;
+        let place = self.subscribers.insert(subscriber)?;
         let Some(held) = self.subscribers.get_mut_at(place, id) else {
             unreachable!()
         };
         self.ops.id = id;
         self.ops.place = place;
         held.init(&mut self.ops);
-        self.next += 1;
         Ok(SubscriberId { number: id })
     }
 
@@ -230,7 +226,9 @@ impl<S: MutEventSubscriber + Drop, P: EventPoller> SubscriberOps for Registry<S,
     }
 
     fn next_id(&self) -> SubscriberId {
-        SubscriberId { number: self.next }
+        SubscriberId {
+            number: self.subscribers.next_id(),
+        }
     }
 
     fn remove_subscriber(&mut self, id: SubscriberId) -> Result<S> {

@@ -2,7 +2,7 @@
 
 ghost use Rattle.std.specs.Prelude.{◌≡◌, IfErr, IfOk};
 ghost use Rattle.std.specs.Borrow.{sem, LendsSoOk};
-ghost use Rattle.event_loop.specs.Registry.{Step, HasId, LacksId};
+ghost use Rattle.event_loop.specs.Registry.{Step, HasId, LacksId, AreBelow};
 ghost use Rattle.event_loop.specs.Requests.{StandsFor, with_ops};
 ghost use Rattle.event_loop.specs.contracts.ops.EventOps.{the_row as ops_row};
 ghost use Rattle.event_loop.specs.LoopState.{HasStepped, IsJoin, IsLeave, with_value};
@@ -39,9 +39,10 @@ pub trait SubscriberOps {
 
     /// The id that the next `add_subscriber` gives where it isn't refused, for calls that are to name it before it is given.
     ///
-    /// Where its number is `u64::MAX` the ids are used up: it is never given, and each join is refused with `IdsUsedUp`.
+    /// Each id that is held is below it. Where its number is `u64::MAX` the ids are used up: it is never given, and each join is refused with `IdsUsedUp`.
     fn next_id(&self) -> SubscriberId
-        ensures { result ≡ (seen self.now).registry.next };
+        ensures next { result ≡ (seen self.now).registry.next }
+        ensures below { AreBelow (seen self.now).registry.next (seen self.now).registry.values };
 
     /// Takes the subscriber of the id out, and answers it. The poller is asked one Delete (with the empty set, data 0 and
     /// descriptor 0 as event) for each of its descriptors, in ascending order; the answers are ignored, and all its

@@ -16,7 +16,7 @@ pub returns-in-Some : goal.returns-in-Some
 returns-in-Some g c =
     let held = ((c.self.invariant.0.indexed c.args.id c.in-Some.place).0 (sym (c.copied.ensures ∙ c.get.ensures.value) ∙ c.in-Some.is)) in
     let kept = c.self.invariant.0 in (
-      rw (← c.self.view_is) (λ i. inl (c.subscriber_mut.result.ghost_name, λ w. values_rewrite _ _ _ c.args.id c.in-Some.place c.index_mut.result.now kept held c.index_mut.ensures.value w i)),
+      rw (← c.self.view_is) (λ i. inl (c.subscriber_mut.result.ghost_name, λ w. ap (λ values. record { by_id = values; next = c.self.inside.next }) (values_rewrite _ _ _ c.args.id c.in-Some.place c.index_mut.result.now kept held c.index_mut.ensures.value w) i)),
       record { lent = tt; value = rw (← c.self.view_is) (sym c.subscriber_mut.ensures.value ∙ sym (read_subscriber _ _ c.in-Some.place c.args.id c.index_mut.result.now kept.indexed held c.index_mut.ensures.value)) },
     )
 

@@ -1,7 +1,7 @@
 use Rattle.std.proofs.Common.{None, ◌∙◌, refl, sym, ap, arith}
 use Rattle.std.proofs.lemmas.Bool.{false≢true}
 use Rattle.dispatch_tables.specs.Places.{subscriber_of}
-use Rattle.dispatch_tables.proofs.PlaceLemmas.{read_id, read_subscriber, held_within, sound_vacate, values_vacate, no_place, up_to_changed}
+use Rattle.dispatch_tables.proofs.PlaceLemmas.{read_id, read_subscriber, held_within, sound_vacate, values_vacate, no_place, placed_below_changed}
 use Rattle.dispatch_tables.proofs.places.SubscriberPlaces.remove.Goals as goal
 
 pub returns-in_default-clause-value : goal.returns-in_default-clause-value
@@ -14,7 +14,7 @@ index_mut-requires g c =
 pub invariant_of-self-in-Held : goal.invariant_of-self-in-Held
 invariant_of-self-in-Held g c = (
   rw c.replace.ensures.after (sound_vacate _ _ _ _ c.args.id c.in-Some.place c.self.invariant.0 (sym c.in-Some.ensures.value) c.remove.ensures.updates.0),
-  up_to_changed _ _ _ _ c.args.id None c.self.invariant.1 (omega arith) (λ _. refl) c.remove.ensures.updates.0,
+  placed_below_changed _ _ _ _ c.args.id None c.self.invariant.1 (omega arith) (λ _. refl) c.remove.ensures.updates.0,
 )
 
 pub unreachable-requires : goal.unreachable-requires
@@ -31,4 +31,5 @@ returns-clause-value g c =
 
 pub returns-clause-removed : goal.returns-clause-removed
 returns-clause-removed g c =
-    rw (c.replace.ensures.after, ← c.self.view_is) (values_vacate _ _ _ _ c.args.id c.in-Some.place c.self.invariant.0 (sym c.in-Some.ensures.value) c.remove.ensures.updates.0)
+    rw (← c.self.view_is) (ap (λ values. record { by_id = values; next = c.self.inside.next })
+    (rw c.replace.ensures.after (values_vacate _ _ _ _ c.args.id c.in-Some.place c.self.invariant.0 (sym c.in-Some.ensures.value) c.remove.ensures.updates.0)))

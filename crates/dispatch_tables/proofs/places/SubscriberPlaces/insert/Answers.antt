@@ -1,9 +1,9 @@
-use Rattle.std.proofs.Common.{Some, ◌∙◌, sym, ap, arith, nat_eq}
+use Rattle.std.proofs.Common.{Some, ◌+◌, ◌∙◌, sym, ap, arith, nat_eq}
 use Rattle.std.specs.Map.{lookup}
 use Rattle.std.proofs.lemmas.Option.{slice_get_within}
 use Rattle.dispatch_tables.proofs.VacantPlaces.{first_is_vacant, read_vacant, vacant_is_not_held}
-use Rattle.dispatch_tables.proofs.PlaceLemmas.{sound_fill, values_fill, indexed_same, indexed_again, up_to_changed}
-use Rattle.dispatch_tables.proofs.places.SubscriberPlaces.insert_new.Goals as goal
+use Rattle.dispatch_tables.proofs.PlaceLemmas.{sound_fill, values_fill, indexed_same, indexed_again, no_place, placed_below_changed}
+use Rattle.dispatch_tables.proofs.places.SubscriberPlaces.insert.Goals as goal
 
 pub invariant_of-self : goal.invariant_of-self
 invariant_of-self g c =
@@ -28,9 +28,9 @@ invariant_of-self-in-Vacant g c =
     let vacant = read_vacant _ c.in_ok-place.place c.index_mut.result.now linked c.index_mut.ensures.value ∙ ap Some (sym c.replace.ensures.value ∙ c.in-Vacant.is) in
     let same = c.vacant_place.ensures.holders in (
       rw c.replace.ensures.after
-          (sound_fill _ _ _ c.args.id c.in_ok-place.place c.in-Vacant.next c.args.subscriber (indexed_same _ _ _ same c.self.invariant.0.indexed) linked vacant
-          (rw (same.values, c.self.view_is) c.requires) c.in-Ok.ensures.updates.0),
-      up_to_changed _ _ _ _ c.args.id (Some c.in_ok-place.place) c.self.invariant.1 (omega (arith, c.max-self-inside.ensures)) (λ above. absurd (omega (arith, c.max-self-inside.ensures, above))) c.in-Ok.ensures.updates.0,
+          (sound_fill _ _ _ c.self.inside.next c.in_ok-place.place c.in-Vacant.next c.args.subscriber (indexed_same _ _ _ same c.self.invariant.0.indexed) linked vacant
+          (no_place _ _ c.self.inside.next (indexed_same _ _ _ same c.self.invariant.0.indexed) (c.self.invariant.1 c.self.inside.next (omega arith))) c.in-Ok.ensures.updates.0),
+      placed_below_changed _ _ _ _ c.self.inside.next (Some c.in_ok-place.place) c.self.invariant.1 (omega arith) (λ above. absurd (omega (arith, above))) c.in-Ok.ensures.updates.0,
     )
 
 pub unreachable-requires : goal.unreachable-requires
@@ -43,6 +43,7 @@ returns-clause-ok g c =
     let linked = rw c.in_ok-place.ensures.first at c.vacant_place.ensures.linked in
     let vacant = read_vacant _ c.in_ok-place.place c.index_mut.result.now linked c.index_mut.ensures.value ∙ ap Some (sym c.replace.ensures.value ∙ c.in-Vacant.is) in
     let same = c.vacant_place.ensures.holders in
-    rw (c.replace.ensures.after, ← c.self.view_is, ← same.values)
-    (values_fill _ _ _ c.args.id c.in_ok-place.place c.in-Vacant.next c.args.subscriber (indexed_same _ _ _ same c.self.invariant.0.indexed) linked vacant
-    (rw (same.values, c.self.view_is) c.requires) c.in-Ok.ensures.updates.0)
+    rw (← c.self.view_is) (ap (λ values. record { by_id = values; next = c.self.inside.next + 1 })
+    (rw (c.replace.ensures.after, ← same.values)
+    (values_fill _ _ _ c.self.inside.next c.in_ok-place.place c.in-Vacant.next c.args.subscriber (indexed_same _ _ _ same c.self.invariant.0.indexed) linked vacant
+    (no_place _ _ c.self.inside.next (indexed_same _ _ _ same c.self.invariant.0.indexed) (c.self.invariant.1 c.self.inside.next (omega arith))) c.in-Ok.ensures.updates.0)))
