@@ -20,6 +20,7 @@ use Rattle.event_manager.specs.declared.calls.Reply.TheVariants as reply
 use Rattle.std.specs.FinMap.{get}
 use Rattle.event_loop.specs.declared.events.Request.{Request}
 use Rattle.event_manager.proofs.HeldIds.{removed_value}
+use Rattle.event_manager.proofs.Soundness.{trace_follows}
 use Rattle.event_manager.proofs.TraceSoFar.{driven_by}
 
 -- this holds of a list with one reply to each of the calls
@@ -96,29 +97,30 @@ module _ {S J R P : Type 0} {begins : S → Exchanges → S → Type 0} {serves 
       let are : others ≡ calls = cc are_calls in
       subst (λ rs. AreCalled begins serves may controls waits before c calls rs after) are_replies (subst (λ cs. AreCalled begins serves may controls waits before c cs told after) are (subst (λ x. AreCalled begins serves may controls waits before x others told after) is called))
 
-  entry_called : (before : LoopState S P) (entry : Entry S J R) (trace : List (Entry S J R)) (mid : ManagerState S) (after : LoopState S P) → Matches entry.effect entry.call entry.reply → HasEffect begins serves may (manager_state before) entry.effect mid → IsTrace begins serves may mid trace (manager_state after)
+  entry_called : (before : LoopState S P) (entry : Entry S J R) (trace : List (Entry S J R)) (mid : ManagerState S) (after : LoopState S P) → AreBelow before.registry.next before.registry.values → Matches entry.effect entry.call entry.reply → HasEffect begins serves may (manager_state before) entry.effect mid → IsTrace begins serves may mid trace (manager_state after)
       → Leads controls waits before.poller (calls_of_effect before.capacity entry.effect ++ calls_of_trace before.capacity trace) after.poller → after.capacity ≡ before.capacity → AreCalled begins serves may controls waits before entry.call (map (λ e. e.call) trace) (entry.reply ∷ map (λ e. e.reply) trace) after
-  entry_called before entry trace mid after matches had more led same =
+  entry_called before entry trace mid after below matches had more led same =
       let apart = leads_apart controls waits before.poller (calls_of_effect before.capacity entry.effect) (calls_of_trace before.capacity trace) after.poller led in
       let between : LoopState S P = record { registry = mid.registry; taken = mid.taken; poller = apart.0; capacity = before.capacity } in
+      let below_mid = (trace_follows begins serves may (manager_state before) (entry ∷ []) mid (mid, matches, had, refl)).below below in
       record {
         reply = entry.reply;
         others = map (λ e. e.reply) trace;
         replies_are = refl;
         between = between;
         first = called_alone before entry.effect entry.call entry.reply between matches (record { had = had; led = apart.1; same_capacity = refl });
-        driven = driven_by begins serves may controls waits between trace after (record { calls_are = refl; replies_are = refl; is_trace = more; led = apart.2; same_capacity = same });
+        driven = driven_by begins serves may controls waits between trace after below_mid (record { calls_are = refl; replies_are = refl; is_trace = more; led = apart.2; same_capacity = same });
       }
 
-  traced : (before : LoopState S P) (c : Call S) (calls : List (Call S)) (replies : List (Reply S)) (after : LoopState S P) (entry : Entry S J R) (trace : List (Entry S J R)) → IsTraceOf begins serves may controls waits before (c ∷ calls) replies after (entry ∷ trace) → AreCalled begins serves may controls waits before c calls replies after
-  traced before c calls replies after entry trace of =
-      called_at before after entry.call c _ calls _ replies of.calls_are of.replies_are (entry_called before entry trace of.is_trace.0 after of.is_trace.1 of.is_trace.2 of.is_trace.3 of.led of.same_capacity)
+  traced : (before : LoopState S P) (c : Call S) (calls : List (Call S)) (replies : List (Reply S)) (after : LoopState S P) (entry : Entry S J R) (trace : List (Entry S J R)) → AreBelow before.registry.next before.registry.values → IsTraceOf begins serves may controls waits before (c ∷ calls) replies after (entry ∷ trace) → AreCalled begins serves may controls waits before c calls replies after
+  traced before c calls replies after entry trace below of =
+      called_at before after entry.call c _ calls _ replies of.calls_are of.replies_are (entry_called before entry trace of.is_trace.0 after below of.is_trace.1 of.is_trace.2 of.is_trace.3 of.led of.same_capacity)
 
   -- the first call, and the others
   pub first_called : {before after : LoopState S P} {c : Call S} {calls known : List (Call S)} {replies : List (Reply S)} → IsDriven begins serves may controls waits before calls replies after → calls ≡ c ∷ known → AreCalled begins serves may controls waits before c known replies after
   first_called {before} {after} {c} {calls} {known} {replies} driven are =
       let t = has_first driven.trace (driven.is_trace_of.calls_are ∙ are) in
-      traced before c known replies after t.0 t.1 (subst (λ cs. IsTraceOf begins serves may controls waits before cs replies after (t.0 ∷ t.1)) are (subst (λ es. IsTraceOf begins serves may controls waits before calls replies after es) t.2 driven.is_trace_of))
+      traced before c known replies after t.0 t.1 driven.guaranteed.below.0 (subst (λ cs. IsTraceOf begins serves may controls waits before cs replies after (t.0 ∷ t.1)) are (subst (λ es. IsTraceOf begins serves may controls waits before calls replies after es) t.2 driven.is_trace_of))
 
   -- no call
   pub none_called : {before after : LoopState S P} {replies : List (Reply S)} → IsDriven begins serves may controls waits before [] replies after → (replies ≡ []) × (after ≡ before)
@@ -133,12 +135,12 @@ module _ {S J R P : Type 0} {begins : S → Exchanges → S → Type 0} {serves 
       subst (λ cs. HasReplies cs holds) (of.calls_are ∙ are) (replied_in driven.trace holds (subst holds (sym of.replies_are) h))
 
   -- the replies to known calls: what was removed is unknown
-  pub unknown_to : {before after : LoopState S P} {calls known : List (Call S)} {replies : List (Reply S)} → IsDriven begins serves may controls waits before calls replies after → calls ≡ known → AreBelow before.registry.next before.registry.values
+  pub unknown_to : {before after : LoopState S P} {calls known : List (Call S)} {replies : List (Reply S)} → IsDriven begins serves may controls waits before calls replies after → calls ≡ known
       → HasReplies known (λ told. (replies ≡ told) × RemovedStayUnknown known told)
-  unknown_to {known = known} {replies} driven are below =
+  unknown_to {known = known} {replies} driven are =
       let of = driven.is_trace_of in
       with_replies driven are (λ told. (replies ≡ told) × RemovedStayUnknown known told)
-      (refl, subst (λ rs. RemovedStayUnknown known rs) of.replies_are (subst (λ cs. RemovedStayUnknown cs (map (λ e. e.reply) driven.trace)) (of.calls_are ∙ are) (driven.guaranteed.unknown below)))
+      (refl, subst (λ rs. RemovedStayUnknown known rs) of.replies_are (subst (λ cs. RemovedStayUnknown cs (map (λ e. e.reply) driven.trace)) (of.calls_are ∙ are) (driven.guaranteed.unknown)))
 
 module _ {S P : Type 0} {begins : S → Exchanges → S → Type 0} {controls : Controls P} {waits : Waits P} {before after : LoopState S P} {r : Reply S} where
   -- after a Remove of it, whatever it was answered, nobody has the id

@@ -20,6 +20,8 @@ pub mod RecordedCalls
 pub mod RecordedTrace
 pub mod TraceSoFar
 pub mod CallsApart
+pub mod LoopCalls
+pub mod KeptRefusals
 pub mod OneStep
 pub use Rattle.event_loop.proofs.ExchangeLemmas
 pub use Rattle.event_loop.proofs.RequestsSoFar

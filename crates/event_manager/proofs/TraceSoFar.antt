@@ -6,7 +6,7 @@ use Rattle.std.specs.declared.alloc.Global.{Global}
 use Rattle.dispatch_tables.specs.Event.{Event}
 use Rattle.event_loop.specs.PollerCall.{Controls, Waits, Leads}
 use Rattle.event_loop.specs.Exchange.{Exchanges, Answer}
-use Rattle.event_loop.specs.Registry.{Step}
+use Rattle.event_loop.specs.Registry.{Step, AreBelow}
 use Rattle.event_loop.specs.Iteration.{ManagerState}
 use Rattle.event_loop.specs.LoopState.{LoopState, HasStepped, IsJoin, IsLeave, IsLoopIteration, manager_state}
 use Rattle.event_manager.specs.Trace.{Effect, Stepped, Iterated, Entry, Matches, HasEffect, IsTrace, calls_of_effect, calls_of_trace}
@@ -86,14 +86,14 @@ module _ {S J R P : Type 0} (begins : S → Exchanges → S → Type 0) (serves 
         same_capacity = did.same_capacity ∙ so_far.same_capacity;
       }
 
-  guaranteed : (before : ManagerState S) (trace : List (Entry S J R)) (after : ManagerState S) → IsTrace begins serves may before trace after → IsGuaranteed begins serves may before trace after
-  guaranteed before trace after is =
+  guaranteed : (before : ManagerState S) (trace : List (Entry S J R)) (after : ManagerState S) → AreBelow before.registry.next before.registry.values → IsTrace begins serves may before trace after → IsGuaranteed begins serves may before trace after
+  guaranteed before trace after below is =
       let follows = trace_follows begins serves may before trace after is in
       record {
         given = follows.given;
-        below = follows.below;
-        removed = follows.removed;
-        unknown = λ below. removed_unknown begins serves may before trace after is (follows.removed below);
+        below = (below, follows.below below);
+        removed = follows.removed below;
+        unknown = removed_unknown begins serves may before trace after is (follows.removed below);
         sound = follows.sound;
         non_interference = non_interference begins serves may before trace after is;
         isolated_step = λ from step onto h. isolated_step begins from step onto h;
@@ -102,15 +102,15 @@ module _ {S J R P : Type 0} (begins : S → Exchanges → S → Type 0) (serves 
       }
 
   -- a trace is driven
-  pub driven_by : (before : LoopState S P) (trace : List (Entry S J R)) (after : LoopState S P) → IsTraceOf begins serves may controls waits before (map (λ e. e.call) trace) (map (λ e. e.reply) trace) after trace
+  pub driven_by : (before : LoopState S P) (trace : List (Entry S J R)) (after : LoopState S P) → AreBelow before.registry.next before.registry.values → IsTraceOf begins serves may controls waits before (map (λ e. e.call) trace) (map (λ e. e.reply) trace) after trace
       → IsDriven begins serves may controls waits before (map (λ e. e.call) trace) (map (λ e. e.reply) trace) after
-  driven_by before trace after of = record { trace = trace; is_trace_of = of; guaranteed = guaranteed (manager_state before) trace (manager_state after) of.is_trace }
+  driven_by before trace after below of = record { trace = trace; is_trace_of = of; guaranteed = guaranteed (manager_state before) trace (manager_state after) below of.is_trace }
 
-  pub all_traced : (before after : LoopState S P) (calls : List (Call S)) (old replies : List (Reply S)) → IsTracedSoFar before after calls [] old replies
+  pub all_traced : (before after : LoopState S P) (calls : List (Call S)) (old replies : List (Reply S)) → AreBelow before.registry.next before.registry.values → IsTracedSoFar before after calls [] old replies
       → (new : List (Reply S)) × (replies ≡ old ++ new) × IsDriven begins serves may controls waits before calls new after
-  all_traced before after calls old replies so_far = (
+  all_traced before after calls old replies below so_far = (
     map (λ e. e.reply) so_far.trace,
     so_far.replies_are,
     subst (λ cs. IsDriven begins serves may controls waits before cs (map (λ e. e.reply) so_far.trace) after) (sym (append-nil (map (λ e. e.call) so_far.trace)) ∙ so_far.calls_are)
-        (driven_by before so_far.trace after (record { calls_are = refl; replies_are = refl; is_trace = so_far.is_trace; led = so_far.led; same_capacity = so_far.same_capacity })),
+        (driven_by before so_far.trace after below (record { calls_are = refl; replies_are = refl; is_trace = so_far.is_trace; led = so_far.led; same_capacity = so_far.same_capacity })),
   )

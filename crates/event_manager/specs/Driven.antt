@@ -23,14 +23,14 @@ module _ {S J R : Type 0} (begins : S → Exchanges → S → Type 0) (serves : 
       pub led : Leads controls waits before.poller (calls_of_trace before.capacity trace) after.poller
       pub same_capacity : after.capacity ≡ before.capacity
 
-  -- Of a trace: ids are given in order, each once; where each held id is below the next, that stays, and what was removed is refused from then on, as the replies alone say
+  -- Of a trace: ids are given in order, each once; each held id is below the next, before and after; what was removed is refused from then on, as the replies alone say
   -- too; each owner is held, and the endpoint is never owned; a projection to an id that is apart is itself a trace, up to the
   -- id's own part of the state after. Of each step and delivery in it: the other ids keep their value, descriptors and pending events; a leave frees exactly its descriptors.
   pub record IsGuaranteed (before : ManagerState S) (trace : List (Entry S J R)) (after : ManagerState S) : Type 0 where
     pub given : AreGiven before.registry.next (steps_of trace) after.registry.next
-    pub below : AreBelow before.registry.next before.registry.values → AreBelow after.registry.next after.registry.values
-    pub removed : AreBelow before.registry.next before.registry.values → RemovedStayGone (steps_of trace)
-    pub unknown : AreBelow before.registry.next before.registry.values → RemovedStayUnknown (map (λ entry. entry.call) trace) (map (λ entry. entry.reply) trace)
+    pub below : AreBelow before.registry.next before.registry.values × AreBelow after.registry.next after.registry.values
+    pub removed : RemovedStayGone (steps_of trace)
+    pub unknown : RemovedStayUnknown (map (λ entry. entry.call) trace) (map (λ entry. entry.reply) trace)
     pub sound : IsSound before.registry → IsSound after.registry
     pub non_interference : NonInterference begins serves may before trace after
     pub isolated_step : (from : Registry S) (step : Step S) (onto : Registry S) → Steps begins from step onto → (j : ℕ) → names j step ≡ false → IsUntouched j from onto

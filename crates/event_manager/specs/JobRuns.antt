@@ -6,6 +6,12 @@ use Rattle.event_loop.specs.Exchange.{Exchanges}
 use Rattle.event_loop.specs.Registry.{Step}
 use Rattle.event_loop.specs.Iteration.{JobRun, AreRun, calls_of_jobs}
 use Rattle.event_loop.specs.LoopState.{LoopState, HaveStepped}
+use Rattle.event_manager.specs.declared.jobs.queue.Entry.{Entry}
+
+-- how many jobs ran, and what was taken and didn't run
+pub record Taken (J : Type 0) : Type 0 where
+  pub ran : ℕ
+  pub entries : List (Entry J (Unit {0}))
 
 module _ {S P J R : Type 0} (begins : S → Exchanges → S → Type 0) (may : J → List (Step S) → R → Type 0) (controls : Controls P) (waits : Waits P) where
   -- one job ran: it made steps that it may make, and gave a reply that it may then give

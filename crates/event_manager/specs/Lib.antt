@@ -23,6 +23,7 @@ pub use Rattle.event_loop.specs.Registry
 pub use Rattle.event_loop.specs.Releasing
 pub use Rattle.event_loop.specs.Requests
 pub use Rattle.event_loop.specs.ErrorText
+pub use Rattle.event_loop.specs.EventLoop
 pub use Rattle.event_loop.specs.StepExchanges
 pub use Rattle.event_loop.specs.EitherSubscriber
 pub use Rattle.event_loop.specs.CounterEvents

@@ -7,12 +7,14 @@ ghost use Rattle.event_loop.specs.declared.error.Error.TheVariants.{OutOfMemory}
 
 pub(crate) mod channel;
 pub(crate) mod closed;
-mod runner;
 mod slot;
 mod state;
+mod taken_jobs;
+mod waiting_job;
 
 use crate::endpoint::channel::Channel;
 use crate::endpoint::slot::new_slot;
+use crate::endpoint::waiting_job::WaitingJob;
 use crate::jobs::{Job, Refused};
 use event_loop::{Error, MutEventSubscriber, Result};
 use job_tickets::naming::Naming;
@@ -54,10 +56,8 @@ impl<S: MutEventSubscriber, J: Job<S>, N: Naming> RemoteEndpoint<S, J, N> {
         ensures refusals { IfErr result IsSendRefusal }
     {
         let channel = &*self.channel;
-        let sent = channel
-            .state
-            .lock(rt)
-            .send(job, None, &channel.event_fd, rt);
+        let fired = WaitingJob::new(job, None);
+        let sent = channel.state.lock(rt).send(fired, &channel.event_fd, rt);
         answer(sent)
     }
 
@@ -76,10 +76,11 @@ impl<S: MutEventSubscriber, J: Job<S>, N: Naming> RemoteEndpoint<S, J, N> {
         ensures refusals { IfErr result IsSendRefusal }
     {
         let channel = &*self.channel;
+        let job = WaitingJob::new(job, None);
         let sent = channel
             .state
             .lock(rt)
-            .send_after(shown, job, None, &channel.event_fd, rt);
+            .send_after(shown, job, &channel.event_fd, rt);
         answer(sent)
     }
 
@@ -94,10 +95,8 @@ impl<S: MutEventSubscriber, J: Job<S>, N: Naming> RemoteEndpoint<S, J, N> {
     {
         let channel = &*self.channel;
         let (sender, receiver) = new_slot(channel.alloc)?;
-        let sent = channel
-            .state
-            .lock(rt)
-            .send(job, Some(sender), &channel.event_fd, rt);
+        let called = WaitingJob::new(job, Some(sender));
+        let sent = channel.state.lock(rt).send(called, &channel.event_fd, rt);
         let _ticket = answer(sent)?;
         receiver.wait(rt)
     }

@@ -68,6 +68,8 @@ where
     ensures refused { OnErr result ((manager.new ≡ manager.old) × (replies.new.items ≡ replies.old.items)) }
     ensures memory { IfErr result (λ e. e ≡ Error.OutOfMemory) }
 {
+    // Its contract says that each held id is below the next.
+    let _next = manager.next_id();
     replies.reserve(calls.len())?;
     let mut plan = plan_all(calls)?;
     while let Some(planned) = plan.pop() {

@@ -51,6 +51,9 @@ impl<S: MutEventSubscriber, J: Job<S>, N: Naming, P: EventPoller> EventManager<S
     /// The poller is asked to add the endpoint's descriptor with the set `IN` and the descriptor as word. Capacity 0
     /// passes here, and is left to the poller's `wait`. The ledgers are those of [`with_ledgers`](crate::with_ledgers).
     ///
+    /// Nobody but the loop reads `event_fd`, by another handle either: a run takes jobs only where the endpoint's event
+    /// was reported, so jobs whose ring somebody else has read before the wait stay where they are until the next ring.
+    ///
     /// Refused, in this order, and neither poller nor `event_fd` comes back: `InvalidCapacity` above
     /// [`MAX_READY_EVENTS_CAPACITY`], where the poller isn't asked; `OutOfMemory`; `Epoll` with the number that the
     /// poller answers.

@@ -5,10 +5,9 @@ ghost use Rattle.event_manager.specs.JobRuns.{JobsAreRun};
 ghost use Rattle.event_loop.specs.Subscribers.{loop_state};
 
 use crate::endpoint::closed::Closed;
-use crate::endpoint::runner::{JobRunner, WaitingJob};
-use crate::endpoint::slot::ReplySender;
 use crate::endpoint::state::ChannelState;
-use crate::jobs::{Entry, Job};
+use crate::endpoint::taken_jobs::TakenJobs;
+use crate::jobs::Job;
 use event_loop::{Error, EventPoller, MutEventSubscriber, Registry, Result};
 use job_tickets::ledgers::Ledgers;
 use job_tickets::naming::Naming;
@@ -22,22 +21,10 @@ use vmm_sys::eventfd::EventFd;
 /// What a manager and its endpoints share.
 #[derive(Drop)]
 pub(crate) struct Channel<S: MutEventSubscriber, J: Job<S>, N: Naming> {
-    pub(crate) state: Mutex<ChannelState<J, ReplySender<S, J>, N>>,
+    pub(crate) state: Mutex<ChannelState<S, J, N>>,
     pub(crate) event_fd: EventFd,
     // Of the slots.
     pub(crate) alloc: Global,
-}
-
-// Drops these jobs, and tells the callers that wait for their replies.
-fn close_all<S: MutEventSubscriber, J: Job<S>, R: Wait + Clock>(
-    entries: &mut Vec<WaitingJob<S, J>>,
-    rt: &R,
-) {
-    while let Some(Entry { slot, .. }) = entries.pop() {
-        if let Some(slot) = slot {
-            slot.close(rt);
-        }
-    }
 }
 
 /// The manager's side of the channel: it alone takes jobs. Contracts see how many it took and ran.
@@ -45,9 +32,7 @@ fn close_all<S: MutEventSubscriber, J: Job<S>, R: Wait + Clock>(
 pub(crate) struct EventManagerChannel<S: MutEventSubscriber, J: Job<S>, N: Naming> {
     channel: Arc<Channel<S, J, N>>,
     taken: TakenCount<N>,
-    runner: JobRunner,
-    // The list of the next take: it is empty between two runs, and keeps its room.
-    next: Vec<WaitingJob<S, J>>,
+    jobs: TakenJobs<S, J>,
 }
 
 impl<S: MutEventSubscriber, J: Job<S>, N: Naming> Model for EventManagerChannel<S, J, N> {
@@ -55,9 +40,9 @@ impl<S: MutEventSubscriber, J: Job<S>, N: Naming> Model for EventManagerChannel<
 
     ghost Value = { ℕ };
 
-    ghost view = { λ c. c.runner };
+    ghost view = { λ c. c.jobs.ran };
 
-    ghost invariant = { λ c. (c.next.items ≡ []) × (c.taken ≡ c.runner) };
+    ghost invariant = { λ c. (c.jobs.entries ≡ []) × (c.taken ≡ c.jobs.ran) };
 }
 
 impl<S: MutEventSubscriber, J: Job<S>, N: Naming> EventManagerChannel<S, J, N> {
@@ -79,8 +64,7 @@ impl<S: MutEventSubscriber, J: Job<S>, N: Naming> EventManagerChannel<S, J, N> {
         Ok(EventManagerChannel {
             channel: Arc::new(alloc, channel)?,
             taken: count,
-            runner: JobRunner::new(),
-            next: Vec::new(alloc),
+            jobs: TakenJobs::new(alloc),
         })
     }
 
@@ -109,8 +93,8 @@ impl<S: MutEventSubscriber, J: Job<S>, N: Naming> EventManagerChannel<S, J, N> {
         self.channel
             .state
             .lock(rt)
-            .take(&mut self.taken, &mut self.next);
-        self.runner.run_all(&mut self.next, registry, rt);
+            .take(&mut self.taken, &mut self.jobs);
+        self.jobs.run_all(registry, rt);
     }
 
     /// Closes the queue in one turn, and drops the jobs that wait.
@@ -120,12 +104,10 @@ impl<S: MutEventSubscriber, J: Job<S>, N: Naming> EventManagerChannel<S, J, N> {
         let EventManagerChannel {
             channel,
             taken: count,
-            runner: _,
-            mut next,
+            mut jobs,
         } = self;
-        let taken = count.count();
-        let register = channel.state.lock(rt).close(count, &mut next);
-        close_all(&mut next, rt);
-        Closed::new(register, taken)
+        let closed = channel.state.lock(rt).close(count, &mut jobs);
+        jobs.close_all(rt);
+        closed
     }
 }

@@ -1,12 +1,16 @@
 //! What lies under the lock of the job queue.
 
-ghost use Rattle.std.specs.Prelude.{◌≡◌, ◌+◌, ◌<◌, ◌≤◌, [], length, Err, IfOk, IfErr, vec_len, false};
+ghost use Rattle.std.specs.Prelude.{◌≡◌, ◌+◌, ◌<◌, ◌≤◌, [], length, Err, None, IfOk, IfErr, false};
 ghost use Rattle.event_manager.specs.JobQueue.{new_queue, after_take, after_close, IsSend, TicketsFollow, answer_of};
 ghost use Rattle.event_manager.specs.Endpoint.{IsSendRefusal};
 ghost use Rattle.event_loop.specs.declared.error.Error.TheVariants.{TicketsUsedUp};
 
 use crate::Error;
-use crate::jobs::{Bell, Entry, JobQueue, Refused};
+use crate::endpoint::closed::Closed;
+use crate::endpoint::taken_jobs::TakenJobs;
+use crate::endpoint::waiting_job::WaitingJob;
+use crate::jobs::{Bell, Job, JobQueue, Refused};
+use event_loop::MutEventSubscriber;
 use job_tickets::naming::Naming;
 use job_tickets::taken::{TakenBook, TakenCount};
 use job_tickets::tickets::{Register, Ticket};
@@ -18,8 +22,8 @@ use std::time::Clock;
 
 /// The queue, with the books of what was issued and of what was taken. Contracts see it as the queue.
 #[derive(Drop)]
-pub(crate) struct ChannelState<J, Q, N: Naming> {
-    queue: JobQueue<J, Q>,
+pub(crate) struct ChannelState<S: MutEventSubscriber, J: Job<S>, N: Naming> {
+    queue: JobQueue<WaitingJob<S, J>, ()>,
     // Here while the queue is open.
     register: Option<Register<N>>,
     taken: TakenBook<N>,
@@ -27,18 +31,18 @@ pub(crate) struct ChannelState<J, Q, N: Naming> {
     last_count: Option<TakenCount<N>>,
 }
 
-impl<J, Q, N: Naming> Model for ChannelState<J, Q, N> {
+impl<S: MutEventSubscriber, J: Job<S>, N: Naming> Model for ChannelState<S, J, N> {
     ghost use Rattle.std.specs.Prelude.{◌≡◌, true, false, Some, IsSome};
     ghost use Rattle.event_manager.specs.JobQueue.{QueueState};
 
-    ghost Value = { QueueState J Q };
+    ghost Value = { QueueState J (Unit {0}) };
 
     ghost view = { λ c. c.queue };
 
     ghost invariant = { λ c. (c.taken ≡ c.queue.taken) × (c.queue.closed ≡ false → c.register ≡ Some c.queue.issued) × (c.queue.closed ≡ true → IsSome c.last_count) };
 }
 
-impl<J, Q, N: Naming> ChannelState<J, Q, N> {
+impl<S: MutEventSubscriber, J: Job<S>, N: Naming> ChannelState<S, J, N> {
     /// An open queue in which nothing waits.
     pub(crate) fn new(alloc: Global, register: Register<N>, taken: TakenBook<N>) -> Self
         requires { (register ≡ 0) × (taken ≡ 0) }
@@ -59,18 +63,17 @@ impl<J, Q, N: Naming> ChannelState<J, Q, N> {
         self.queue.waiting()
     }
 
-    /// Sends a job, and issues its ticket. Where it is refused, job and slot come back.
+    /// Sends a job, and issues its ticket. Where it is refused, it comes back.
     pub(crate) fn send<B: Bell, R: Wait + Clock>(
         &mut self,
-        job: J,
-        slot: Option<Q>,
+        job: WaitingJob<S, J>,
         bell: &B,
         rt: &R,
-    ) -> std::result::Result<Ticket<N>, Refused<J, Q>>
-        ensures sent { IsSend (B.rings bell.now) self.old job slot (answer_of result) self.new }
-        ensures handed_back { IfErr result (λ refused. (refused.job ≡ job) × (refused.slot ≡ slot)) }
+    ) -> std::result::Result<Ticket<N>, Refused<WaitingJob<S, J>, ()>>
+        ensures sent { IsSend (B.rings bell.now) self.old job None (answer_of result) self.new }
+        ensures handed_back { IfErr result (λ refused. refused.job ≡ job) }
     {
-        match self.queue.offer(job, slot, bell, rt) {
+        match self.queue.offer(job, None, bell, rt) {
             Ok(_) => {}
             Err(refused) => return Err(refused),
         }
@@ -80,63 +83,64 @@ impl<J, Q, N: Naming> ChannelState<J, Q, N> {
         }
     }
 
-    /// Sends a job whose ticket has a number above the shown one's. Where it is refused, job and slot come back.
+    /// Sends a job whose ticket has a number above the shown one's. Where it is refused, it comes back.
     pub(crate) fn send_after<B: Bell, R: Wait + Clock>(
         &mut self,
         shown: &Ticket<N>,
-        job: J,
-        slot: Option<Q>,
+        job: WaitingJob<S, J>,
         bell: &B,
         rt: &R,
-    ) -> std::result::Result<Ticket<N>, Refused<J, Q>>
+    ) -> std::result::Result<Ticket<N>, Refused<WaitingJob<S, J>, ()>>
         ensures above { IfOk result (λ n. shown.now < n) }
-        ensures sent { shown.now ≤ self.old.issued → IsSend (B.rings bell.now) self.old job slot (answer_of result) self.new }
+        ensures sent { shown.now ≤ self.old.issued → IsSend (B.rings bell.now) self.old job None (answer_of result) self.new }
         ensures not_issued { self.old.issued < shown.now → (answer_of result ≡ Err TicketsUsedUp) × (self.new ≡ self.old) }
-        ensures handed_back { IfErr result (λ refused. (refused.job ≡ job) × (refused.slot ≡ slot)) }
+        ensures handed_back { IfErr result (λ refused. refused.job ≡ job) }
         ensures refusals { IfErr result (λ refused. IsSendRefusal refused.error) }
     {
         if shown.number() > self.queue.issued() {
             return Err(Refused {
                 error: Error::TicketsUsedUp,
                 job,
-                slot,
+                slot: None,
             });
         }
-        self.send(job, slot, bell, rt)
+        self.send(job, bell, rt)
     }
 
     /// Takes all that waits, and counts it.
-    pub(crate) fn take(&mut self, count: &mut TakenCount<N>, into: &mut Vec<Entry<J, Q>>)
-        requires { into.old.items ≡ [] }
+    pub(crate) fn take(&mut self, count: &mut TakenCount<N>, into: &mut TakenJobs<S, J>)
+        requires { into.old.entries ≡ [] }
         ensures agree { count.old ≡ self.old.taken }
-        ensures handed_out { into.new.items ≡ self.old.waiting }
+        ensures handed_out { into.new ≡ record into.old { entries = self.old.waiting } }
         ensures taken { self.new ≡ after_take self.old }
-        ensures count { count.new ≡ count.old + vec_len into.new }
-        ensures numbers { TicketsFollow count.old into.new.items }
+        ensures count { count.new ≡ count.old + length into.new.entries }
+        ensures numbers { TicketsFollow count.old into.new.entries }
     {
-        self.queue.take(into);
+        into.take(&mut self.queue);
         count.add(&mut self.taken, into.len() as u64);
     }
 
-    /// Closes the queue, which only the holder of the count can do.
+    /// Closes the queue, which only the holder of the count can do. What waits is handed out, and not counted as taken.
     pub(crate) fn close(
         &mut self,
         mut count: TakenCount<N>,
-        into: &mut Vec<Entry<J, Q>>,
-    ) -> Register<N>
-        requires { into.old.items ≡ [] }
+        into: &mut TakenJobs<S, J>,
+    ) -> Closed<N>
+        requires { into.old.entries ≡ [] }
         ensures was_open { self.old.closed ≡ false }
         ensures agree { count ≡ self.old.taken }
-        ensures issued { result ≡ self.old.issued }
-        ensures handed_out { into.new.items ≡ self.old.waiting }
+        ensures issued { result.issued ≡ self.old.issued }
+        ensures counted { result.taken ≡ self.old.taken }
+        ensures handed_out { into.new ≡ record into.old { entries = self.old.waiting } }
         ensures closed { self.new ≡ after_close self.old }
     {
         count.is_alone(self.last_count.take());
         count.agree(&mut self.taken);
-        self.queue.close(into);
+        into.close(&mut self.queue);
+        let taken = count.count();
         self.last_count = Some(count);
         match self.register.take() {
-            Some(register) => register,
+            Some(register) => Closed::new(register, taken),
             None => unreachable!(),
         }
     }

@@ -26,5 +26,5 @@ pub returns-clause-driven : goal.returns-clause-driven
 returns-clause-driven g c =
     let none = nil_from_length c.loop-planned.plan.items (omega (arith, c.in_default.ensures.cases)) in
     let here = rw none at c.loop-planned.invariant.so_far in
-    let all = all_traced g.S.MutEventSubscriber.begins g.S.MutEventSubscriber.serves g.J.Job.may g.P.EventPoller.controls g.P.EventPoller.waits (state_of c.args.manager.now) (state_of c.loop-planned.manager) _ c.reserve.new.self.items c.loop-planned.replies.items here in
+    let all = all_traced g.S.MutEventSubscriber.begins g.S.MutEventSubscriber.serves g.J.Job.may g.P.EventPoller.controls g.P.EventPoller.waits (state_of c.args.manager.now) (state_of c.loop-planned.manager) _ c.reserve.new.self.items c.loop-planned.replies.items c.next_id-next.ensures.below here in
     rw (← c.in_ok-plan.ensures.calls, ← c.reserve.ensures.items) all
