@@ -1,3 +1,4 @@
 pub mod Decimals
 pub mod Fields
 pub mod Reading
+pub mod FirstBad

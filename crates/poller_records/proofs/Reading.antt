@@ -5,7 +5,7 @@ use Rattle.std.specs.List.{All}
 use Rattle.std.specs.Option.{MatchOption}
 use Rattle.std.proofs.lemmas.Bool.Decides.{Decides-eqb}
 use Rattle.std.proofs.lemmas.List.{nil_from_length}
-use Rattle.std.proofs.lemmas.List.Elements.{All-head, All-tail}
+use Rattle.std.proofs.lemmas.List.Elements.{All-head, All-push, All-tail}
 use Rattle.std.proofs.lemmas.List.Concat.{flat_map-append}
 use Rattle.std.proofs.lemmas.Option.{MatchOption-at_some, MatchOption-at_none}
 use Rattle.std.proofs.lemmas.Str.Pattern.{IsSplitOnceResult, split_after, split_parts}
@@ -28,6 +28,7 @@ GoesOn text before rest = (all : List RecordEntry) → All IsEntry all → text 
 
 -- what is read so far, and what is left of the text
 pub record IsRead (text : List ℕ) (before : List RecordEntry) (rest : List ℕ) : Type 0 where
+  pub held : All IsEntry before
   pub split : text ≡ text_of before ++ rest
   pub goes_on : GoesOn text before rest
 
@@ -46,7 +47,7 @@ is_done rest empty answer done = nil_from_length rest ((Decides-eqb (length rest
 pub first_bad : (text : List ℕ) (before : List RecordEntry) (rest : List ℕ) (count : ℕ) → IsRead text before rest → count ≡ length before →
     rest ≢ [] → HasNoLine rest → IsFirstBad text (count + 1)
 first_bad text before rest count so_far counted more bad =
-    record { before = before; rest = rest; split = so_far.split; count = ap (λ n. n + 1) (sym counted); more = more; bad = bad }
+    record { before = before; held = so_far.held; rest = rest; split = so_far.split; count = ap (λ n. n + 1) (sym counted); more = more; bad = bad }
 
 -- where a line of an entry is in front, it is what stands before the first newline
 pub line_in_front : (rest : List ℕ) (cut : Option Parts) (entry : RecordEntry) (behind : List ℕ) →
@@ -95,11 +96,11 @@ begins_with (first ∷ others) rest held is more = record {
 
 -- one more entry is read
 pub read_more : (text : List ℕ) (before : List RecordEntry) (rest : List ℕ) (entry : RecordEntry) (cut : Option Parts) (parts : Parts) →
-    IsRead text before rest → rest ≢ [] → IsSplitOnceResult 10 rest cut → cut ≡ Some parts → parts.0.now ≡ line_of entry →
+    IsRead text before rest → rest ≢ [] → IsSplitOnceResult 10 rest cut → cut ≡ Some parts → IsEntry entry → parts.0.now ≡ line_of entry →
     ((other : RecordEntry) → IsEntry other → parts.0.now ≡ line_of other → entry ≡ other) →
     IsRead text (before ++ entry ∷ []) parts.1.now
-read_more text before rest entry cut parts so_far more is_cut found is only =
-    record { split = so_far.split ∙ ap (λ rest. text_of before ++ rest) pieces ∙ sym (text_of-push before entry parts.1.now); goes_on = next } where
+read_more text before rest entry cut parts so_far more is_cut found held is only =
+    record { held = All-push IsEntry before entry so_far.held held; split = so_far.split ∙ ap (λ rest. text_of before ++ rest) pieces ∙ sym (text_of-push before entry parts.1.now); goes_on = next } where
       pieces : rest ≡ line_of entry ++ 10 ∷ parts.1.now
       pieces = (MatchOption-at_some _ _ parts found (split_parts 10 rest cut is_cut (lit< tt))).0 ∙ ap (λ line. line ++ 10 ∷ parts.1.now) is
 

@@ -1,5 +1,5 @@
 -- Which line of a text is bad.
-use Rattle.std.specs.Prelude.{ℕ, ◌≡◌, ◌≢◌, ◌+◌, List, [], ◌∷◌, ◌++◌, Option, Some, None, length}
+use Rattle.std.specs.Prelude.{ℕ, ◌≡◌, ◌≢◌, ◌+◌, List, [], ◌∷◌, ◌++◌, All, Option, Some, None, length}
 use Rattle.vmm_sys.specs.declared.record.RecordEntry.{RecordEntry}
 use Rattle.poller_records.specs.Held.{IsEntry}
 use Rattle.poller_records.specs.Lines.{line_of, text_of}
@@ -11,9 +11,10 @@ abbrev pub bad_line : RecordFault → Option ℕ
 bad_line (BadLine number fault) = Some number
 bad_line OutOfMemory = None
 
--- lines of entries, and then something that does not begin with one, in the line of this number
+-- lines of entries that the types can hold, and then something that does not begin with one, in the line of this number
 pub record IsFirstBad (text : List ℕ) (number : ℕ) : Type 0 where
   pub before : List RecordEntry
+  pub held : All IsEntry before
   pub rest : List ℕ
   pub split : text ≡ text_of before ++ rest
   pub count : length before + 1 ≡ number

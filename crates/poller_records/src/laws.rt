@@ -1,6 +1,7 @@
 //! What holds of records and their texts.
 
-ghost use Rattle.std.specs.Prelude.{◌≡◌, All, MatchResult};
+ghost use Rattle.std.specs.Prelude.{◌≡◌, ℕ, List, All, MatchResult};
+ghost use Rattle.poller_records.specs.BadLine.{IsFirstBad};
 ghost use Rattle.poller_records.specs.Held.{IsEntry};
 ghost use Rattle.poller_records.specs.declared.fault.RecordFault.TheVariants.{OutOfMemory};
 
@@ -24,6 +25,11 @@ pub fn entries_are_held(entries: &[RecordEntry])
         entry_is_held(*entry);
     }
 }
+
+/// A text has one first bad line at most: the number that `read_record` names is the only one that it may name.
+pub fn one_line_is_the_first_bad()
+    ensures { (text : List ℕ) (one other : ℕ) → IsFirstBad text one → IsFirstBad text other → one ≡ other }
+{}
 
 /// What is written is read: the same entries come back, or memory was refused.
 pub fn what_is_written_is_read(

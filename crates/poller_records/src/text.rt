@@ -102,6 +102,7 @@ fn split_fields(alloc: Global, line: &str) -> Result<Vec<&str>, AllocError>
 ///
 /// `BadLine` with the number, `OutOfMemory`.
 fn read_line(alloc: Global, number: usize, line: &str) -> Result<RecordEntry, RecordFault>
+    ensures held { IfOk result (λ entry. IsEntry entry) }
     ensures read { IfOk result (λ entry. line.now ≡ line_of entry) }
     ensures written { (entry : RecordEntry) → IsEntry entry → line.now ≡ line_of entry →
         MatchResult result (λ read. read ≡ entry) (λ fault. fault ≡ OutOfMemory) }

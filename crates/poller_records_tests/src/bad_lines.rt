@@ -131,6 +131,17 @@ fn the_first_bad_line_is_named(rt: HostRuntime) {
     expect_same(&rt, &found, &Some(expected));
 }
 
+// A set has 32 bits, so the first line is bad, whatever stands behind it.
+#[test]
+fn a_line_whose_set_is_too_large_is_the_first_bad_one(rt: HostRuntime) {
+    let found = read_record(rt.alloc(), "event 4294967296 0\nevent\n").err();
+    let expected = RecordFault::BadLine {
+        number: 1,
+        fault: LineFault::BadNumber,
+    };
+    expect_same(&rt, &found, &Some(expected));
+}
+
 #[test]
 fn faults_have_their_texts(rt: HostRuntime) {
     let table = [

@@ -43,7 +43,7 @@ pub loop-rest-preserved : goal.loop-rest-preserved
 loop-rest-preserved c =
     let more = is_left c.loop-rest.rest.now c.is_empty.result c.is_empty.ensures c.loop-rest-test.true in
     let next = read_more _ _ _ c.in_ok-read_line.field-0 c.split_once.result _ c.loop-rest.invariant.0 more
-    c.split_once.ensures.cases c.in-Some.is c.in_ok-read_line.ensures.read c.in_ok-read_line.ensures.written in
+    c.split_once.ensures.cases c.in-Some.is c.in_ok-read_line.ensures.held c.in_ok-read_line.ensures.read c.in_ok-read_line.ensures.written in
     (subst (λ entries. IsRead c.args.text.now entries c.in-Some.behind.now) (sym {A = List RecordEntry} c.in_ok-push.ensures.items) next, search rules)
 
 pub returns-clause-written : goal.returns-clause-written
