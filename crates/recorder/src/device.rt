@@ -1,12 +1,17 @@
 //! The devices of the machine.
 
-use event_loop::{EventOps, EventPoller, EventSet, Events, MutEventSubscriber, Result};
+ghost use Rattle.std.specs.Prelude.{◌≡◌, Ok, IfOk};
+ghost use Rattle.event_manager.specs.LoopState.{no_job};
+ghost use Rattle.event_manager.specs.Determinism.{AreFunctions};
+ghost use Rattle.recorder.specs.Devices.{counted, device_begins, device_serves, with_answer};
+
+use event_manager::{EventOps, EventPoller, EventSet, Events, MutEventSubscriber, Result};
 
 /// A device, which counts its events. At the first one it asks for a second descriptor, where it has one; at a hang-up it
 /// gives the descriptor back.
 ///
 /// What it counts and asks for comes of its events alone, so a replay of a run's record brings it to where the run did.
-#[derive(Drop)]
+#[derive(Clone, Copy)]
 pub struct Device {
     own: Events,
     // Until it is asked for.
@@ -17,7 +22,7 @@ pub struct Device {
     pub of_second: u64,
     /// Whether one was a hang-up, which isn't counted.
     pub hung_up: bool,
-    // What its last request was answered.
+    // The first refusal of its requests.
     answer: Result<()>,
 }
 
@@ -34,40 +39,62 @@ impl Device {
         }
     }
 
-    /// The device; or the refusal, where its last request was refused.
-    pub fn answered(&self) -> Result<&Self> {
+    /// The device; or the refusal, where one of its requests was refused.
+    pub fn answered(&self) -> Result<Device>
+        ensures device { IfOk result (λ device. device ≡ self.now) }
+        ensures answered { IfOk result (λ device. device.answer ≡ Ok tt) }
+    {
         self.answer?;
-        Ok(self)
+        Ok(*self)
+    }
+
+    // Counts an event by its data.
+    fn count(&mut self, events: Events)
+        ensures { self.new ≡ counted self.old events }
+    {
+        if events.data() == 0 {
+            self.of_first = self.of_first.saturating_add(1);
+        } else {
+            self.of_second = self.of_second.saturating_add(1);
+        }
+    }
+
+    // Keeps an answer, unless a refusal is kept.
+    fn keep(&mut self, answer: Result<()>)
+        ensures { self.new ≡ with_answer self.old answer }
+    {
+        if self.answer.is_ok() {
+            self.answer = answer;
+        }
     }
 }
 
 impl MutEventSubscriber for Device {
-    ghost use Rattle.std.specs.Prelude.{◌≡◌, ◌==◌, [], ◌∷◌, true, MatchBool, MatchOption, bit_and};
-    ghost use Rattle.event_loop.specs.declared.events.Request.TheVariants.{Add, Remove};
+    ghost begins = { device_begins };
 
-    // It asks to add its own descriptor, and keeps the answer.
-    ghost begins = { λ v exchanges w. exchanges ≡ (Add v.own, w.answer) ∷ [] };
-
-    // At a hang-up it asks to remove the event's descriptor, and notes the hang-up; else it asks to add a second one that is left to add.
-    ghost serves = { λ v event exchanges w. MatchBool (bit_and event.set 0x10 == 0x10)
-        ((exchanges ≡ (Remove event, w.answer) ∷ []) × (w.hung_up ≡ true))
-        (MatchOption v.second (exchanges ≡ []) (λ second. exchanges ≡ (Add second, w.answer) ∷ [])) };
+    ghost serves = { device_serves };
 
     fn process<P: EventPoller>(&mut self, events: Events, ops: &mut EventOps<P>) {
         if events.event_set().contains(EventSet::HANG_UP) {
             self.hung_up = true;
-            self.answer = ops.remove(events);
+            let answer = ops.remove(events);
+            self.keep(answer);
             return;
         }
-        let is_first = events.data() == 0;
-        self.of_first = self.of_first.saturating_add(is_first as u64);
-        self.of_second = self.of_second.saturating_add(!is_first as u64);
+        self.count(events);
         if let Some(second) = self.second.take() {
-            self.answer = ops.add(second);
+            let answer = ops.add(second);
+            self.keep(answer);
         }
     }
 
     fn init<P: EventPoller>(&mut self, ops: &mut EventOps<P>) {
-        self.answer = ops.add(self.own);
+        let answer = ops.add(self.own);
+        self.keep(answer);
     }
 }
+
+/// A device is a function: its value and what it is answered decide what it asks for next, and its value after.
+pub fn devices_are_functions()
+    ensures { AreFunctions ⟦<Device as MutEventSubscriber>⟧.begins ⟦<Device as MutEventSubscriber>⟧.serves no_job }
+{}

@@ -1,7 +1,7 @@
 //! The guest, who has the other ends of the devices' descriptors.
 
 use crate::device::Device;
-use event_loop::{EventSet, Events};
+use event_manager::{EventSet, Events};
 use std::sync::Wait;
 use std::time::Clock;
 use vmm_sys::epoll::Epoll;
@@ -9,10 +9,50 @@ use vmm_sys::errno::Errno;
 use vmm_sys::eventfd::EventFd;
 use vmm_sys::line::Line;
 
+/// What the guest does before a run of the loop.
+#[derive(Clone, Copy)]
+pub struct Deed {
+    /// Its name.
+    pub name: &'static str,
+    // So many kicks of either queue.
+    kicks: (u64, u64),
+    // The state of the console's line from then on.
+    line: EventSet,
+}
+
+/// What the guest does.
+pub const DEEDS: [Deed; 5] = [
+    Deed {
+        name: "kick of the first queue",
+        kicks: (1, 0),
+        line: EventSet::OUT,
+    },
+    Deed {
+        name: "kicks of both queues",
+        kicks: (1, 1),
+        line: EventSet::OUT,
+    },
+    Deed {
+        name: "input",
+        kicks: (0, 0),
+        line: EventSet::IN,
+    },
+    Deed {
+        name: "hang-up",
+        kicks: (0, 0),
+        line: EventSet::HANG_UP,
+    },
+    Deed {
+        name: "late input",
+        kicks: (0, 0),
+        line: EventSet::IN,
+    },
+];
+
 /// Who acts on the devices' descriptors before each run of the loop.
 pub trait Guest {
-    /// Kicks either queue so many times, and sets the state of the console's line.
-    fn act(&self, kicks: (u64, u64), line: EventSet) -> Result<(), Errno>;
+    /// Does this.
+    fn act(&self, deed: &Deed) -> Result<(), Errno>;
 }
 
 /// The guest of a run in production.
@@ -45,13 +85,13 @@ impl<R: Wait + Clock + Clone + Send + Drop> Present<R> {
 }
 
 impl<R: Wait> Guest for Present<R> {
-    fn act(&self, kicks: (u64, u64), line: EventSet) -> Result<(), Errno> {
+    fn act(&self, deed: &Deed) -> Result<(), Errno> {
         // Kicks that were served are taken back, so that they aren't reported again.
         let _ = self.first.read(&self.rt);
         let _ = self.second.read(&self.rt);
-        self.first.write(kicks.0, &self.rt)?;
-        self.second.write(kicks.1, &self.rt)?;
-        self.line.set(line, &self.rt)
+        self.first.write(deed.kicks.0, &self.rt)?;
+        self.second.write(deed.kicks.1, &self.rt)?;
+        self.line.set(deed.line, &self.rt)
     }
 }
 
@@ -59,7 +99,7 @@ impl<R: Wait> Guest for Present<R> {
 pub struct Absent;
 
 impl Guest for Absent {
-    fn act(&self, _kicks: (u64, u64), _line: EventSet) -> Result<(), Errno> {
+    fn act(&self, _deed: &Deed) -> Result<(), Errno> {
         Ok(())
     }
 }

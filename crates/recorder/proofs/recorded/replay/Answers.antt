@@ -1,0 +1,14 @@
+use Rattle.std.proofs.Common.{sym, ap, ◌∙◌}
+use Rattle.vmm_sys.specs.Replay.{divergence_index}
+use Rattle.event_manager.specs.EventLoop.{seen_of}
+use Rattle.recorder.proofs.SameRun.{replay_tells, not_diverged}
+use Rattle.recorder.proofs.recorded.replay.Goals as goal
+
+pub returns : goal.returns
+returns g c told recorded =
+    let end = seen_of c.drive-driven.new.event_loop in
+    let agreed = not_diverged end.poller (ap divergence_index (sym c.poller-poller.ensures) ∙ sym c.diverged.ensures ∙ c.in-None.is) in
+    replay_tells _ _ _ _ c.args.devices.now told c.in_ok-driven-in-None.field-0 c.args.text.now recorded c.in_ok-read_record.field-0.items c.new-poller.result
+    (seen_of c.in_ok-event_loop.event_loop) end c.a_recorded_loop_is_made_again.ensures c.devices_are_functions.ensures
+    (c.in_ok-read_record.ensures.written recorded.after.poller.entries recorded.held recorded.text_is)
+    c.new-poller.ensures c.in_ok-event_loop.ensures.made c.in_ok-driven-in-None.ensures agreed
