@@ -1,6 +1,6 @@
 //! An account.
 
-use event_manager::{EventOps, EventPoller, EventSet, Events, MutEventSubscriber};
+use event_manager::{EventOps, EventPoller, EventSet, Events, MutEventSubscriber, Result};
 use std::sync::Wait;
 use vmm_sys::errno::Errno;
 use vmm_sys::eventfd::EventFd;
@@ -13,6 +13,8 @@ pub const MOST: u64 = 1000;
 pub struct Account<R> {
     balance: u64,
     counter: EventFd,
+    /// What the addition of its counter was answered.
+    pub asked: Result<()>,
     rt: R,
 }
 
@@ -20,12 +22,13 @@ impl<R: Wait + Drop> Account<R> {
     ghost use Rattle.std.specs.Prelude.{◌≡◌, ◌≤◌, ◌<◌, ◌+◌, MatchOption, IfOk};
 
     /// An account of balance 0 with a handle of its own on the counter. `ENOMEM`: one more owner of its table was refused.
-    pub fn new(counter: &EventFd, rt: R) -> Result<Self, Errno>
+    pub fn new(counter: &EventFd, rt: R) -> std::result::Result<Self, Errno>
         ensures { IfOk result (λ account. account.balance ≡ 0) }
     {
         Ok(Account {
             balance: 0,
             counter: counter.try_clone()?,
+            asked: Ok(()),
             rt,
         })
     }
@@ -51,12 +54,13 @@ impl<R: Wait + Drop> Account<R> {
 }
 
 impl<R: Wait> MutEventSubscriber for Account<R> {
-    ghost use Rattle.std.specs.Prelude.{◌≡◌, ◌≤◌, unsigned_abs};
-    ghost use Rattle.event_manager.specs.Exchange.{AsksNothing, AsksToAdd};
+    ghost use Rattle.std.specs.Prelude.{◌≡◌, ◌≤◌, [], ◌∷◌, unsigned_abs};
+    ghost use Rattle.event_manager.specs.Exchange.{AsksNothing};
+    ghost use Rattle.event_manager.specs.Request.TheVariants.{Add};
     ghost use Rattle.vmm_sys.specs.EventFd.{descriptor_of};
 
-    // It asks to add its counter, wanted for IN.
-    ghost begins = { λ v exchanges w. AsksToAdd (record { fd = unsigned_abs (descriptor_of v.counter); payload = 0; set = 0x1 }) exchanges × (w ≡ v) };
+    // It asks to add its counter, wanted for IN, and keeps the answer.
+    ghost begins = { λ v exchanges w. (exchanges ≡ (Add (record { fd = unsigned_abs (descriptor_of v.counter); payload = 0; set = 0x1 }), w.asked) ∷ []) × (w ≡ record v { asked = w.asked }) };
 
     // It asks for nothing; its balance alone changes, and doesn't fall.
     ghost serves = { λ v event exchanges w. AsksNothing exchanges × (w ≡ record v { balance = w.balance }) × (v.balance ≤ w.balance) };
@@ -67,6 +71,6 @@ impl<R: Wait> MutEventSubscriber for Account<R> {
     }
 
     fn init<P: EventPoller>(&mut self, ops: &mut EventOps<P>) {
-        let _ = ops.add(Events::new(&self.counter, EventSet::IN));
+        self.asked = ops.add(Events::new(&self.counter, EventSet::IN));
     }
 }

@@ -29,9 +29,11 @@ impl<R: Wait + Clock + Copy + Drop> LoopWithSenders<Account<R>, Order, Customer,
         let removed = manager.add_subscriber(first)?;
         manager.remove_subscriber(removed)?;
         let second = Account::new(&self.counter, *rt).map_err(Error::EventFd)?;
+        let account = manager.add_subscriber(second)?;
+        manager.subscriber(account)?.asked?;
         let customer = Customer {
             counter: self.counter.try_clone().map_err(Error::EventFd)?,
-            account: manager.add_subscriber(second)?,
+            account,
             removed,
         };
         Ok(vec![in alloc; customer]?)

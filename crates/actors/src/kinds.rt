@@ -50,13 +50,12 @@ pub struct Tally<R> {
     pub rt: R,
 }
 
-/// It wants its mailbox's event when it is added, and nothing after that. The mailbox stays the same one, and the count
-/// never goes down.
+/// It wants its mailbox's event when it is added, and nothing after that. Its count alone changes, and never goes down.
 impl<R: Wait + Print + AllocGlobal + Drop> StepSubscriber for Tally<R> {
     ghost use Rattle.std.specs.Prelude.{◌≡◌, ◌≤◌};
     ghost use Rattle.actors.specs.Wanted.{wanted_on};
 
-    ghost requests = { λ v input wanted w. (wanted ≡ wanted_on v.mailbox input) × (w.mailbox ≡ v.mailbox) × (v.count ≤ w.count) };
+    ghost requests = { λ v input wanted w. (wanted ≡ wanted_on v.mailbox input) × (w ≡ record v { count = w.count }) × (v.count ≤ w.count) };
 
     ghost requests_left = { λ v. 0 };
 

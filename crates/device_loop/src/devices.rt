@@ -44,15 +44,20 @@ impl<R: Wait + Drop> QueueDevice<R> {
 }
 
 impl<R: Wait> MutEventSubscriber for QueueDevice<R> {
-    ghost use Rattle.std.specs.Prelude.{◌≡◌, ◌==◌, ◌||◌, [], ◌∷◌, is_ok, MatchBool};
+    ghost use Rattle.std.specs.Prelude.{◌≡◌, ◌==◌, ◌≤◌, [], ◌∷◌, is_ok, MatchBool};
     ghost use Rattle.event_manager.specs.Request.TheVariants.{Add};
     ghost use Rattle.device_loop.specs.Kicks.{kicks};
 
-    // It asks to add the first queue's counter, and keeps the answer.
-    ghost begins = { λ v exchanges w. exchanges ≡ (Add (kicks v.first 0), w.answer) ∷ [] };
+    // It asks to add the first queue's counter, and keeps the answer; all else stays.
+    ghost begins = { λ v exchanges w. (exchanges ≡ (Add (kicks v.first 0), w.answer) ∷ []) × (w ≡ record v { answer = w.answer }) };
 
-    // At a kick of the first queue it asks to add the second one's counter, unless that is watched; else for nothing.
-    ghost serves = { λ v event exchanges w. MatchBool (event.payload == 1 || v.second_is_watched) (exchanges ≡ []) ((exchanges ≡ (Add (kicks v.second 1), w.answer) ∷ []) × (w.second_is_watched ≡ is_ok w.answer)) };
+    // At a kick of the second queue that queue's kicks alone change, and don't fall. At one of the first the same holds of
+    // the first; and unless the second one's counter is watched, it asks to add that, and keeps the answer.
+    ghost serves = { λ v event exchanges w. MatchBool (event.payload == 1)
+        ((exchanges ≡ []) × (w ≡ record v { second_kicks = w.second_kicks }) × (v.second_kicks ≤ w.second_kicks))
+        ((v.first_kicks ≤ w.first_kicks) × MatchBool v.second_is_watched
+        ((exchanges ≡ []) × (w ≡ record v { first_kicks = w.first_kicks }))
+        ((exchanges ≡ (Add (kicks v.second 1), w.answer) ∷ []) × (w ≡ record v { first_kicks = w.first_kicks; second_is_watched = is_ok w.answer; answer = w.answer }))) };
 
     fn process<P: EventPoller>(&mut self, events: Events, ops: &mut EventOps<P>) {
         if events.data() == SECOND_QUEUE {
@@ -100,14 +105,17 @@ impl<R: Wait + Drop> Console<R> {
 
 impl<R: Wait> MutEventSubscriber for Console<R> {
     ghost use Rattle.std.specs.Prelude.{◌≡◌, ◌==◌, [], ◌∷◌, true, MatchBool, bit_and, unsigned_abs};
+    ghost use Rattle.event_manager.specs.CounterEvents.{next_count};
     ghost use Rattle.event_manager.specs.Request.TheVariants.{Add, Remove};
     ghost use Rattle.vmm_sys.specs.Line.{descriptor_of};
 
-    // It asks to add its line, wanted for IN, and keeps the answer.
-    ghost begins = { λ v exchanges w. exchanges ≡ (Add (record { fd = unsigned_abs (descriptor_of v.line); payload = 0; set = 0x1 }), w.answer) ∷ [] };
+    // It asks to add its line, wanted for IN, and keeps the answer; all else stays.
+    ghost begins = { λ v exchanges w. (exchanges ≡ (Add (record { fd = unsigned_abs (descriptor_of v.line); payload = 0; set = 0x1 }), w.answer) ∷ []) × (w ≡ record v { answer = w.answer }) };
 
-    // At a hang-up it asks to remove the event's descriptor, and notes the hang-up; else it asks for nothing.
-    ghost serves = { λ v event exchanges w. MatchBool (bit_and event.set 0x10 == 0x10) ((exchanges ≡ (Remove event, w.answer) ∷ []) × (w.hung_up ≡ true)) (exchanges ≡ []) };
+    // At a hang-up it notes that, asks to remove the event's descriptor, and keeps the answer; else it counts an input.
+    ghost serves = { λ v event exchanges w. MatchBool (bit_and event.set 0x10 == 0x10)
+        ((exchanges ≡ (Remove event, w.answer) ∷ []) × (w ≡ record v { hung_up = true; answer = w.answer }))
+        ((exchanges ≡ []) × (w ≡ record v { inputs = next_count v.inputs })) };
 
     fn process<P: EventPoller>(&mut self, events: Events, ops: &mut EventOps<P>) {
         if events.event_set().contains(EventSet::HANG_UP) {

@@ -38,13 +38,15 @@ pub struct ReadStatistics {
 impl<R: Wait + Drop> Job<Device<R>> for ReadStatistics {
     type Reply = Result<Statistics>;
 
-    ghost use Rattle.std.specs.Prelude.{◌≡◌, [], ◌⊎◌, Err};
+    ghost use Rattle.std.specs.Prelude.{◌≡◌, [], ◌∷◌, ◌⊎◌, Err};
     ghost use Rattle.event_manager.specs.Error.TheVariants.{InvalidId};
+    ghost use Rattle.event_manager.specs.Registry.{Replaced, Refused};
     ghost use Rattle.device_loop.specs.declared.devices.Device.{Device};
     ghost use Rattle.device_loop.specs.Devices.{statistics_of};
 
-    // It changes nothing, and replies what a device says, or that there is none.
-    ghost may = { λ self steps reply. (steps ≡ []) × (((device : Device R) × (reply ≡ statistics_of device)) ⊎ (reply ≡ Err InvalidId)) };
+    // It leaves the device of the id as it is, and replies what that says; or nobody has the id.
+    ghost may = { λ self steps reply. ((device : Device R) × (steps ≡ Replaced self.device device device ∷ []) × (reply ≡ statistics_of device))
+        ⊎ ((steps ≡ Refused self.device ∷ []) × (reply ≡ Err InvalidId)) };
 
     ghost replies = { λ reply. Unit {0} };
 
@@ -53,7 +55,7 @@ impl<R: Wait + Drop> Job<Device<R>> for ReadStatistics {
         registry: &mut Registry<Device<R>, P>,
         _rt: &W,
     ) -> Result<Statistics> {
-        match registry.subscriber(self.device) {
+        match registry.subscriber_mut(self.device) {
             Ok(device) => device.statistics(),
             Err(error) => Err(error),
         }

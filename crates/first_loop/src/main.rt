@@ -8,26 +8,29 @@ use event_loop::{
 use vmm_sys::epoll::Epoll;
 use vmm_sys::eventfd::EventFd;
 
-/// How often the bell was heard, or what its addition was refused with.
+/// How often the bell was heard, and what its addition was answered.
 #[derive(Drop)]
 struct Doorman {
     bell: Events,
-    heard: event_loop::Result<u64>,
+    asked: event_loop::Result<()>,
+    heard: u64,
 }
 
 impl MutEventSubscriber for Doorman {
-    ghost use Rattle.event_loop.specs.Exchange.{AsksNothing, AsksToAdd};
+    ghost use Rattle.std.specs.Prelude.{◌≡◌, [], ◌∷◌};
+    ghost use Rattle.event_loop.specs.CounterEvents.{next_count};
+    ghost use Rattle.event_loop.specs.declared.events.Request.TheVariants.{Add};
 
-    ghost begins = { λ v exchanges w. AsksToAdd v.bell exchanges };
+    ghost begins = { λ v exchanges w. (exchanges ≡ (Add v.bell, w.asked) ∷ []) × (w ≡ record v { asked = w.asked }) };
 
-    ghost serves = { λ v event exchanges w. AsksNothing exchanges };
+    ghost serves = { λ v event exchanges w. (exchanges ≡ []) × (w ≡ record v { heard = next_count v.heard }) };
 
     fn process<P: EventPoller>(&mut self, _events: Events, _ops: &mut EventOps<P>) {
-        self.heard = self.heard.map(|times| times.saturating_add(1));
+        self.heard = self.heard.saturating_add(1);
     }
 
     fn init<P: EventPoller>(&mut self, ops: &mut EventOps<P>) {
-        self.heard = ops.add(self.bell).map(|()| 0);
+        self.asked = ops.add(self.bell);
     }
 }
 
@@ -36,9 +39,14 @@ fn main(rt: HostRuntime) -> Result<()> {
     let ringing = EventFd::new(&epoll, 1, &rt)?;
     let bell = Events::new(&ringing, EventSet::IN);
     let mut event_loop = EventLoop::new(rt.alloc(), epoll)?;
-    let id = event_loop.add_subscriber(Doorman { bell, heard: Ok(0) })?;
+    let id = event_loop.add_subscriber(Doorman {
+        bell,
+        asked: Ok(()),
+        heard: 0,
+    })?;
     event_loop.run()?;
     event_loop.run()?;
-    let heard = event_loop.remove_subscriber(id)?.heard?;
-    Ok(println!(rt; "the bell was heard {heard} times")?)
+    let doorman = event_loop.remove_subscriber(id)?;
+    doorman.asked?;
+    Ok(println!(rt; "the bell was heard {} times", doorman.heard)?)
 }

@@ -51,7 +51,7 @@ impl Job<Counter> for CountOne {
     ghost use Rattle.event_manager.specs.Error.TheVariants.{InvalidId};
     ghost use Rattle.job_bench.specs.declared.jobs.Counter.{Counter};
 
-    ghost may = { λ self steps reply. ((old : Counter) × (steps ≡ Replaced self.0 old (record old { count = next_count old.count }) ∷ []))
+    ghost may = { λ self steps reply. ((old : Counter) × (steps ≡ Replaced self.0 old (record old { count = next_count old.count }) ∷ []) × (reply ≡ Ok (next_count old.count)))
         ⊎ ((steps ≡ Refused self.0 ∷ []) × (reply ≡ Err InvalidId)) };
 
     ghost replies = { λ reply. Unit {0} };

@@ -1,5 +1,8 @@
 //! The acceptor, and what it can be asked.
 
+ghost use Rattle.std.specs.Prelude.{◌≡◌};
+ghost use Rattle.server.specs.Peers.{statistics_of as said_by};
+
 use crate::connection::Connection;
 use event_manager::{
     Either, Error, EventOps, EventPoller, EventSet, Events, Job, MutEventSubscriber, Registry,
@@ -71,11 +74,16 @@ impl<R: Wait + Drop> Acceptor<R> {
 }
 
 impl<R: Wait + Drop> MutEventSubscriber for Acceptor<R> {
-    ghost use Rattle.event_manager.specs.Exchange.{AsksNothing, AsksToAdd};
+    ghost use Rattle.std.specs.Prelude.{◌≡◌, [], ◌∷◌, ◌++◌, MatchOption};
+    ghost use Rattle.event_manager.specs.Exchange.{AsksNothing};
+    ghost use Rattle.event_manager.specs.Request.TheVariants.{Add};
 
-    ghost begins = { λ v exchanges w. AsksToAdd v.knocks exchanges };
+    // It asks to add its listener, and keeps the answer.
+    ghost begins = { λ v exchanges w. (exchanges ≡ (Add v.knocks, w.asked) ∷ []) × (w ≡ record v { asked = w.asked }) };
 
-    ghost serves = { λ v event exchanges w. AsksNothing exchanges };
+    // It asks for nothing, and accepts who comes next, if anybody.
+    ghost serves = { λ v event exchanges w. AsksNothing exchanges × (w ≡ record v { coming = w.coming; accepted = w.accepted })
+        × MatchOption w.accepted (v.coming.items ≡ []) (λ next. v.coming.items ≡ w.coming.items ++ next ∷ []) };
 
     fn process<P: EventPoller>(&mut self, _events: Events, _ops: &mut EventOps<P>) {
         let _ = self.listener.read(&self.rt);
@@ -87,6 +95,16 @@ impl<R: Wait + Drop> MutEventSubscriber for Acceptor<R> {
     }
 }
 
+/// What a peer says: an acceptor its statistics, or the refusal of its request; a connection `InvalidId`.
+fn statistics_of<R>(peer: &Peer<R>) -> Result<Statistics>
+    ensures { result ≡ said_by peer.now }
+{
+    match peer {
+        Either::First(acceptor) => acceptor.asked.map(|()| acceptor.statistics),
+        Either::Second(_) => Err(Error::InvalidId),
+    }
+}
+
 /// Replies the statistics of the acceptor of the id; or the refusal of its request. `InvalidId` where no acceptor has it.
 #[derive(Drop)]
 pub struct ReadStatistics(pub SubscriberId);
@@ -94,10 +112,14 @@ pub struct ReadStatistics(pub SubscriberId);
 impl<R: Wait + Drop> Job<Peer<R>> for ReadStatistics {
     type Reply = Result<Statistics>;
 
-    ghost use Rattle.std.specs.Prelude.{◌≡◌, []};
+    ghost use Rattle.std.specs.Prelude.{◌≡◌, [], ◌∷◌, ◌⊎◌, Err};
+    ghost use Rattle.event_manager.specs.Error.TheVariants.{InvalidId};
+    ghost use Rattle.event_manager.specs.Registry.{Replaced, Refused};
+    ghost use Rattle.server.specs.Peers.{statistics_of as said_by};
 
-    // It changes nothing.
-    ghost may = { λ self steps reply. steps ≡ [] };
+    // It leaves the peer of the id as it is, and replies what that says; or nobody has the id.
+    ghost may = { λ self steps reply. ((peer : _) × (steps ≡ Replaced self.0 peer peer ∷ []) × (reply ≡ said_by peer))
+        ⊎ ((steps ≡ Refused self.0 ∷ []) × (reply ≡ Err InvalidId)) };
 
     ghost replies = { λ reply. Unit {0} };
 
@@ -106,9 +128,9 @@ impl<R: Wait + Drop> Job<Peer<R>> for ReadStatistics {
         registry: &mut Registry<Peer<R>, P>,
         _rt: &W,
     ) -> Result<Statistics> {
-        match registry.subscriber(self.0)? {
-            Either::First(acceptor) => acceptor.asked.map(|()| acceptor.statistics),
-            Either::Second(_) => Err(Error::InvalidId),
+        match registry.subscriber_mut(self.0) {
+            Ok(peer) => statistics_of(peer),
+            Err(error) => Err(error),
         }
     }
 }

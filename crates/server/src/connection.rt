@@ -76,15 +76,17 @@ impl<R: Drop> Connection<R> {
 }
 
 impl<R: Wait> MutEventSubscriber for Connection<R> {
-    ghost use Rattle.std.specs.Prelude.{◌≡◌, [], ◌∷◌};
-    ghost use Rattle.event_manager.specs.Exchange.{AsksNothing, requests_of};
+    ghost use Rattle.std.specs.Prelude.{◌≡◌, ◌==◌, ◌||◌, [], ◌∷◌, true, not, is_ok, bit_and, MatchBool};
+    ghost use Rattle.event_manager.specs.CounterEvents.{next_count};
+    ghost use Rattle.event_manager.specs.Exchange.{AsksNothing, requests_of, answers_of, first_refusal};
     ghost use Rattle.event_manager.specs.Request.TheVariants.{Add};
 
-    // It asks to add its socket and its timer.
-    ghost begins = { λ v exchanges w. requests_of exchanges ≡ Add v.input ∷ Add v.idle ∷ [] };
+    // It asks to add its socket and its timer, and is over where either is refused.
+    ghost begins = { λ v exchanges w. (requests_of exchanges ≡ Add v.input ∷ Add v.idle ∷ []) × (w ≡ record v { is_over = not (is_ok (first_refusal (answers_of exchanges))) }) };
 
-    // It takes nothing out: what it leaves behind goes when it leaves.
-    ghost serves = { λ v event exchanges w. AsksNothing exchanges };
+    // It takes nothing out: what it leaves behind goes when it leaves. By its timer or a hang-up it is over; else it has read.
+    ghost serves = { λ v event exchanges w. AsksNothing exchanges × MatchBool (event.payload == v.idle.payload || bit_and event.set 0x10 == 0x10)
+        (w ≡ record v { is_over = true }) (w ≡ record v { bytes = next_count v.bytes }) };
 
     fn process<P: EventPoller>(&mut self, events: Events, _ops: &mut EventOps<P>) {
         if events.data() == self.idle.data() || events.event_set().contains(EventSet::HANG_UP) {

@@ -13,11 +13,13 @@ pub struct Stop(pub SubscriberId);
 impl<R: Wait + Print + Drop> Job<Wheel<R>> for Stop {
     type Reply = Result<()>;
 
-    ghost use Rattle.std.specs.Prelude.{◌≡◌, [], ◌∷◌, ◌⊎◌, true};
+    ghost use Rattle.std.specs.Prelude.{◌≡◌, [], ◌∷◌, ◌⊎◌, true, Ok, Err};
+    ghost use Rattle.event_manager.specs.Error.TheVariants.{InvalidId};
     ghost use Rattle.event_manager.specs.Registry.{Step, Replaced, Refused};
     ghost use Rattle.timers.specs.declared.wheel.Wheel.{Wheel};
 
-    ghost may = { λ self steps reply. ((old : Wheel R) × (steps ≡ Replaced self.0 old (record old { stopped = true }) ∷ [])) ⊎ (steps ≡ Refused self.0 ∷ []) };
+    ghost may = { λ self steps reply. ((old : Wheel R) × (steps ≡ Replaced self.0 old (record old { stopped = true }) ∷ []) × (reply ≡ Ok tt))
+        ⊎ ((steps ≡ Refused self.0 ∷ []) × (reply ≡ Err InvalidId)) };
 
     ghost replies = { λ reply. Unit {0} };
 

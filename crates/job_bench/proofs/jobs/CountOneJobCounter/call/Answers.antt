@@ -1,4 +1,4 @@
-use Rattle.std.proofs.Common.{rules, refl, ap, [], ◌∷◌, inl, inr}
+use Rattle.std.proofs.Common.{rules, refl, ap, [], ◌∷◌, inl, inr, Ok}
 use Rattle.event_manager.specs.Registry.{Replaced, Refused}
 use Rattle.event_manager.proofs.OneStep.{replaced_step, refused_step}
 use Rattle.job_bench.proofs.jobs.CountOneJobCounter.call.Goals as goal
@@ -8,7 +8,7 @@ returns-in-Ok-clause-stepped g c =
     let old = c.in-Ok.counter.now in
     let new = c.count_one.new.self in (
       Replaced c.args.self.0 old new ∷ [],
-      inl (old, ap (λ counter. Replaced c.args.self.0 old counter ∷ []) c.count_one.ensures),
+      inl (old, ap (λ counter. Replaced c.args.self.0 old counter ∷ []) c.count_one.ensures, ap (λ counter. Ok counter.count) c.count_one.ensures),
       replaced_step _ _ c.args.self.0 old new c.in-Ok.ensures.found (c.subscriber_mut.follows.holds new (rw c.in-Ok.is refl)),
     )
 
