@@ -1,8 +1,6 @@
 //! What a program's own contract can say of a list of calls: who left is asked for nothing.
 
 ghost use Rattle.std.specs.Prelude.{◌≡◌, [], ◌∷◌, ◌++◌, OnOk, Result, Ok, Err};
-ghost use Rattle.event_manager.specs.Manager.{state_of};
-ghost use Rattle.event_manager.specs.Registry.{AreBelow};
 ghost use Rattle.event_manager.specs.Error.{Error};
 ghost use Rattle.event_manager.specs.Error.TheVariants.{InvalidId};
 ghost use Rattle.event_manager.specs.declared.calls.Reply.{Reply};
@@ -56,7 +54,7 @@ where
     N: Naming,
     P: EventPoller,
     R: Wait + Clock,
-    ensures { AreBelow (state_of manager.old).registry.next (state_of manager.old).registry.values → OnOk result ((first second third fourth : Reply S)
+    ensures { OnOk result ((first second third fourth : Reply S)
         × (replies.new.items ≡ replies.old.items ++ first ∷ second ∷ third ∷ fourth ∷ []) × ((gone : S) → first ≡ Removed (Ok gone) → fourth ≡ Asked (Err InvalidId))) }
 {
     let mut calls = Vec::new(alloc);

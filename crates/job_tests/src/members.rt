@@ -74,11 +74,13 @@ struct Renumber {
 impl<R: Wait + Drop> Job<Noting<R>> for Renumber {
     type Reply = Result<()>;
 
-    ghost use Rattle.std.specs.Prelude.{◌≡◌, [], ◌∷◌, ◌⊎◌};
+    ghost use Rattle.std.specs.Prelude.{◌≡◌, [], ◌∷◌, ◌⊎◌, Ok, Err};
+    ghost use Rattle.event_manager.specs.Error.TheVariants.{InvalidId};
     ghost use Rattle.event_manager.specs.Registry.{Step, Replaced, Refused};
     ghost use Rattle.fixtures.specs.declared.noting.Noting.{Noting};
 
-    ghost may = { λ self steps reply. ((old : Noting R) × (steps ≡ Replaced self.id old (record old { number = self.number }) ∷ [])) ⊎ (steps ≡ Refused self.id ∷ []) };
+    ghost may = { λ self steps reply. ((old : Noting R) × (steps ≡ Replaced self.id old (record old { number = self.number }) ∷ []) × (reply ≡ Ok tt))
+        ⊎ ((steps ≡ Refused self.id ∷ []) × (reply ≡ Err InvalidId)) };
 
     ghost replies = { λ reply. Unit {0} };
 

@@ -24,22 +24,24 @@ use vmm_sys::script_poller::ScriptPoller;
 /// Adds two descriptors when it is added, and asks for nothing at an event.
 #[derive(Drop)]
 struct Pair {
-    first: u8,
-    second: u8,
+    first: Events,
+    second: Events,
 }
 
 impl MutEventSubscriber for Pair {
-    ghost use Rattle.std.specs.Prelude.{◌≡◌, []};
+    ghost use Rattle.std.specs.Prelude.{◌≡◌, [], ◌∷◌};
+    ghost use Rattle.event_manager.specs.Exchange.{Answer};
+    ghost use Rattle.event_manager.specs.Request.TheVariants.{Add};
 
-    ghost begins = { λ before exchanges after. after ≡ before };
+    ghost begins = { λ v exchanges w. (one two : Answer) × (exchanges ≡ (Add v.first, one) ∷ (Add v.second, two) ∷ []) × (w ≡ v) };
 
-    ghost serves = { λ before event exchanges after. (exchanges ≡ []) × (after ≡ before) };
+    ghost serves = { λ v event exchanges w. (exchanges ≡ []) × (w ≡ v) };
 
     fn process<P: EventPoller>(&mut self, _events: Events, _ops: &mut EventOps<P>) {}
 
     fn init<P: EventPoller>(&mut self, ops: &mut EventOps<P>) {
-        let _ = ops.add(wanted(self.first));
-        let _ = ops.add(wanted(self.second));
+        let _ = ops.add(self.first);
+        let _ = ops.add(self.second);
     }
 }
 
@@ -109,7 +111,10 @@ impl<R: Wait + Clock + Abort, S: MutEventSubscriber + Drop> WithManager for Requ
 }
 
 fn pair_of(first: u8, second: u8) -> Pair {
-    Pair { first, second }
+    Pair {
+        first: wanted(first),
+        second: wanted(second),
+    }
 }
 
 /// The first makes these requests, and a neighbour none; then both leave.

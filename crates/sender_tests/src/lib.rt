@@ -2,6 +2,8 @@
 #![tactic(auto)]
 
 #[cfg(test)]
+mod bystanders;
+#[cfg(test)]
 mod callers;
 #[cfg(test)]
 mod closed;
@@ -17,6 +19,8 @@ mod looks;
 mod loops;
 #[cfg(test)]
 mod meetings;
+#[cfg(test)]
+mod rounds;
 #[cfg(test)]
 mod threads;
 #[cfg(test)]

@@ -306,19 +306,32 @@ impl<'a, R: Looping> LoopWithSenders<Idle, Work, Staying<'a>, R> for Leaving<'a>
     }
 }
 
-/// A script of one event of the endpoint's, and a refused wait.
-fn script_of_one<R: Abort>(rt: &R, alloc: Global) -> ScriptPoller {
-    let mut script = ScriptPoller::new(alloc);
+/// Appends one event of the endpoint's.
+fn push_one<R: Abort>(rt: &R, alloc: Global, script: &mut ScriptPoller) {
     let event = EpollEvent::new(EventSet::IN, 0);
     let report = expect_ok(rt, vec![in alloc; event]);
     expect_ok(rt, script.push_report(report));
+}
+
+/// A script of one event of the endpoint's, and a refused wait.
+fn script_of_one_and_fault<R: Abort>(rt: &R, alloc: Global) -> ScriptPoller {
+    let mut script = ScriptPoller::new(alloc);
+    push_one(rt, alloc, &mut script);
     expect_ok(rt, script.push_fault(Errno::EBADF));
+    script
+}
+
+/// The two in the other order.
+fn script_of_fault_and_one<R: Abort>(rt: &R, alloc: Global) -> ScriptPoller {
+    let mut script = ScriptPoller::new(alloc);
+    expect_ok(rt, script.push_fault(Errno::EBADF));
+    push_one(rt, alloc, &mut script);
     script
 }
 
 /// Expects that a loop which ends in this way is closed, and answers this.
 fn expect_closed<R: Host>(rt: &R, alloc: Global, is_refused: bool, answer: Result<()>) {
-    let script = script_of_one(rt, alloc);
+    let script = script_of_one_and_fault(rt, alloc);
     let parts = expect_ok(rt, silent_parts(*rt, alloc, script));
     let notes = expect_ok(rt, new_notes(alloc));
     let mut body = Leaving {
@@ -388,6 +401,17 @@ fn what_the_last_sender_fired_is_run(rt: HostRuntime) {
     expect_same(&rt, &ended.ran, &Ok(()));
     expect_same(&rt, &(ended.issued, ended.taken), &(1, 1));
     expect_noted(&rt, &notes, &[1]);
+}
+
+#[test]
+fn a_refused_run_behind_the_last_sender_is_told(rt: HostRuntime) {
+    let script = script_of_fault_and_one(&rt, rt.alloc());
+    let parts = expect_ok(&rt, silent_parts(rt, rt.alloc(), script));
+    let notes = expect_ok(&rt, new_notes(rt.alloc()));
+    let ended = expect_ok(&rt, beside_senders(&rt, parts, &mut Late { notes: &notes }));
+    expect_same(&rt, &ended.ran, &Err(Error::Epoll(Errno::EBADF)));
+    expect_same(&rt, &(ended.issued, ended.taken), &(1, 0));
+    expect_noted(&rt, &notes, &[]);
 }
 
 /// How many descriptors stay ready: of these and the endpoint behind some of them a batch, of at most 256, leaves many out.

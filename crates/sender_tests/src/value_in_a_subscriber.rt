@@ -67,11 +67,14 @@ struct Order {
 impl Job<Stoppable> for Order {
     type Reply = Result<u64>;
 
-    ghost use Rattle.std.specs.Prelude.{◌≡◌, [], ◌∷◌, ◌⊎◌, Ok};
+    ghost use Rattle.std.specs.Prelude.{◌≡◌, [], ◌∷◌, ◌⊎◌, Ok, Err};
+    ghost use Rattle.event_manager.specs.Error.TheVariants.{InvalidId};
     ghost use Rattle.event_manager.specs.Registry.{Replaced, Refused};
     ghost use Rattle.sender_tests.specs.declared.value_in_a_subscriber.Stoppable.{Stoppable};
 
-    ghost may = { λ self steps reply. ((old new : Stoppable) × (steps ≡ Replaced self.id old new ∷ []) × (reply ≡ Ok old.value)) ⊎ (steps ≡ Refused self.id ∷ []) };
+    // Which change it makes is seen by what the caller is answered next.
+    ghost may = { λ self steps reply. ((old new : Stoppable) × (steps ≡ Replaced self.id old new ∷ []) × (reply ≡ Ok old.value))
+        ⊎ ((steps ≡ Refused self.id ∷ []) × (reply ≡ Err InvalidId)) };
 
     ghost replies = { λ reply. Unit {0} };
 

@@ -4,6 +4,8 @@
 #[cfg(test)]
 mod cells;
 #[cfg(test)]
+mod costs;
+#[cfg(test)]
 mod counting;
 #[cfg(test)]
 mod expecting;

@@ -45,16 +45,25 @@ fn call_beside_job<N: Naming, R: Looping>(
     expect_ok(rt, endpoint.call_blocking(third, rt));
 }
 
-/// Sends a job, and another one as soon as the first is taken. Goes on once both were run.
-fn fire_behind_take<N: Naming, R: Looping>(rt: &R, endpoint: &Endpoint<N>, progress: &Shared) {
+/// Sends a job, and another one as soon as the first is taken: by `fire`, or by `fire_after`. Goes on once both were run.
+fn fire_behind_take<N: Naming, R: Looping>(
+    rt: &R,
+    endpoint: &Endpoint<N>,
+    progress: &Shared,
+    is_after: bool,
+) {
     let (first, second) = (Task::count(rt, progress), Task::count(rt, progress));
-    expect_ok(rt, endpoint.fire(first, rt));
+    let shown = expect_ok(rt, endpoint.fire(first, rt));
     for _look in 0..LOOKS {
         if endpoint.pending() == Some(0) {
             break;
         }
     }
-    expect_ok(rt, endpoint.fire(second, rt));
+    let sent = match is_after {
+        true => endpoint.fire_after(&shown, second, rt),
+        false => endpoint.fire(second, rt),
+    };
+    expect_ok(rt, sent);
     for _look in rt.forever() {
         if Arc::strong_count(progress) == 1 {
             break;
@@ -72,7 +81,7 @@ fn send_round<N: Naming, R: Looping>(
     if round % 2 == 0 {
         call_beside_job(rt, endpoint, progress, round / 2)
     } else {
-        fire_behind_take(rt, endpoint, progress)
+        fire_behind_take(rt, endpoint, progress, round % 4 == 3)
     }
 }
 

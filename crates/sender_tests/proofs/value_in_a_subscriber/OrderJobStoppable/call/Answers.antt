@@ -1,4 +1,4 @@
-use Rattle.std.proofs.Common.{rules, refl, [], ◌∷◌, inl, inr}
+use Rattle.std.proofs.Common.{rules, refl, ap, [], ◌∷◌, inl, inr, Err}
 use Rattle.event_manager.specs.Registry.{Replaced, Refused}
 use Rattle.event_manager.proofs.OneStep.{replaced_step, refused_step}
 use Rattle.sender_tests.proofs.value_in_a_subscriber.OrderJobStoppable.call.Goals as goal
@@ -15,6 +15,6 @@ returns-in-Ok-clause-stepped g c =
 pub returns-in-Err-clause-stepped : goal.returns-in-Err-clause-stepped
 returns-in-Err-clause-stepped g c = (
   Refused c.args.self.id ∷ [],
-  inr refl,
+  inr (refl, ap Err c.in-Err.ensures.lost.0),
   refused_step _ _ c.args.self.id c.in-Err.ensures.lost.1 (rw c.in-Err.is at c.subscriber_mut.follows.holds-at-none),
 )
