@@ -1,17 +1,19 @@
-/* Refuses requests for memory of the program that it is preloaded into, and counts them.
+/* Refuses requests for memory, or for threads, of the program that it is preloaded into, and counts them.
 
    Counted are the calls of malloc, calloc, realloc, aligned_alloc and posix_memalign from the moment at which libc calls
    the program's main until main returns or the program calls _exit, on every thread; so those of libc's own start and end
    are left alone, and those that libc makes while main runs, as for a thread, are counted. Requests are numbered from 1.
 
    REFUSE_REQUEST=N refuses the Nth request, REFUSE_FROM=N the Nth and all behind it; of neither none is refused.
-   REFUSE_REPORT=FILE writes into the file, when the program has ended, the number of requests, and behind it how many
-   there had been at each reading of the clock (clock_gettime), in order: so a program marks what lies between two of its
-   calls. */
+   REFUSE_THREAD=N and REFUSE_THREADS_FROM=N do the same with the calls of pthread_create, which are numbered from 1 too.
+   REFUSE_REPORT=FILE writes into the file, when the program has ended, the number of requests, that of threads, and behind
+   them how many requests there had been at each reading of the clock (clock_gettime), in order: so a program marks what
+   lies between two of its calls. */
 
 #define _GNU_SOURCE
 #include <dlfcn.h>
 #include <errno.h>
+#include <pthread.h>
 #include <stdatomic.h>
 #include <stdio.h>
 #include <stdlib.h>
@@ -26,16 +28,31 @@ extern void *__libc_calloc(size_t, size_t);
 extern void *__libc_realloc(void *, size_t);
 extern void *__libc_memalign(size_t, size_t);
 
-static atomic_bool counting;
-static atomic_ulong requests, marks, mark[MOST_MARKS];
-static unsigned long refused, refused_from;
+typedef void *entry(void *);
+typedef int creation(pthread_t *, const pthread_attr_t *, entry *, void *);
 
-static int is_refused(void)
+/* What is counted, and what of it is refused: the one of a number, and all from a number on. */
+struct counted {
+    atomic_ulong count;
+    unsigned long refused, refused_from;
+};
+
+static atomic_bool counting;
+static atomic_ulong marks, mark[MOST_MARKS];
+static struct counted requests, threads;
+static creation *create;
+
+static int is_next_refused(struct counted *counted)
 {
     if (!counting)
         return 0;
-    unsigned long number = ++requests;
-    if (number != refused && (refused_from == 0 || number < refused_from))
+    unsigned long number = ++counted->count;
+    return number == counted->refused || (counted->refused_from != 0 && number >= counted->refused_from);
+}
+
+static int is_refused(void)
+{
+    if (!is_next_refused(&requests))
         return 0;
     errno = ENOMEM;
     return 1;
@@ -70,12 +87,17 @@ int posix_memalign(void **out, size_t alignment, size_t size)
     return 0;
 }
 
+int pthread_create(pthread_t *thread, const pthread_attr_t *attributes, entry *entry, void *argument)
+{
+    return is_next_refused(&threads) ? EAGAIN : create(thread, attributes, entry, argument);
+}
+
 int clock_gettime(clockid_t clock, struct timespec *now)
 {
     if (counting) {
         unsigned long place = marks++;
         if (place < MOST_MARKS)
-            mark[place] = requests;
+            mark[place] = requests.count;
     }
     return syscall(SYS_clock_gettime, clock, now);
 }
@@ -92,7 +114,7 @@ static void report(void)
     FILE *file = path ? fopen(path, "w") : NULL;
     if (file == NULL)
         return;
-    fprintf(file, "%lu\n", requests);
+    fprintf(file, "%lu\n%lu\n", requests.count, threads.count);
     for (unsigned long k = 0; k < marks && k < MOST_MARKS; k++)
         fprintf(file, "%lu\n", mark[k]);
     fclose(file);
@@ -128,7 +150,10 @@ int __libc_start_main(int (*entry)(int, char **, char **), int argc, char **argv
 {
     start *real = (start *)dlsym(RTLD_NEXT, "__libc_start_main");
     program = entry;
-    refused = number_of("REFUSE_REQUEST");
-    refused_from = number_of("REFUSE_FROM");
+    create = (creation *)dlsym(RTLD_NEXT, "pthread_create");
+    requests.refused = number_of("REFUSE_REQUEST");
+    requests.refused_from = number_of("REFUSE_FROM");
+    threads.refused = number_of("REFUSE_THREAD");
+    threads.refused_from = number_of("REFUSE_THREADS_FROM");
     return real(counted_program, argc, argv, init, fini, loader_fini, stack_end);
 }

@@ -7,6 +7,7 @@ use refused_calls::fault::{Fault, Refusal, expect, named};
 use refused_calls::host::{Host, Loop, mark, tell};
 use refused_calls::making::{Body, Manager, open_table, over_table};
 use refused_calls::subscribers::{ask_with_priority, heard, join};
+use refused_calls::watcher::Watcher;
 use std::alloc::Global;
 use vmm_sys::eventfd::EventFd;
 
@@ -111,6 +112,24 @@ impl<R: Loop> Bracketing<'_, R> {
         Ok(())
     }
 
+    /// Lets another join in the place of one that left.
+    fn join_again<N: Naming, P: EventPoller>(
+        &self,
+        manager: &mut Manager<N, P>,
+        own: Events,
+    ) -> Result<(), Fault> {
+        let watcher = Watcher::new(own, self.alloc);
+        mark(self.rt)?;
+        let joined = manager.add_subscriber(watcher);
+        mark(self.rt)?;
+        let id = named(CallName::AddSubscriber, joined)?;
+        println!(self.rt;
+            "between marks: add_subscriber of id {} in a place that was left",
+            id.number()
+        )?;
+        Ok(())
+    }
+
     /// Makes the calls.
     fn call_all<N: Naming, P: EventPoller>(
         &self,
@@ -124,7 +143,8 @@ impl<R: Loop> Bracketing<'_, R> {
         self.request(manager, id, own)?;
         self.run_with_priority(manager, id, own)?;
         let last = join(manager, own, self.alloc)?;
-        self.leave(manager, last)
+        self.leave(manager, last)?;
+        self.join_again(manager, own)
     }
 }
 

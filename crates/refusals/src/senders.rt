@@ -11,6 +11,7 @@ use refused_calls::host::Host;
 use refused_calls::making::{Manager, OnTable, copy_counter, open_table};
 use refused_calls::watcher::Watcher;
 use std::alloc::Global;
+use std::sync::atomic::{AtomicU64, Ordering};
 use std::thread::Threads;
 
 /// How many jobs each thread calls.
@@ -18,36 +19,41 @@ const CALLS: u64 = 3;
 
 /// The loop's side, which has no subscriber, and so many callers.
 #[derive(Drop)]
-struct Callers(u64);
+struct Callers<'a> {
+    count: u64,
+    /// How many replies they had.
+    served: &'a AtomicU64,
+}
 
 /// Calls jobs, whose numbers are those from the first up.
 #[derive(Clone, Copy)]
-struct Caller {
+struct Caller<'a> {
     first: u64,
     /// Whether nobody else calls, so that a refused call leaves no job behind.
     is_alone: bool,
+    served: &'a AtomicU64,
 }
 
-impl<R: Host> LoopWithSenders<Watcher, Echo, Caller, R> for Callers {
+impl<'a, R: Host> LoopWithSenders<Watcher, Echo, Caller<'a>, R> for Callers<'a> {
     fn begin<N: Naming, P: EventPoller>(
         &mut self,
         _rt: &R,
         alloc: Global,
         _manager: &mut Manager<N, P>,
-    ) -> event_manager::Result<Vec<Caller>> {
-        let Callers(count) = *self;
+    ) -> event_manager::Result<Vec<Caller<'a>>> {
         let mut callers = Vec::new(alloc);
-        for k in 0..count {
+        for k in 0..self.count {
             callers.push(Caller {
                 first: k.saturating_mul(CALLS),
-                is_alone: count == 1,
+                is_alone: self.count == 1,
+                served: self.served,
             })?;
         }
         Ok(callers)
     }
 }
 
-impl<R: Host> Sender<Watcher, Echo, Result<u64, Fault>, R> for Caller {
+impl<R: Host> Sender<Watcher, Echo, Result<u64, Fault>, R> for Caller<'_> {
     /// Answers how many replies there were, each of them its job's number.
     fn send<N: Naming>(self, endpoint: &Endpoint<N>, rt: &R) -> Result<u64, Fault> {
         let name = CallName::CallBlocking;
@@ -58,6 +64,7 @@ impl<R: Host> Sender<Watcher, Echo, Result<u64, Fault>, R> for Caller {
                 endpoint.call_blocking(Echo(number), rt),
                 !self.is_alone || endpoint.pending() == Some(0)
             )?;
+            self.served.fetch_add(1, Ordering::SeqCst);
             expect(name, reply == number)?;
         }
         Ok(CALLS)
@@ -69,16 +76,18 @@ fn run_once<R: Host + Threads + Sync>(
     rt: &R,
     alloc: Global,
     on_table: &OnTable<R>,
-    callers: u64,
+    count: u64,
+    served: &AtomicU64,
 ) -> Result<event_manager::Result<Ended<Result<u64, Fault>>>, Fault> {
     let poller = copy_epoll(&on_table.epoll)?;
     let endpoint = copy_counter(&on_table.endpoint)?;
-    let mut callers = Callers(callers);
+    let mut callers = Callers { count, served };
     Ok(with_senders(rt, alloc, poller, endpoint, &mut callers))
 }
 
 /// Runs a loop over a table beside so many threads, which call jobs of it, and prints under the name what came of them.
-/// Where the loop is refused, at most the endpoint is left in the table, which the manager registers when it is made.
+/// Where the loop is refused, as for want of one of the threads, no other has had a reply; and at most the endpoint is left
+/// in the table, which the manager registers when it is made.
 fn run_beside<R: Host + Threads + Sync>(
     rt: &R,
     alloc: Global,
@@ -87,10 +96,11 @@ fn run_beside<R: Host + Threads + Sync>(
 ) -> Result<(), Fault> {
     let mut on_table = open_table(rt, alloc)?;
     let name = CallName::WithSenders;
+    let served = AtomicU64::new(0);
     let ended = again!(
         name,
-        run_once(rt, alloc, &on_table, callers)?,
-        is_taken_out(&mut on_table.epoll, 0)
+        run_once(rt, alloc, &on_table, callers, &served)?,
+        is_taken_out(&mut on_table.epoll, 0) && served.load(Ordering::SeqCst) == 0
     )?;
     named(name, ended.ran)?;
     let mut replies = 0u64;
