@@ -1,8 +1,8 @@
 -- A loop that makes requests one after another, and keeps their answers, or the first that is a refusal.
-use Rattle.std.proofs.Common.{◌≡◌, ℕ, ◌+◌, ◌<◌, ◌≤◌, List, [], ◌∷◌, ◌++◌, length, take, get_or, refl, sym, ap, ◌∙◌, Ok, Err}
+use Rattle.std.proofs.Common.{◌≡◌, ℕ, ◌+◌, ◌<◌, ◌≤◌, List, [], ◌∷◌, ◌++◌, length, take, get_or, refl, sym, ap, ◌∙◌, arith, Ok, Err}
 use Rattle.std.specs.Result.{result_and}
 use Rattle.std.proofs.lemmas.List.{map-append, take_more, take_all}
-use Rattle.event_loop.specs.Exchange.{Exchanges, Answer, requests_of, answers_of, first_refusal}
+use Rattle.event_loop.specs.Exchange.{Exchanges, Answer, requests_of, answers_of, answered_at, first_refusal_from}
 use Rattle.event_loop.specs.PollerCall.{PollerCall, Controls, Waits}
 use Rattle.event_loop.specs.Requests.{AreMadeThrough}
 use Rattle.event_loop.specs.declared.ops.EventOps.{EventOps}
@@ -38,15 +38,12 @@ module _ {P : Type 0} {controls : Controls P} {waits : Waits P} where
       → (exchanges : Exchanges) × (calls : List PollerCall) × (requests_of exchanges ≡ requests) × (answers_of exchanges ≡ answers) × AreMadeThrough controls waits b a exchanges calls
   all_requested {requests = requests} {n = n} so_far past = (so_far.exchanges, so_far.calls, so_far.requests_are ∙ take_all n requests past, so_far.answers_are, so_far.made)
 
-refusal_joined : (answers : List Answer) (next : Answer) → first_refusal (answers ++ next ∷ []) ≡ result_and (first_refusal answers) (first_refusal (next ∷ []))
-refusal_joined [] next = refl
-refusal_joined (Ok entry ∷ answers) next = refusal_joined answers next
-refusal_joined (Err error ∷ answers) next = refl
-
-refusal_alone : (next : Answer) → first_refusal (next ∷ []) ≡ next
-refusal_alone (Ok entry) = refl
-refusal_alone (Err error) = refl
+refusal_alone : (k m : ℕ) (next : Answer) → k ≡ m → first_refusal_from k (next ∷ []) ≡ answered_at m next
+refusal_alone k m (Ok entry) same = refl
+refusal_alone k m (Err error) same = ap (λ index. answered_at index (Err error)) same
 
 -- the first refusal of one answer more
-pub next_refusal : (answers : List Answer) (next : Answer) → first_refusal (answers ++ next ∷ []) ≡ result_and (first_refusal answers) next
-next_refusal answers next = refusal_joined answers next ∙ ap (result_and (first_refusal answers)) (refusal_alone next)
+pub next_refusal : (k m : ℕ) (answers : List Answer) (next : Answer) → k + length answers ≡ m → first_refusal_from k (answers ++ next ∷ []) ≡ result_and (first_refusal_from k answers) (answered_at m next)
+next_refusal k m [] next is = refusal_alone k m next (omega (arith, is))
+next_refusal k m (Ok entry ∷ answers) next is = next_refusal (k + 1) m answers next (omega (arith, is))
+next_refusal k m (Err error ∷ answers) next is = refl

@@ -1,9 +1,10 @@
 -- Counters of events, and what is observed beside them.
-use Rattle.std.specs.Prelude.{ℕ, ℤ, ◌+◌, ◌==◌, min, false, true, List, ◌++◌, codes, decimal, Option, Some, None, Ok, Err, unsigned_abs, if◌then◌else◌}
+use Rattle.std.specs.Prelude.{ℕ, ℤ, ◌+◌, ◌==◌, min, false, true, List, ◌++◌, codes, decimal, Option, Some, None, Result, Ok, Err, unsigned_abs, if◌then◌else◌}
 use Rattle.std.specs.Fmt.{signed_decimal}
 use Rattle.dispatch_tables.specs.Event.{Event}
 use Rattle.event_loop.specs.Exchange.{Answer}
 use Rattle.event_loop.specs.declared.error.Error.{Error}
+use Rattle.event_loop.specs.declared.events.RefusedRequest.{RefusedRequest}
 use Rattle.event_loop.specs.declared.utilities.subscribers.counter.Counter.{Counter}
 use Rattle.event_loop.specs.declared.utilities.subscribers.event_kind.EventKind.{EventKind}
 use Rattle.event_loop.specs.declared.utilities.subscribers.event_kind.EventKind.TheVariants as kind
@@ -57,6 +58,11 @@ first_fault (Err error) (Some first) = Some first
 
 abbrev pub with_fault : Answer → Observations → Observations
 with_fault answer observed = record observed { fault = first_fault answer observed.fault }
+
+-- of a list of requests
+abbrev pub with_first_fault : Result (Unit {0}) RefusedRequest → Observations → Observations
+with_first_fault (Ok entry) observed = observed
+with_first_fault (Err refused) observed = with_fault (Err refused.error) observed
 
 abbrev pub with_hang_up : Answer → Observations → Observations
 with_hang_up answer observed = with_fault answer (record observed { hung_up = true })

@@ -2,7 +2,7 @@
 use Rattle.std.specs.Prelude.{◌≡◌, ℕ, ◌+◌, ◌==◌, Bool, false, List, [], ◌∷◌, ◌++◌, map, if◌then◌else◌}
 use Rattle.dispatch_tables.specs.Event.{Event}
 use Rattle.event_loop.specs.Exchange.{Answer, Exchanges, requests_of, answers_of, first_refusal}
-use Rattle.event_loop.specs.CounterEvents.{kind_of, count_of, one_more, event_on, with_error, with_spurious, with_fault, with_hang_up}
+use Rattle.event_loop.specs.CounterEvents.{kind_of, count_of, one_more, event_on, with_error, with_spurious, with_first_fault, with_hang_up}
 use Rattle.event_loop.specs.declared.events.Request.{Request}
 use Rattle.event_loop.specs.declared.events.Request.TheVariants.{Add, Remove}
 use Rattle.event_loop.specs.declared.utilities.subscribers.event_kind.EventKind.{EventKind}
@@ -38,7 +38,7 @@ abbrev pub renewal : CounterSubscriberWithData → List Request
 renewal v = if v.toggle_registry then map Remove (wanted v) ++ map Add (wanted v) else []
 
 abbrev pub renewed : Exchanges → CounterSubscriberWithData → CounterSubscriberWithData
-renewed exchanges v = record v { toggle_registry = false; observations = with_fault (first_refusal (answers_of exchanges)) v.observations }
+renewed exchanges v = record v { toggle_registry = false; observations = with_first_fault (first_refusal (answers_of exchanges)) v.observations }
 
 -- one event more of the counter that has this data
 abbrev pub counted : ℕ → CounterSubscriberWithData → CounterSubscriberWithData
@@ -49,7 +49,7 @@ counted payload v =
     else record v { observations = with_spurious v.observations }))
 
 abbrev pub data_begins : CounterSubscriberWithData → Exchanges → CounterSubscriberWithData → Type 0
-data_begins v exchanges w = (requests_of exchanges ≡ map Add (wanted v)) × (w ≡ record v { observations = with_fault (first_refusal (answers_of exchanges)) v.observations })
+data_begins v exchanges w = (requests_of exchanges ≡ map Add (wanted v)) × (w ≡ record v { observations = with_first_fault (first_refusal (answers_of exchanges)) v.observations })
 
 abbrev pub data_row : EventKind → CounterSubscriberWithData → Event → Exchanges → CounterSubscriberWithData → Type 0
 data_row Input v event exchanges w = (exchanges ≡ []) × (w ≡ counted event.payload v)

@@ -1,6 +1,7 @@
 -- Requests of a subscriber, their answers, and what they do to the registrations.
-use Rattle.std.specs.Prelude.{◌≡◌, ℕ, ◌==◌, ℤ, Bool, false, List, [], ◌∷◌, ◌++◌, map, ◌⊎◌, Result, Ok, Err, pos}
+use Rattle.std.specs.Prelude.{◌≡◌, ℕ, ◌+◌, ◌==◌, ℤ, Bool, false, List, [], ◌∷◌, ◌++◌, map, ◌⊎◌, Result, Ok, Err, pos}
 use Rattle.std.specs.List.{list_any}
+use Rattle.std.specs.Result.{result_and}
 use Rattle.std.specs.FinMap as finite
 use Rattle.dispatch_tables.specs.Event.{Event}
 use Rattle.event_loop.specs.PollerCall.{PollerCall, Control}
@@ -12,6 +13,7 @@ use Rattle.vmm_sys.specs.declared.entries.ControlOperation.{ControlOperation}
 use Rattle.vmm_sys.specs.declared.entries.ControlOperation.TheVariants as operation
 use Rattle.event_loop.specs.declared.error.Error.{Error}
 use Rattle.event_loop.specs.declared.error.Error.TheVariants.{Epoll, FdAlreadyRegistered, OutOfMemory}
+use Rattle.event_loop.specs.declared.events.RefusedRequest.{RefusedRequest}
 use Rattle.event_loop.specs.declared.events.Request.{Request}
 use Rattle.event_loop.specs.declared.events.Request.TheVariants.{Add, AddWithPriority, Modify, Remove}
 
@@ -111,11 +113,19 @@ requests_of exchanges = map (λ exchange. exchange.0) exchanges
 abbrev pub answers_of : Exchanges → List Answer
 answers_of exchanges = map (λ exchange. exchange.1) exchanges
 
--- the first answer that is a refusal; agreed where there is none
-abbrev pub first_refusal : List Answer → Answer
-first_refusal [] = agreed
-first_refusal (Ok entry ∷ answers) = first_refusal answers
-first_refusal (Err error ∷ answers) = Err error
+-- an answer to the request at an index
+abbrev pub answered_at : ℕ → Answer → Result (Unit {0}) RefusedRequest
+answered_at index (Ok entry) = Ok tt
+answered_at index (Err error) = Err (record { index = index; error = error })
+
+-- the first of the answers from an index on that is a refusal, with its index
+abbrev pub first_refusal_from : ℕ → List Answer → Result (Unit {0}) RefusedRequest
+first_refusal_from index [] = Ok tt
+first_refusal_from index (answer ∷ answers) = result_and (answered_at index answer) (first_refusal_from (index + 1) answers)
+
+-- the first answer that is a refusal, with its index from 0
+abbrev pub first_refusal : List Answer → Result (Unit {0}) RefusedRequest
+first_refusal answers = first_refusal_from 0 answers
 
 -- the exchanges of id i fit, each request from the registrations that the one before it left
 abbrev pub ExchangesFit : ℕ → Registrations → Exchanges → List PollerCall → Registrations → Type 0

@@ -139,7 +139,7 @@ impl ReadyList {
         self.at = 0;
         self.count = 0;
         self.cancelled.clear();
-        match poller.wait(ms, &mut self.buffer) {
+        match poller.poll(ms, &mut self.buffer) {
             Ok(count) => {
                 registrations.order(&mut self.buffer, count, &mut self.classed);
                 self.count = count;

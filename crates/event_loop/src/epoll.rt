@@ -185,7 +185,7 @@ impl<P: EventPoller> EpollWrapper<P> {
         ensures registrations { self.new.registrations ≡ self.old.registrations }
         ensures led { Leads P.controls P.waits self.old.poller (Control op events.fd events result ∷ []) self.new.poller }
     {
-        self.poller.ctl(op, events.number(), events)
+        self.poller.control(op, events.number(), events)
     }
 
     /// Frees all descriptors of the id, whose list is looked for at the place, and asks the poller one Delete for each,
@@ -196,7 +196,7 @@ impl<P: EventPoller> EpollWrapper<P> {
         let fds = self.registrations.take_watched(id, place);
         for fd in &fds {
             let event = Events::empty_raw(0);
-            let _ = self.poller.ctl(ControlOperation::Delete, *fd, event);
+            let _ = self.poller.control(ControlOperation::Delete, *fd, event);
         }
         self.registrations.keep_room(place, fds);
     }

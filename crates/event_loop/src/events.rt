@@ -5,6 +5,7 @@ ghost use Rattle.dispatch_tables.specs.Event.{event_of_entry};
 ghost use Rattle.event_loop.specs.PollerRelations.{packed};
 ghost use Rattle.vmm_sys.specs.EventSet.{bits_of};
 
+use crate::error::Error;
 use dispatch_tables::priority::Priority;
 use std::marker::Model;
 use vmm_sys::epoll::{AsRawFd, EpollEvent, EventSet, RawFd};
@@ -149,4 +150,21 @@ pub enum Request {
     Modify(Events),
     /// [`EventOps::remove`](crate::EventOps::remove).
     Remove(Events),
+}
+
+/// The first request of a list that was refused: what [`EventOps::request_all`](crate::EventOps::request_all) answers.
+#[derive(Clone, Copy, PartialEq, Eq, Debug)]
+pub struct RefusedRequest {
+    /// Its index in the list, from 0.
+    pub index: usize,
+    /// Why it was refused.
+    pub error: Error,
+}
+
+impl From<RefusedRequest> for Error {
+    ghost from_gives = { λ refused error. error ≡ refused.error };
+
+    fn from(refused: RefusedRequest) -> Error {
+        refused.error
+    }
 }

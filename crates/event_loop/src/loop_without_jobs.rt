@@ -8,6 +8,7 @@ ghost use Rattle.event_loop.specs.EventLoop.{seen_of, IsCapacityRefused};
 
 use crate::error::{Error, Result};
 use crate::ops::EventOps;
+use crate::parts::Subscribers;
 use crate::poller::{BoxedPoller, EventPoller};
 use crate::registry::Registry;
 use crate::subscriber_ops::SubscriberOps;
@@ -66,6 +67,15 @@ impl<S: MutEventSubscriber, P: EventPoller> EventLoop<S, P> {
         ensures { result.now ≡ (seen_of self.now).poller }
     {
         self.registry.poller()
+    }
+
+    /// Ends the loop, and hands out its subscribers by id and its poller, which is asked for nothing: what was added to it
+    /// stays there. Ours, the Rust crate has none.
+    pub fn into_parts(self) -> (Subscribers<S>, P)
+        ensures subscribers { result.0 ≡ (seen_of self).registry.values }
+        ensures poller { result.1 ≡ (seen_of self).poller }
+    {
+        self.registry.into_parts()
     }
 
     /// [`run_with_timeout`](EventLoop::run_with_timeout) without a limit.

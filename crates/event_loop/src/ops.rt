@@ -3,12 +3,13 @@
 ghost use Rattle.std.specs.Prelude.{◌≡◌, List, [], ◌∷◌};
 ghost use Rattle.event_loop.specs.PollerCall.{PollerCall};
 ghost use Rattle.event_loop.specs.Exchange.{Exchanges, requests_of, answers_of, first_refusal};
+ghost use Rattle.event_loop.specs.Exchange as specified;
 ghost use Rattle.event_loop.specs.Requests.{AreMadeThrough};
 ghost use Rattle.event_loop.specs.declared.events.Request.{Request};
 
 use crate::epoll::EpollWrapper;
 use crate::error::{Error, Result};
-use crate::events::{Events, Request};
+use crate::events::{Events, RefusedRequest, Request};
 use crate::poller::EventPoller;
 use dispatch_tables::priority::Priority;
 use vmm_sys::epoll::ControlOperation;
@@ -24,6 +25,16 @@ pub struct EventOps<P> {
     pub(crate) id: u64,
     // Where the subscriber is looked for first.
     pub(crate) place: usize,
+}
+
+// An answer to the request at this index of a list.
+fn answered_at(index: usize, answer: Result<()>) -> std::result::Result<(), RefusedRequest>
+    ensures { result ≡ specified.answered_at index answer }
+{
+    match answer {
+        Ok(()) => Ok(()),
+        Err(error) => Err(RefusedRequest { index, error }),
+    }
 }
 
 impl<P: EventPoller> EventOps<P> {
@@ -114,16 +125,16 @@ impl<P: EventPoller> EventOps<P> {
         (one, two)
     }
 
-    /// Makes requests in order, also after one that is refused. Answers the first refusal, or `Ok` where all were agreed
-    /// to. Takes no memory of its own.
-    pub fn request_all(&mut self, requests: &[Request]) -> Result<()>
+    /// Makes requests in order, also after one that is refused. Answers the first that was refused, with its index and why,
+    /// or `Ok` where all were agreed to. Takes no memory of its own.
+    pub fn request_all(&mut self, requests: &[Request]) -> std::result::Result<(), RefusedRequest>
         ensures { (exchanges : Exchanges) × (calls : List PollerCall) × (requests_of exchanges ≡ requests.now)
             × (result ≡ first_refusal (answers_of exchanges)) × AreMadeThrough P.controls P.waits self.old self.new exchanges calls }
     {
         let mut answer = Ok(());
-        for request in requests {
-            let next = self.request(*request);
-            answer = answer.and(next);
+        for index in 0..requests.len() {
+            let next = self.request(requests[index]);
+            answer = answer.and(answered_at(index, next));
         }
         answer
     }

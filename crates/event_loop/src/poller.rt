@@ -14,18 +14,19 @@ use vmm_sys::poller::Poller;
 ///
 /// Each type states two relations: which answer and which value after a call may give from the value before. All
 /// contracts of the manager speak of its poller by these relations alone, so they hold for every poller. Each `vmm_sys`
-/// poller is one, as it is; one whose type isn't known stands in a [`BoxedPoller`].
+/// poller is one, as it is; one whose type isn't known stands in a [`BoxedPoller`]. Its calls have names of their own, so
+/// that `ctl` and `wait` of a `vmm_sys` poller can be called where this trait is in use.
 pub trait EventPoller {
     ghost use Rattle.std.specs.Prelude.{ℕ, ℤ, List, Result};
     ghost use Rattle.vmm_sys.specs.declared.errno.Errno.{Errno};
     ghost use Rattle.vmm_sys.specs.declared.entries.ControlOperation.{ControlOperation};
     ghost use Rattle.dispatch_tables.specs.Event.{Event};
 
-    /// From a value, with an operation, a descriptor and an event: which answer `ctl` may give, and which value it
+    /// From a value, with an operation, a descriptor and an event: which answer `control` may give, and which value it
     /// may leave.
     ghost controls: { Self → ControlOperation → ℕ → Event → Result (Unit {0}) Errno → Self → Type 0 };
 
-    /// From a value, with the milliseconds and the capacity of the buffer: which report or refusal `wait` may
+    /// From a value, with the milliseconds and the capacity of the buffer: which report or refusal `poll` may
     /// give, and which value it may leave.
     ghost waits: { Self → ℤ → ℕ → Result (List Event) Errno → Self → Type 0 };
 
@@ -33,14 +34,14 @@ pub trait EventPoller {
     ///
     /// The event has the same descriptor, but for a `Delete` that comes from a subscriber's leaving: its event has
     /// descriptor 0, data 0 and the empty set.
-    fn ctl(&mut self, op: ControlOperation, fd: u32, event: Events) -> Result<(), Errno>
+    fn control(&mut self, op: ControlOperation, fd: u32, event: Events) -> Result<(), Errno>
         requires { fd < 2 ^ 31 }
         ensures { controls self.old op fd event result self.new };
 
     /// Waits for a report, and writes its entries into the front of the buffer; answers how many.
     ///
     /// `ms` is the limit in milliseconds: none where it is negative, no wait where it is 0.
-    fn wait(&mut self, ms: i32, buffer: &mut [EpollEvent]) -> Result<usize, Errno>
+    fn poll(&mut self, ms: i32, buffer: &mut [EpollEvent]) -> Result<usize, Errno>
         ensures count_fits { IfOk result (λ n. n ≤ length buffer.old) }
         ensures answer { waits self.old ms (length buffer.old) (report_of result buffer.new) self.new };
 }
@@ -58,11 +59,11 @@ impl EventPoller for BoxedPoller {
 
     ghost waits = { λ v ms capacity r w. (w.0.vtable ≡ v.0.vtable) × boxed.waits (Poller-box v.0) ((Poller-box v.0).meaning v.0.value) ms capacity r ((Poller-box w.0).meaning w.0.value) };
 
-    fn ctl(&mut self, op: ControlOperation, fd: u32, event: Events) -> Result<(), Errno> {
+    fn control(&mut self, op: ControlOperation, fd: u32, event: Events) -> Result<(), Errno> {
         self.0.ctl(op, fd as i32, event.epoll_event())
     }
 
-    fn wait(&mut self, ms: i32, buffer: &mut [EpollEvent]) -> Result<usize, Errno> {
+    fn poll(&mut self, ms: i32, buffer: &mut [EpollEvent]) -> Result<usize, Errno> {
         match self.0.wait(ms, buffer) {
             Ok(count) => Ok(count),
             Err(errno) => Err(errno),
@@ -75,12 +76,12 @@ impl<T: Poller> EventPoller for T {
 
     ghost waits = { λ v ms capacity r w. WaitsBy T.may_wait (T.meaning v) ms capacity r (T.meaning w) };
 
-    fn ctl(&mut self, op: ControlOperation, fd: u32, event: Events) -> Result<(), Errno> {
-        Poller::ctl(self, op, fd as i32, event.epoll_event())
+    fn control(&mut self, op: ControlOperation, fd: u32, event: Events) -> Result<(), Errno> {
+        self.ctl(op, fd as i32, event.epoll_event())
     }
 
-    fn wait(&mut self, ms: i32, buffer: &mut [EpollEvent]) -> Result<usize, Errno> {
-        match Poller::wait(self, ms, buffer) {
+    fn poll(&mut self, ms: i32, buffer: &mut [EpollEvent]) -> Result<usize, Errno> {
+        match self.wait(ms, buffer) {
             Ok(count) => Ok(count),
             Err(errno) => Err(errno),
         }

@@ -11,6 +11,7 @@ use crate::epoll::{EpollWrapper, RegistrationState};
 use crate::error::{Error, Result};
 use crate::events::Events;
 use crate::ops::EventOps;
+use crate::parts::Subscribers;
 use crate::poller::{BoxedPoller, EventPoller};
 use crate::subscriber_ops::SubscriberOps;
 use crate::subscribers::{MutEventSubscriber, SubscriberId};
@@ -174,6 +175,20 @@ impl<S: MutEventSubscriber, P: EventPoller> Registry<S, P> {
         ensures { result.now ≡ (loop_state self.now).poller }
     {
         &self.ops.epoll.poller
+    }
+
+    /// The subscribers by id, and the poller, which is asked for nothing: what was added to it stays there.
+    pub fn into_parts(self) -> (Subscribers<S>, P)
+        ensures subscribers { result.0 ≡ (loop_state self).registry.values }
+        ensures poller { result.1 ≡ (loop_state self).poller }
+    {
+        let Registry { subscribers, ops } = self;
+        let EventOps { epoll, .. } = ops;
+        let EpollWrapper { poller, .. } = epoll;
+        let subscribers = Subscribers {
+            places: subscribers,
+        };
+        (subscribers, poller)
     }
 
     /// Takes a subscriber in under the next id.

@@ -1,7 +1,9 @@
 //! Pollers that report what they like, and subscribers that ask for much in the middle of a batch.
 
 use crate::expecting::{expect_ok, expect_same};
-use event_manager::{Error, EventOps, EventPoller, Events, MutEventSubscriber, Request};
+use event_manager::{
+    Error, EventOps, EventPoller, Events, MutEventSubscriber, RefusedRequest, Request,
+};
 use fixtures::parts::silent_parts;
 use fixtures::runs::run_alone;
 use fixtures::scripts::{push_words, script_of};
@@ -22,11 +24,11 @@ impl EventPoller for Rising {
 
     ghost waits = { λ before ms capacity answer after. Unit {0} };
 
-    fn ctl(&mut self, _op: ControlOperation, _fd: u32, _event: Events) -> Result<(), Errno> {
+    fn control(&mut self, _op: ControlOperation, _fd: u32, _event: Events) -> Result<(), Errno> {
         Ok(())
     }
 
-    fn wait(&mut self, _ms: i32, buffer: &mut [EpollEvent]) -> Result<usize, Errno> {
+    fn poll(&mut self, _ms: i32, buffer: &mut [EpollEvent]) -> Result<usize, Errno> {
         let count = self.next.min(buffer.len());
         buffer[..count].fill(EpollEvent::new(EventSet::IN, 3));
         self.next = self.next.saturating_add(1);
@@ -97,7 +99,7 @@ struct Asking {
     adds: Vec<Request>,
     removes: Vec<Request>,
     has_them: bool,
-    first_refusals: [Option<Error>; 5],
+    first_refusals: [Option<RefusedRequest>; 5],
     count: usize,
 }
 
@@ -164,8 +166,15 @@ fn a_thousand_requests_at_each_event_half_of_them_refused(rt: HostRuntime) {
     let runs = [(None, Ok(1)), (None, Ok(5)), (None, Ok(1)), (None, Ok(3))];
     let asking = make_asking(&rt, rt.alloc());
     let left = expect_ok(&rt, run_alone(&rt, parts, asking, &runs));
-    let owned = Some(Error::FdAlreadyRegistered);
-    let not_owned = Some(Error::Epoll(Errno::ENOENT));
+    // The second of each pair is the first that is refused.
+    let owned = Some(RefusedRequest {
+        index: 1,
+        error: Error::FdAlreadyRegistered,
+    });
+    let not_owned = Some(RefusedRequest {
+        index: 1,
+        error: Error::Epoll(Errno::ENOENT),
+    });
     expect_same(
         &rt,
         &left.first_refusals,

@@ -70,7 +70,7 @@ impl EventPoller for Recorder {
 
     ghost waits = { λ before ms capacity answer after. Unit {0} };
 
-    fn ctl(&mut self, op: ControlOperation, fd: u32, event: Events) -> Result<(), Errno> {
+    fn control(&mut self, op: ControlOperation, fd: u32, event: Events) -> Result<(), Errno> {
         let Ok(mut controls) = self.controls.try_borrow_mut() else {
             return Err(Errno::EBADF);
         };
@@ -80,7 +80,7 @@ impl EventPoller for Recorder {
         }
     }
 
-    fn wait(&mut self, _ms: i32, _buffer: &mut [EpollEvent]) -> Result<usize, Errno> {
+    fn poll(&mut self, _ms: i32, _buffer: &mut [EpollEvent]) -> Result<usize, Errno> {
         let Ok(mut controls) = self.controls.try_borrow_mut() else {
             return Err(Errno::EBADF);
         };

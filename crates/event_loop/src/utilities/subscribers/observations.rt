@@ -1,9 +1,10 @@
 //! What the counting subscribers keep beside their counts.
 
 ghost use Rattle.std.specs.Prelude.{◌≡◌};
-ghost use Rattle.event_loop.specs.CounterEvents.{nothing_observed, with_error, with_spurious, with_hang_up, with_fault};
+ghost use Rattle.event_loop.specs.CounterEvents.{nothing_observed, with_error, with_spurious, with_hang_up, with_fault, with_first_fault};
 
 use crate::error::{Error, Result};
+use crate::events::RefusedRequest;
 
 /// What was observed beside the events that count.
 #[derive(Clone, Copy)]
@@ -48,6 +49,15 @@ impl Observations {
     {
         self.hung_up = true;
         self.keep_fault(answer);
+    }
+
+    /// Keeps the first refusal of a list of requests, where there was none before.
+    pub(super) fn keep_first_fault(&mut self, answer: std::result::Result<(), RefusedRequest>)
+        ensures { self.new ≡ with_first_fault answer self.old }
+    {
+        if let Err(refused) = answer {
+            self.keep_fault(Err(refused.error));
+        }
     }
 
     /// Keeps a refusal, where there was none before.

@@ -142,7 +142,7 @@ impl CounterSubscriberWithData {
             Request::Add(second),
             Request::Add(third),
         ]);
-        self.observations.keep_fault(answer);
+        self.observations.keep_first_fault(answer);
     }
 
     /// Counts an `IN` event by its data.
@@ -196,6 +196,6 @@ impl MutEventSubscriber for CounterSubscriberWithData {
             Request::Add(second),
             Request::Add(third),
         ]);
-        self.observations.keep_fault(answer);
+        self.observations.keep_first_fault(answer);
     }
 }

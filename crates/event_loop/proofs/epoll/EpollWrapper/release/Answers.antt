@@ -7,8 +7,8 @@ loop-fd-init g c = record { so_far = deleted_none g.P.EventPoller.controls g.P.E
 
 pub loop-fd-preserved : goal.loop-fd-preserved
 loop-fd-preserved g c =
-    let asked = rw c.empty_raw-event.ensures at c.ctl.ensures in
-    let more = deleted_more g.P.EventPoller.controls g.P.EventPoller.waits c.deref-fd-items.result.now c.loop-fd.fd-index c.args.self.now.poller c.loop-fd.self.poller c.ctl.new.self c.ctl.result c.loop-fd-test.true asked c.loop-fd.invariant.so_far in
+    let asked = rw c.empty_raw-event.ensures at c.control.ensures in
+    let more = deleted_more g.P.EventPoller.controls g.P.EventPoller.waits c.deref-fd-items.result.now c.loop-fd.fd-index c.args.self.now.poller c.loop-fd.self.poller c.control.new.self c.control.result c.loop-fd-test.true asked c.loop-fd.invariant.so_far in
     record { so_far = more; same = c.loop-fd.invariant.same }
 
 pub returns : goal.returns

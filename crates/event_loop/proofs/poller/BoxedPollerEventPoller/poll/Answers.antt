@@ -1,7 +1,7 @@
 use Rattle.std.proofs.Common.{subst, length, take, Ok, Err, [], arith}
 use Rattle.std.proofs.lemmas.Int.{to_z-of_z}
 use Rattle.event_loop.proofs.Buffer.{waits_ok}
-use Rattle.event_loop.proofs.poller.BoxedPollerEventPoller.wait.Goals as goal
+use Rattle.event_loop.proofs.poller.BoxedPollerEventPoller.poll.Goals as goal
 
 pub returns-in-Ok-clause-answer : goal.returns-in-Ok-clause-answer
 returns-in-Ok-clause-answer g c =

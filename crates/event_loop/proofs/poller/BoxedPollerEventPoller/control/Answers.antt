@@ -2,7 +2,7 @@ use Rattle.std.proofs.Common.{subst, pos}
 use Rattle.std.proofs.lemmas.Int.{to_z_pos}
 use mir.Syntax.{w32}
 use Rattle.event_loop.specs.PollerRelations.{packed}
-use Rattle.event_loop.proofs.poller.BoxedPollerEventPoller.ctl.Goals as goal
+use Rattle.event_loop.proofs.poller.BoxedPollerEventPoller.control.Goals as goal
 
 pub returns : goal.returns
 returns g c =
