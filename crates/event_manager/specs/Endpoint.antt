@@ -1,12 +1,12 @@
 -- Which refusals the calls of an endpoint may answer, and what is left of a manager that was closed.
 use Rattle.std.specs.Prelude.{◌≡◌, ◌⊎◌, ℕ}
-use Rattle.vmm_sys.specs.declared.errno.Errno.{Errno}
+use Rattle.vmm_sys.specs.declared.errno.TheConstants.Errno.{EAGAIN, EBADF}
 use Rattle.event_loop.specs.declared.error.Error.{Error}
 use Rattle.event_loop.specs.declared.error.Error.TheVariants.{ChannelSend, ChannelRecv, EventFd, OutOfMemory, TicketsUsedUp}
 
--- of a ring: what the EventFd answered
+-- of a ring: what a write of 1 to a counter may be refused with; its value is full, or no counter has its number
 abbrev pub IsRingRefusal : Error → Type 0
-IsRingRefusal e = (errno : Errno) × (e ≡ EventFd errno)
+IsRingRefusal e = (e ≡ EventFd EAGAIN) ⊎ (e ≡ EventFd EBADF)
 
 -- of a send: closed, no ticket left, no memory, or the ring's
 abbrev pub IsSendRefusal : Error → Type 0

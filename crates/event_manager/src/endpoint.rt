@@ -50,8 +50,8 @@ impl<S: MutEventSubscriber, J: Job<S>, N: Naming> RemoteEndpoint<S, J, N> {
     /// Sends a job, which the loop runs once, in the order of the tickets, after a later batch. The ticket may be dropped.
     ///
     /// Refused, in this order, the queue as it was and the job dropped: `ChannelSend` where the manager was closed;
-    /// `TicketsUsedUp` where 9223372036854775807 tickets were issued; `OutOfMemory`; `EventFd` with the number with which
-    /// the endpoint's `EventFd` refuses the ring (`EAGAIN`: its value is full).
+    /// `TicketsUsedUp` where 9223372036854775807 tickets were issued; `OutOfMemory`; `EventFd(EAGAIN)` where the value of
+    /// the endpoint's `EventFd` is full.
     pub fn fire<R: Wait + Clock>(&self, job: J, rt: &R) -> Result<Ticket<N>>
         ensures refusals { IfErr result IsSendRefusal }
     {
@@ -103,7 +103,7 @@ impl<S: MutEventSubscriber, J: Job<S>, N: Naming> RemoteEndpoint<S, J, N> {
 
     /// Ends the loop's wait: writes 1 to the endpoint's `EventFd`. Takes no memory.
     ///
-    /// `EventFd` with the number with which it is refused; then nothing changes.
+    /// `EventFd(EAGAIN)` where its value is full; then nothing changes.
     pub fn kick<R: Wait + Clock>(&self, rt: &R) -> Result<()>
         ensures refusals { IfErr result IsRingRefusal }
     {

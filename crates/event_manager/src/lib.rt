@@ -18,10 +18,10 @@ pub use calls::{Call, Reply};
 pub use endpoint::RemoteEndpoint;
 pub use endpoint::closed::Closed;
 pub use event_loop::{
-    BoxedPoller, BoxedSubscriber, Either, Error, EventLoop, EventOps, EventPoller, EventSet,
+    Batch, BoxedPoller, BoxedSubscriber, Either, Error, EventLoop, EventOps, EventPoller, EventSet,
     EventSubscriber, Events, Locked, MAX_READY_EVENTS_CAPACITY, MutEventSubscriber, Priority,
-    Registry, Request, Result, StepInput, StepSubscriber, SubscriberId, SubscriberOps,
-    cancelled_at, utilities,
+    RefusedRequest, Registry, Request, Result, StepInput, StepSubscriber, SubscriberId,
+    SubscriberOps, Subscribers, cancelled_at, utilities,
 };
 pub use job_tickets::ledgers::{Ledgers, WithLedgers, with_ledgers};
 pub use job_tickets::naming::Naming;

@@ -12,7 +12,7 @@ use crate::endpoint::closed::Closed;
 use crate::jobs::Job;
 use event_loop::{
     BoxedPoller, Error, EventOps, EventPoller, Events, MAX_READY_EVENTS_CAPACITY,
-    MutEventSubscriber, Registry, Result, SubscriberId, SubscriberOps,
+    MutEventSubscriber, Registry, Result, SubscriberId, SubscriberOps, Subscribers,
 };
 use job_tickets::ledgers::Ledgers;
 use job_tickets::naming::Naming;
@@ -23,7 +23,7 @@ use vmm_sys::epoll::EventSet;
 use vmm_sys::eventfd::EventFd;
 
 /// The capacity of [`EventManager::new`].
-const DEFAULT_CAPACITY: usize = 256;
+pub(crate) const DEFAULT_CAPACITY: usize = 256;
 
 /// An event loop over a poller, the subscribers that it serves, and the jobs that its endpoints send.
 ///
@@ -129,6 +129,19 @@ impl<S: MutEventSubscriber, J: Job<S>, N: Naming, P: EventPoller> EventManager<S
         self.channel.has_waiting_jobs(rt)
     }
 
+    /// Closes the queue as [`close`](EventManager::close) does, and hands out the subscribers by id and the poller, which is
+    /// asked for nothing: what was added to it stays there, the endpoint too. Ours, the Rust crate has none.
+    pub fn into_parts<R: Wait + Clock>(self, rt: &R) -> (Closed<N>, Subscribers<S>, P)
+        ensures taken { result.0.taken ≡ (state_of self).taken }
+        ensures subscribers { result.1 ≡ (state_of self).registry.values }
+        ensures poller { result.2 ≡ (state_of self).poller }
+    {
+        let EventManager { registry, channel } = self;
+        let closed = channel.close(rt);
+        let (subscribers, poller) = registry.into_parts();
+        (closed, subscribers, poller)
+    }
+
     /// Closes the queue in one turn: from then on a send is refused with `ChannelSend`. The jobs that wait are dropped, and
     /// whoever waits for a reply of theirs gets `ChannelRecv`. Then subscribers and poller are dropped; the poller is
     /// asked for nothing.
@@ -138,11 +151,8 @@ impl<S: MutEventSubscriber, J: Job<S>, N: Naming, P: EventPoller> EventManager<S
         P: Drop,
         ensures taken { result.taken ≡ (state_of self).taken }
     {
-        let EventManager {
-            registry: _,
-            channel,
-        } = self;
-        channel.close(rt)
+        let (closed, _subscribers, _poller) = self.into_parts(rt);
+        closed
     }
 }
 

@@ -6,7 +6,7 @@ ghost use Rattle.std.specs.Thread.{IsSend, IsSync};
 use crate::endpoint::RemoteEndpoint;
 use crate::endpoint::closed::Closed;
 use crate::jobs::Job;
-use crate::manager::EventManager;
+use crate::manager::{DEFAULT_CAPACITY, EventManager};
 use event_loop::{Error, EventPoller, MutEventSubscriber, Result};
 use job_tickets::ledgers::Ledgers;
 use job_tickets::naming::Naming;
@@ -28,6 +28,11 @@ pub trait Sender<S: MutEventSubscriber, J: Job<S>, T, R: Wait + Clock> {
 
 /// The loop's side of [`with_senders`]: its subscribers and its senders, of type `Q`, and how long it runs.
 pub trait LoopWithSenders<S: MutEventSubscriber, J: Job<S>, Q, R: Wait + Clock> {
+    /// How many events a batch has at most: as it stands here, as many as [`EventManager::new`] gives it.
+    fn capacity(&self) -> usize {
+        DEFAULT_CAPACITY
+    }
+
     /// Lets subscribers join, and answers the senders: each gets a thread once this is over.
     fn begin<N: Naming, P: EventPoller>(
         &mut self,
@@ -104,7 +109,7 @@ impl Senders {
 
 /// What came of a loop and its senders.
 #[derive(Drop)]
-pub struct Ended<T> {
+pub struct Ended<T, P> {
     /// What the loop's run answered.
     pub ran: Result<()>,
     /// What each sender gave, in their order.
@@ -113,6 +118,16 @@ pub struct Ended<T> {
     pub issued: u64,
     /// How many jobs the manager took and ran.
     pub taken: u64,
+    /// The poller, with what was added to it.
+    pub poller: P,
+}
+
+// What came of the loop alone.
+#[derive(Drop)]
+struct LoopEnded<N: Naming, P> {
+    ran: Result<()>,
+    closed: Closed<N>,
+    poller: P,
 }
 
 // What the loop's thread shares with those of the senders.
@@ -170,7 +185,7 @@ fn run_and_close<S, J, N, P, B, Q, R>(
     are_started: bool,
     senders: &Senders,
     rt: &R,
-) -> Option<(Result<()>, Closed<N>)>
+) -> Option<LoopEnded<N, P>>
 where
     S: MutEventSubscriber + Drop,
     J: Job<S>,
@@ -185,7 +200,12 @@ where
         return None;
     }
     let ran = body.run(rt, &mut manager, senders);
-    Some((ran, manager.close(rt)))
+    let (closed, _subscribers, poller) = manager.into_parts(rt);
+    Some(LoopEnded {
+        ran,
+        closed,
+        poller,
+    })
 }
 
 // Starts a thread for each sender, and runs the loop beside them. `None` where a thread can't be made.
@@ -195,7 +215,7 @@ fn run_beside<S, J, N, P, B, Q, T, R>(
     senders: Vec<Q>,
     shared: &Shared<S, J, N, T>,
     rt: &R,
-) -> Option<(Result<()>, Closed<N>)>
+) -> Option<LoopEnded<N, P>>
 where
     S: MutEventSubscriber + Send + Drop,
     J: Job<S> + Send,
@@ -246,7 +266,7 @@ fn run_named<S, J, N, P, B, Q, T, R>(
     body: &mut B,
     tickets: Blank,
     taken: Blank,
-) -> Result<Ended<T>>
+) -> Result<Ended<T, P>>
 where
     S: MutEventSubscriber + Send + Drop,
     J: Job<S> + Send,
@@ -261,15 +281,24 @@ where
     requires taken { (taken.name ≡ N.taken) × (taken.parts ≡ 1) }
 {
     let ledgers = Ledgers::<N>::new(tickets, taken);
-    let mut manager = EventManager::<S, J, N, P>::new(alloc, poller, event_fd, ledgers)?;
+    let capacity = body.capacity();
+    let made = EventManager::<S, J, N, P>::new_with_capacity(
+        alloc, poller, event_fd, capacity, ledgers,
+    );
+    let mut manager = made?;
     let senders = body.begin(rt, alloc, &mut manager)?;
     let mut sent = Vec::new(alloc);
     sent.reserve(senders.len())?;
     let shared = Shared::new(alloc, manager.remote_endpoint()?, senders.len())?;
     let mut held = Some(manager);
-    let Some((ran, closed)) = run_beside(body, &mut held, senders, &shared, rt) else {
+    let Some(ended) = run_beside(body, &mut held, senders, &shared, rt) else {
         return Err(Error::OutOfMemory);
     };
+    let LoopEnded {
+        ran,
+        closed,
+        poller,
+    } = ended;
     let Shared { sent: places, .. } = shared;
     take_all(places.into_inner(), &mut sent)?;
     Ok(Ended {
@@ -277,12 +306,13 @@ where
         sent,
         issued: closed.issued(),
         taken: closed.taken(),
+        poller,
     })
 }
 
 /// Makes a manager over the poller, lets the body's subscribers join, and runs its loop on this thread, beside a thread for
 /// each of its senders. Whatever ends the loop, the manager is then closed, so that no sender waits for a reply any more;
-/// and what loop and senders gave is answered once all senders have ended.
+/// and what loop and senders gave is answered once all senders have ended, with the poller.
 ///
 /// Refused with what the making of the manager, `begin` or [`EventManager::remote_endpoint`] is refused with, and no sender
 /// begins; with `OutOfMemory` also where there is no room for what the senders give, or no thread for one of them: then the
@@ -294,7 +324,7 @@ pub fn with_senders<S, J, P, B, Q, T, R>(
     poller: P,
     event_fd: EventFd,
     body: &mut B,
-) -> Result<Ended<T>>
+) -> Result<Ended<T, P>>
 where
     S: MutEventSubscriber + Send + Drop,
     J: Job<S> + Send,

@@ -26,13 +26,14 @@ impl<N: Naming> Model for Ticket<N> {
 
     ghost view = { λ t. t.number };
 
-    ghost invariant = { λ t. (t.share.parts ≡ 1) × (t.share.amount ≡ weight t.number) };
+    ghost invariant = { λ t. (1 ≤ t.number) × (t.share.parts ≡ 1) × (t.share.amount ≡ weight t.number) };
 }
 
 impl<N: Naming> Ticket<N> {
-    /// The number.
+    /// The number: at least 1.
     pub fn number(&self) -> u64
-        ensures { result ≡ self.now }
+        ensures number { result ≡ self.now }
+        ensures from_1 { 1 ≤ result }
     {
         self.number
     }

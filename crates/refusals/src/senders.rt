@@ -78,7 +78,7 @@ fn run_once<R: Host + Threads + Sync>(
     on_table: &OnTable<R>,
     count: u64,
     served: &AtomicU64,
-) -> Result<event_manager::Result<Ended<Result<u64, Fault>>>, Fault> {
+) -> Result<event_manager::Result<Ended<Result<u64, Fault>, Epoll<R>>>, Fault> {
     let poller = copy_epoll(&on_table.epoll)?;
     let endpoint = copy_counter(&on_table.endpoint)?;
     let mut callers = Callers { count, served };

@@ -29,7 +29,7 @@ pub fn beside_senders<S, J, P, B, Q, T, R>(
     rt: &R,
     parts: Parts<P>,
     body: &mut B,
-) -> Result<Ended<T>>
+) -> Result<Ended<T, P>>
 where
     S: MutEventSubscriber + Send + Drop,
     J: Job<S> + Send,

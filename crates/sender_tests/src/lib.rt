@@ -6,6 +6,8 @@ mod bystanders;
 #[cfg(test)]
 mod callers;
 #[cfg(test)]
+mod capacities;
+#[cfg(test)]
 mod closed;
 #[cfg(test)]
 mod ending;

@@ -57,21 +57,21 @@ impl<P: EventPoller> EventPoller for Counted<'_, P> {
 
     ghost waits = { λ v ms capacity answer w. Unit {0} };
 
-    fn ctl(
+    fn control(
         &mut self,
         op: ControlOperation,
         fd: u32,
         event: Events,
     ) -> std::result::Result<(), Errno> {
-        self.poller.ctl(op, fd, event)
+        self.poller.control(op, fd, event)
     }
 
-    fn wait(&mut self, ms: i32, buffer: &mut [EpollEvent]) -> std::result::Result<usize, Errno> {
+    fn poll(&mut self, ms: i32, buffer: &mut [EpollEvent]) -> std::result::Result<usize, Errno> {
         self.course.waits.fetch_add(1, Ordering::SeqCst);
         if ms >= 0 {
-            return self.poller.wait(ms, buffer);
+            return self.poller.poll(ms, buffer);
         }
-        match self.poller.wait(MOST_TIME, buffer) {
+        match self.poller.poll(MOST_TIME, buffer) {
             Ok(0) => Err(Errno::EAGAIN),
             answer => answer,
         }

@@ -35,21 +35,21 @@ impl<P: EventPoller> EventPoller for Bounded<P> {
 
     ghost waits = { λ v ms capacity answer w. Unit {0} };
 
-    fn ctl(
+    fn control(
         &mut self,
         op: ControlOperation,
         fd: u32,
         event: Events,
     ) -> std::result::Result<(), Errno> {
-        self.poller.ctl(op, fd, event)
+        self.poller.control(op, fd, event)
     }
 
-    fn wait(&mut self, ms: i32, buffer: &mut [EpollEvent]) -> std::result::Result<usize, Errno> {
+    fn poll(&mut self, ms: i32, buffer: &mut [EpollEvent]) -> std::result::Result<usize, Errno> {
         if ms >= 0 {
-            return self.poller.wait(ms, buffer);
+            return self.poller.poll(ms, buffer);
         }
         for _sleep in 0..SLEEPS {
-            let answer = self.poller.wait(SLEEP, buffer);
+            let answer = self.poller.poll(SLEEP, buffer);
             if answer != Ok(0) {
                 return answer;
             }
@@ -110,10 +110,7 @@ fn make_round<R: Host>(rt: &R, alloc: Global, epoll: &mut Epoll<R>, senders: u64
     }
     let nothing = EpollEvent::new(EventSet::empty(), 0);
     let fd = own.as_raw_fd();
-    expect_ok(
-        rt,
-        Poller::ctl(epoll, ControlOperation::Delete, fd, nothing),
-    );
+    expect_ok(rt, epoll.ctl(ControlOperation::Delete, fd, nothing));
 }
 
 // The last sender is held up by those whom it wakes with the loop: so the loop looks before anything that stands behind.

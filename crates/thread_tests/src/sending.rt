@@ -129,7 +129,7 @@ fn wait_beside<R: Wait + Clock + Clone + Send + Drop>(
     let mut epoll = epoll;
     let mut buffer = [EpollEvent::new(EventSet::empty(), 0)];
     for _turn in rt.forever() {
-        let _ = Poller::wait(&mut epoll, -1, &mut buffer);
+        let _ = epoll.wait(-1, &mut buffer);
         if progress.all_sent.load(Ordering::SeqCst) {
             break;
         }

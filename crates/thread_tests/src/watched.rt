@@ -131,11 +131,11 @@ impl<R: Clock + Drop> EventPoller for Reporter<R> {
 
     ghost waits = { λ v ms capacity answer w. Unit {0} };
 
-    fn ctl(&mut self, _op: ControlOperation, _fd: u32, _event: Events) -> Result<(), Errno> {
+    fn control(&mut self, _op: ControlOperation, _fd: u32, _event: Events) -> Result<(), Errno> {
         Ok(())
     }
 
-    fn wait(&mut self, _ms: i32, buffer: &mut [EpollEvent]) -> Result<usize, Errno> {
+    fn poll(&mut self, _ms: i32, buffer: &mut [EpollEvent]) -> Result<usize, Errno> {
         match buffer.first_mut() {
             Some(entry) => {
                 *entry = EpollEvent::new(EventSet::IN, 0);

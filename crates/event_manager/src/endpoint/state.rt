@@ -1,8 +1,7 @@
 //! What lies under the lock of the job queue.
 
-ghost use Rattle.std.specs.Prelude.{◌≡◌, ◌+◌, ◌<◌, ◌≤◌, [], length, Err, None, IfOk, IfErr, false};
+ghost use Rattle.std.specs.Prelude.{◌≡◌, ◌⊎◌, ◌+◌, ◌<◌, ◌≤◌, [], length, Err, None, IfOk, IfErr, false};
 ghost use Rattle.event_manager.specs.JobQueue.{new_queue, after_take, after_close, IsSend, TicketsFollow, answer_of};
-ghost use Rattle.event_manager.specs.Endpoint.{IsSendRefusal};
 ghost use Rattle.event_loop.specs.declared.error.Error.TheVariants.{TicketsUsedUp};
 
 use crate::Error;
@@ -95,7 +94,7 @@ impl<S: MutEventSubscriber, J: Job<S>, N: Naming> ChannelState<S, J, N> {
         ensures sent { shown.now ≤ self.old.issued → IsSend (B.rings bell.now) self.old job None (answer_of result) self.new }
         ensures not_issued { self.old.issued < shown.now → (answer_of result ≡ Err TicketsUsedUp) × (self.new ≡ self.old) }
         ensures handed_back { IfErr result (λ refused. refused.job ≡ job) }
-        ensures refusals { IfErr result (λ refused. IsSendRefusal refused.error) }
+        ensures answers { (answer_of result ≡ Err TicketsUsedUp) ⊎ IsSend (B.rings bell.now) self.old job None (answer_of result) self.new }
     {
         if shown.number() > self.queue.issued() {
             return Err(Refused {
