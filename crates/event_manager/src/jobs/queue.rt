@@ -88,8 +88,8 @@ impl<J, Q> JobQueue<J, Q> {
         JobQueue::behind(alloc, 0)
     }
 
-    /// An open queue in which nothing waits, of which so many tickets were issued and as many jobs taken: the next ticket
-    /// is one more. At most 9223372036854775807.
+    /// An open queue in which nothing waits, of which so many tickets were issued (at most 9223372036854775807) and as many
+    /// jobs taken: the next ticket is one more.
     pub fn behind(alloc: Global, issued: u64) -> Self
         requires { issued ≤ MOST_TICKETS }
         ensures { result ≡ record new_queue { taken = issued; issued = issued } }
