@@ -10,6 +10,8 @@ mod lines;
 #[cfg(test)]
 mod making;
 #[cfg(test)]
+mod plain_counters;
+#[cfg(test)]
 mod reacting;
 #[cfg(test)]
 mod registrations;

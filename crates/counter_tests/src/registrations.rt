@@ -50,17 +50,16 @@ impl<R: Wait + Clock + Abort> WithManager for Runs<'_, R> {
     }
 }
 
-/// `OUT` events of a new counter of this value in the table of these parts.
-fn writable_of<R: Host>(rt: &R, parts: &OnTable<R>, value: u64) -> Events {
-    let event_fd = expect_ok(rt, EventFd::new(&parts.poller, value, rt));
-    Events::new(&event_fd, EventSet::OUT)
+/// `OUT` events of a new counter of value 0 in the table of these parts.
+fn writable_of<R: Host>(rt: &R, parts: &OnTable<R>) -> Events {
+    Events::new(&counter_of(rt, parts), EventSet::OUT)
 }
 
 #[test]
 fn test_register(rt: HostRuntime) {
     let parts = expect_ok(&rt, on_table(rt, rt.alloc(), 0));
-    let first = writable_of(&rt, &parts, 0);
-    let second = writable_of(&rt, &parts, 0);
+    let first = writable_of(&rt, &parts);
+    let second = writable_of(&rt, &parts);
     let body = Runs {
         rt: &rt,
         alloc: rt.alloc(),
@@ -74,7 +73,7 @@ fn test_register(rt: HostRuntime) {
 #[test]
 fn test_unregister(rt: HostRuntime) {
     let parts = expect_ok(&rt, on_table(rt, rt.alloc(), 0));
-    let own = writable_of(&rt, &parts, 0);
+    let own = writable_of(&rt, &parts);
     let body = Runs {
         rt: &rt,
         alloc: rt.alloc(),
@@ -85,17 +84,43 @@ fn test_unregister(rt: HostRuntime) {
     expect_ok(&rt, with_manager(parts, body));
 }
 
+/// Runs, writes 1 to the counter whose descriptor the subscriber then wants for `IN`, and runs.
+#[derive(Drop)]
+struct Modifying<'a, R> {
+    rt: &'a R,
+    alloc: Global,
+    event_fd: &'a EventFd,
+}
+
+impl<R: Wait + Clock + Abort> WithManager for Modifying<'_, R> {
+    type Subscriber = Reacting;
+
+    type Output = ();
+
+    fn run<N: Naming, P: EventPoller>(
+        self,
+        manager: &mut EventManager<Reacting, NoJob, N, P>,
+    ) -> event_manager::Result<()> {
+        let before = Events::new(self.event_fd, EventSet::OUT);
+        let after = Events::new(self.event_fd, EventSet::IN);
+        let reaction = Some(Request::Modify(after));
+        let id = add(self.rt, self.alloc, manager, before, reaction);
+        expect_run(self.rt, manager, 1);
+        expect_saw(self.rt, manager, id, &[before]);
+        expect_ok(self.rt, self.event_fd.write(1, self.rt));
+        expect_run(self.rt, manager, 1);
+        expect_saw(self.rt, manager, id, &[after]);
+        Ok(())
+    }
+}
+
 #[test]
 fn test_modify(rt: HostRuntime) {
     let parts = expect_ok(&rt, on_table(rt, rt.alloc(), 0));
-    let before = writable_of(&rt, &parts, 1);
-    let after = Events::new_raw(before.fd(), EventSet::IN);
-    let body = Runs {
+    let body = Modifying {
         rt: &rt,
         alloc: rt.alloc(),
-        own: before,
-        reaction: Some(Request::Modify(after)),
-        runs: &[(None, &[before]), (None, &[after])],
+        event_fd: &counter_of(&rt, &parts),
     };
     expect_ok(&rt, with_manager(parts, body));
 }
@@ -144,7 +169,7 @@ fn test_remove_subscriber(rt: HostRuntime) {
     let body = Removing {
         rt: &rt,
         alloc: rt.alloc(),
-        own: writable_of(&rt, &parts, 0),
+        own: writable_of(&rt, &parts),
     };
     expect_ok(&rt, with_manager(parts, body));
 }

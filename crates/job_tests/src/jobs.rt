@@ -2,9 +2,11 @@
 
 use crate::expecting::{expect_ok, expect_same};
 use event_manager::Error;
-use event_manager::jobs::{JobQueue, Step, replay};
+use event_manager::jobs::{Bell, JobQueue, Step, replay};
 use std::alloc::Global;
+use std::process::Abort;
 use std::sync::Wait;
+use std::sync::atomic::{AtomicU64, Ordering};
 use std::time::Clock;
 use vmm_sys::epoll::{ControlOperation, Epoll, EpollEvent, EventSet};
 use vmm_sys::errno::Errno;
@@ -59,4 +61,78 @@ fn a_counter_is_rung_by_a_1(rt: HostRuntime) {
     let mut buffer = [EpollEvent::new(EventSet::empty(), 0)];
     expect_same(&rt, &epoll.wait(0, &mut buffer), &Ok(1));
     expect_same(&rt, &counter.read(&rt), &Ok(1));
+}
+
+/// A bell that counts how often it is rung, and refuses one ring by its number, counted from 1.
+#[derive(Drop)]
+struct Refusing {
+    refused: u64,
+    rings: AtomicU64,
+}
+
+impl Refusing {
+    fn new(refused: u64) -> Refusing {
+        Refusing {
+            refused,
+            rings: AtomicU64::new(0),
+        }
+    }
+}
+
+impl Bell for Refusing {
+    ghost rings = { λ bell answer. Unit {0} };
+
+    fn ring<R: Wait + Clock>(&self, _rt: &R) -> std::result::Result<(), Errno> {
+        let before = self.rings.fetch_add(1, Ordering::SeqCst);
+        if before.wrapping_add(1) == self.refused {
+            return Err(Errno::EAGAIN);
+        }
+        Ok(())
+    }
+}
+
+/// What a ring is refused with.
+const REFUSED: Result<u64, Error> = Err(Error::EventFd(Errno::EAGAIN));
+
+/// Which of three rings is refused, the answers to the sends, and the tickets and jobs that then wait.
+const ROWS: [(u64, [Result<u64, Error>; 3], [(u64, char); 2]); 3] = [
+    (1, [REFUSED, Ok(1), Ok(2)], [(1, 'b'), (2, 'c')]),
+    (2, [Ok(1), REFUSED, Ok(2)], [(1, 'a'), (2, 'c')]),
+    (3, [Ok(1), Ok(2), REFUSED], [(1, 'a'), (2, 'b')]),
+];
+
+/// Expects that these wait, and are handed out in this order.
+fn expect_waiting<R: Abort>(
+    rt: &R,
+    alloc: Global,
+    mut queue: JobQueue<char, ()>,
+    expected: [(u64, char); 2],
+) {
+    expect_same(rt, &queue.waiting(), &2);
+    let mut out = Vec::new(alloc);
+    queue.take(&mut out);
+    for (entry, expected) in out.iter().zip(expected) {
+        expect_same(rt, &(entry.ticket, entry.job), &expected);
+    }
+}
+
+#[test]
+fn two_of_three_sends_are_accepted(rt: HostRuntime) {
+    for (refused, answers, waiting) in ROWS {
+        let bell = Refusing::new(refused);
+        let mut queue: JobQueue<char, ()> = JobQueue::new(rt.alloc());
+        for (job, answer) in ['a', 'b', 'c'].into_iter().zip(answers) {
+            expect_same(&rt, &queue.send(job, None, &bell, &rt), &answer);
+        }
+        expect_waiting(&rt, rt.alloc(), queue, waiting);
+    }
+}
+
+#[test]
+fn a_send_rings_no_bell_where_no_ticket_is_left(rt: HostRuntime) {
+    let bell = Refusing::new(0);
+    let mut queue: JobQueue<char, ()> = JobQueue::behind(rt.alloc(), 9223372036854775807);
+    let answer = queue.send('a', None, &bell, &rt);
+    expect_same(&rt, &answer, &Err(Error::TicketsUsedUp));
+    expect_same(&rt, &bell.rings.load(Ordering::SeqCst), &0);
 }

@@ -93,13 +93,14 @@ impl Job<Stoppable> for Order {
 /// What the caller does, and the value that it is answered each time.
 const CHANGES: [(Change, u64); 3] = [(Change::Set(7), 0), (Change::Read, 7), (Change::Stop, 7)];
 
-/// Makes the changes of a subscriber, each by a job.
+/// Makes the changes of a subscriber, each by a job that it sends by an endpoint of its own.
 #[derive(Drop)]
 struct Caller(SubscriberId);
 
 impl<R: Looping> Sender<Stoppable, Order, (), R> for Caller {
     fn send<N: Naming>(self, endpoint: &RemoteEndpoint<Stoppable, Order, N>, rt: &R) {
         let Caller(id) = self;
+        let endpoint = expect_ok(rt, endpoint.try_clone());
         for (change, value) in CHANGES {
             let reply = endpoint.call_blocking(Order { id, change }, rt);
             expect_same(rt, &reply, &Ok(Ok(value)));

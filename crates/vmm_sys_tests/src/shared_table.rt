@@ -126,11 +126,14 @@ fn counters_of_one_table_are_apart(rt: HostRuntime) {
 
 #[test]
 fn a_refused_write_leaves_the_value(rt: HostRuntime) {
-    let epoll = expect_ok(&rt, Epoll::new(rt, rt.alloc()));
+    let mut epoll = expect_ok(&rt, Epoll::new(rt, rt.alloc()));
     let counter = expect_ok(&rt, EventFd::new(&epoll, HIGHEST, &rt));
+    want(&rt, &mut epoll, &counter, EventSet::OUT);
     expect_same(&rt, &counter.write(1, &rt), &Err(Errno::EAGAIN));
+    expect_same(&rt, &epoll.wait(0, &mut [no_event()]), &Ok(0));
     expect_same(&rt, &counter.write(u64::MAX, &rt), &Err(Errno::EINVAL));
     expect_same(&rt, &counter.read(&rt), &Ok(HIGHEST));
+    expect_same(&rt, &counter.read(&rt), &Err(Errno::EAGAIN));
 }
 
 #[test]

@@ -85,10 +85,19 @@ impl<J, Q> JobQueue<J, Q> {
     pub fn new(alloc: Global) -> Self
         ensures { result ≡ new_queue }
     {
+        JobQueue::behind(alloc, 0)
+    }
+
+    /// An open queue in which nothing waits, of which so many tickets were issued (at most 9223372036854775807) and as many
+    /// jobs taken: the next ticket is one more.
+    pub fn behind(alloc: Global, issued: u64) -> Self
+        requires { issued ≤ MOST_TICKETS }
+        ensures { result ≡ record new_queue { taken = issued; issued = issued } }
+    {
         JobQueue {
             waiting: Vec::new(alloc),
-            taken: 0,
-            issued: 0,
+            taken: issued,
+            issued,
             closed: false,
         }
     }
