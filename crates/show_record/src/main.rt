@@ -27,9 +27,9 @@
 //!
 //! That of a script has a line across the lanes for each `run: ` that was printed, and behind it the events that the script
 //! reports to it: each in the colour of the subscriber to which a `deliver` line gives it, and with its name, or grey and with
-//! `nobody`. Of equal events in one batch the first ones have the deliveries. Each `reply`, `sub`, `ask` and `drop` line has a
-//! mark, in the colour of its subscriber or red: what was asked for in a batch stands behind all events of the batch. What
-//! happens without a line isn't drawn, as the deletes of a leave.
+//! `nobody`; six colours serve in turn. Of equal events in one batch the first ones have the deliveries. Each `reply`, `sub`,
+//! `ask` and `drop` line has a mark, in the colour of its subscriber or red: what was asked for in a batch stands behind all
+//! events of the batch. What happens without a line isn't drawn, as the deletes of a leave.
 #![tactic(auto)]
 
 mod of_record;
@@ -37,6 +37,8 @@ mod of_script;
 mod picture;
 mod shown;
 mod svg;
+#[cfg(test)]
+mod tests;
 
 use anyhow::{Result, bail};
 use picture::Picture;

@@ -59,7 +59,7 @@ path.refused,path.parting{stroke:#f85149}
 
 /// Prints a text as XML has it; what XML can't have, as the replacement character.
 #[derive(Clone, Copy)]
-struct Escaped<'a>(&'a str);
+pub struct Escaped<'a>(pub &'a str);
 
 impl Display for Escaped<'_> {
     fn fmt<W: fmt::Write>(&self, f: &mut fmt::Formatter<W>) -> fmt::Result {
