@@ -1,8 +1,9 @@
 """The cases of programs, as files of crates/CRATE/cases; those of evloop where no crate is named.
 
 NAME is a standard input; NAME.stdout and NAME.stderr are what the program must write on it (no such file: nothing), and
-NAME.status is how it must end (no such file: 0). Where there is NAME.refused its number says which allocation is refused,
-counted from 1: only `rt try` can do that.
+NAME.status is how it must end (no such file: 0). NAME.args has its arguments, one a line. What a program writes whose case has
+the name of a picture, docs/pictures/NAME.svg, is that picture. Where there is NAME.refused its number says which allocation is
+refused, counted from 1: only `rt try` can do that.
 """
 
 import os
@@ -11,6 +12,7 @@ from command import ROOT, Outcome, read
 
 EVLOOP = "evloop"
 FOLDER = f"{ROOT}/crates/{EVLOOP}/cases"
+PICTURES = f"{ROOT}/docs/pictures"
 
 
 def folder(crate):
@@ -29,8 +31,13 @@ def refused_names():
 
 
 def wanted(name, crate=EVLOOP):
-    path = f"{folder(crate)}/{name}"
-    return Outcome(int(read(f"{path}.status", b"0")), read(f"{path}.stdout"), read(f"{path}.stderr"))
+    path, picture = f"{folder(crate)}/{name}", read(f"{PICTURES}/{name}.svg")
+    return Outcome(int(read(f"{path}.status", b"0")), read(f"{path}.stdout", picture), read(f"{path}.stderr"))
+
+
+def arguments(name, crate=EVLOOP):
+    """What a case's program is given."""
+    return read(f"{folder(crate)}/{name}.args").decode().split()
 
 
 def refused(name, crate=EVLOOP):

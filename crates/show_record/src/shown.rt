@@ -1,5 +1,6 @@
 //! The calls of a record, and how each is shown.
 
+use anyhow::{Result, bail};
 use evloop_script::names::SetNames;
 use std::fmt;
 use vmm_sys::epoll::{ControlOperation, EpollEvent, EventSet};
@@ -15,7 +16,7 @@ pub struct ShownCall<'a> {
 
 impl<'a> ShownCall<'a> {
     /// The call with the events that stand behind it. `None` where it doesn't report so many.
-    pub fn new(call: RecordEntry, behind: &'a [RecordEntry]) -> Option<ShownCall<'a>> {
+    fn new(call: RecordEntry, behind: &'a [RecordEntry]) -> Option<ShownCall<'a>> {
         let end = behind.iter().position(|entry| !is_reported(entry));
         let report = behind.get(..end.unwrap_or(behind.len())).unwrap_or(behind);
         let counted = match call {
@@ -33,13 +34,32 @@ impl<'a> ShownCall<'a> {
     }
 }
 
+/// The call at this index of a record; `None` where an event stands there.
+///
+/// # Errors
+///
+/// The line has behind it another number of events than its call reported, or is the first and an event.
+pub fn call_at(record: &[RecordEntry], index: usize) -> Result<Option<ShownCall<'_>>> {
+    let number = index.saturating_add(1);
+    match record.get(index) {
+        Some(entry) if !is_reported(entry) => {
+            match ShownCall::new(*entry, record.get(number..).unwrap_or(&[])) {
+                Some(call) => Ok(Some(call)),
+                None => bail!("line {number}: another number of events"),
+            }
+        }
+        Some(_) if index == 0 => bail!("line 1: an event of no wait"),
+        _ => Ok(None),
+    }
+}
+
 /// Whether the entry is an event of a report.
-pub fn is_reported(entry: &RecordEntry) -> bool {
+fn is_reported(entry: &RecordEntry) -> bool {
     matches!(entry, RecordEntry::Reported(_))
 }
 
-// The word of a call, as a script has it.
-fn operation_word(op: ControlOperation) -> &'static str {
+/// The word of a call, as a script has it.
+pub fn operation_word(op: ControlOperation) -> &'static str {
     match op {
         ControlOperation::Add => "add",
         ControlOperation::Modify => "modify",
@@ -47,9 +67,9 @@ fn operation_word(op: ControlOperation) -> &'static str {
     }
 }
 
-// Prints the names of a set; its number, where it has a bit without a name.
+/// Prints the names of a set; its number, where it has a bit without a name.
 #[derive(Clone, Copy)]
-struct Set(EventSet);
+pub struct Set(pub EventSet);
 
 impl fmt::Display for Set {
     fn fmt<W: fmt::Write>(&self, f: &mut fmt::Formatter<W>) -> fmt::Result {
@@ -75,8 +95,8 @@ impl fmt::Display for Answer {
     }
 }
 
-// The data that an event's word has above the descriptor.
-fn data(event: &EpollEvent) -> u64 {
+/// The data that an event's word has above the descriptor.
+pub fn data(event: &EpollEvent) -> u64 {
     event.data() >> 32
 }
 
