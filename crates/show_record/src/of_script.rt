@@ -90,21 +90,27 @@ impl<'a> Reader<'a> {
         }
     }
 
+    /// Takes what the next wait answers, where nothing is left of a report. Answers whether it is interrupted.
+    fn take_wait(&mut self) -> Result<bool, AllocError> {
+        if !self.rest.is_empty() {
+            return Ok(false);
+        }
+        match self.waits.pop_front() {
+            Some(Wait::Report(events)) => {
+                for event in events {
+                    self.rest.push_back(event)?;
+                }
+                Ok(false)
+            }
+            Some(Wait::Interrupted) => Ok(true),
+            None => Ok(false),
+        }
+    }
+
     /// Puts the wait of a run there, with its events, which went to nobody so far.
     fn begin(&mut self) -> Result<(), AllocError> {
         self.runs = self.runs.saturating_add(1);
-        let mut is_interrupted = false;
-        if self.rest.is_empty() {
-            match self.waits.pop_front() {
-                Some(Wait::Report(events)) => {
-                    for event in events {
-                        self.rest.push_back(event)?;
-                    }
-                }
-                Some(Wait::Interrupted) => is_interrupted = true,
-                None => {}
-            }
-        }
+        let is_interrupted = self.take_wait()?;
         let count = self.rest.len().min(BATCH);
         let second = if is_interrupted {
             String::from_str(self.alloc, INTERRUPTED)?
@@ -127,6 +133,7 @@ impl<'a> Reader<'a> {
         Ok(())
     }
 
+    /// Puts an event of the run there, which went to nobody so far.
     fn report(&mut self, event: EpollEvent) -> Result<(), AllocError> {
         let (fd, set) = (event.fd(), Set(event.event_set()));
         self.pending.push(Pending {
