@@ -142,15 +142,22 @@ fn vacant_place<S: Drop>(
 impl<S> SubscriberPlaces<S> {
     ghost use Rattle.dispatch_tables.specs.contracts.places.SubscriberPlaces.{the_row};
 
-    /// No place.
+    /// No place, and 1 is given next.
     pub fn new(alloc: Global) -> Self
         ensures { result ≡ nobody }
+    {
+        SubscriberPlaces::from_id(alloc, 1)
+    }
+
+    /// No place, and this id is given next.
+    pub fn from_id(alloc: Global, first: u64) -> Self
+        ensures { result ≡ record nobody { next = first } }
     {
         SubscriberPlaces {
             places: Vec::new(alloc),
             first_vacant: None,
             index: HashMap::new(alloc),
-            next: 1,
+            next: first,
         }
     }
 

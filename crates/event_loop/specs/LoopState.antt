@@ -28,6 +28,10 @@ new_loop endpoint poller capacity = record {
   capacity = capacity;
 }
 
+-- with another id that is given next
+abbrev pub with_next_id : {S P : Type 0} → LoopState S P → ℕ → LoopState S P
+with_next_id state next = record state { registry = record state.registry { next = next } }
+
 -- a number that no descriptor has: descriptors are below it
 abbrev pub no_descriptor : ℕ
 no_descriptor = 2147483648

@@ -2,7 +2,7 @@
 
 ghost use Rattle.std.specs.Prelude.{◌≡◌, negsuc, IfErr, IfOk};
 ghost use Rattle.std.specs.Borrow.{sem, LendsSoOk};
-ghost use Rattle.event_loop.specs.LoopState.{IsLoopIteration, new_loop, no_descriptor, no_job, with_value};
+ghost use Rattle.event_loop.specs.LoopState.{IsLoopIteration, new_loop, no_descriptor, no_job, with_next_id, with_value};
 ghost use Rattle.event_loop.specs.Requests.{StandsFor, with_ops};
 ghost use Rattle.event_loop.specs.EventLoop.{seen_of, IsCapacityRefused};
 
@@ -10,7 +10,7 @@ use crate::error::{Error, Result};
 use crate::ops::EventOps;
 use crate::parts::Subscribers;
 use crate::poller::{BoxedPoller, EventPoller};
-use crate::registry::Registry;
+use crate::registry::{FIRST_ID, Registry};
 use crate::subscriber_ops::SubscriberOps;
 use crate::subscribers::{MutEventSubscriber, SubscriberId};
 use std::alloc::Global;
@@ -40,7 +40,7 @@ impl<S: MutEventSubscriber, P: EventPoller> EventLoop<S, P> {
         ensures made { IfOk result (λ made. seen_of made ≡ new_loop no_descriptor poller 256) }
         ensures refusals { IfErr result (λ error. error ≡ Error.OutOfMemory) }
     {
-        let registry = Registry::without_endpoint(alloc, poller, DEFAULT_CAPACITY)?;
+        let registry = Registry::without_endpoint(alloc, poller, DEFAULT_CAPACITY, FIRST_ID)?;
         Ok(EventLoop { registry })
     }
 
@@ -58,7 +58,19 @@ impl<S: MutEventSubscriber, P: EventPoller> EventLoop<S, P> {
         if capacity > MAX_READY_EVENTS_CAPACITY {
             return Err(Error::InvalidCapacity);
         }
-        let registry = Registry::without_endpoint(alloc, poller, capacity)?;
+        let registry = Registry::without_endpoint(alloc, poller, capacity, FIRST_ID)?;
+        Ok(EventLoop { registry })
+    }
+
+    /// As [`new`](EventLoop::new), but the id that is given first is this one, for a loop that goes on behind another: where
+    /// it is that one's [`next_id`](SubscriberOps::next_id), no id is given by both. Ours, the Rust crate has none.
+    pub fn with_first_id(alloc: Global, poller: P, first_id: u64) -> Result<Self>
+    where
+        P: Drop,
+        ensures made { IfOk result (λ made. seen_of made ≡ with_next_id (new_loop no_descriptor poller 256) first_id) }
+        ensures refusals { IfErr result (λ error. error ≡ Error.OutOfMemory) }
+    {
+        let registry = Registry::without_endpoint(alloc, poller, DEFAULT_CAPACITY, first_id)?;
         Ok(EventLoop { registry })
     }
 

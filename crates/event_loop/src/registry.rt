@@ -4,7 +4,7 @@ ghost use Rattle.std.specs.Prelude.{◌≡◌, [], map, IfErr, IfOk, MatchOption
 ghost use Rattle.dispatch_tables.specs.Members.{nobody};
 ghost use Rattle.event_loop.specs.Registry.{Step};
 ghost use Rattle.event_loop.specs.RegistrationState.{all_pending};
-ghost use Rattle.event_loop.specs.LoopState.{HasStepped, IsJoin, IsLeave, new_loop, no_descriptor};
+ghost use Rattle.event_loop.specs.LoopState.{HasStepped, IsJoin, IsLeave, new_loop, no_descriptor, with_next_id};
 ghost use Rattle.event_loop.specs.Subscribers.{TakesPosition, IsDispatched, IsBatch, IsNew, loop_state};
 
 use crate::epoll::{EpollWrapper, RegistrationState};
@@ -19,6 +19,9 @@ use dispatch_tables::places::SubscriberPlaces;
 use std::alloc::Global;
 use vmm_sys::epoll::ControlOperation;
 use vmm_sys::errno::Errno;
+
+/// The id that a loop gives first.
+pub(crate) const FIRST_ID: u64 = 1;
 
 /// A number that no descriptor has.
 const NO_DESCRIPTOR: u32 = 2147483648;
@@ -65,16 +68,22 @@ impl<S: MutEventSubscriber, P: EventPoller> Registry<S, P> {
             poller,
         };
         match epoll.ctl(ControlOperation::Add, endpoint) {
-            Ok(()) => Ok(Registry::over(alloc, epoll)),
+            Ok(()) => Ok(Registry::over(alloc, epoll, FIRST_ID)),
             Err(errno) => Err(Error::Epoll(errno)),
         }
     }
 
-    /// No subscriber and no endpoint, with room for a batch of `capacity` events. The poller is asked for nothing.
-    pub(crate) fn without_endpoint(alloc: Global, poller: P, capacity: usize) -> Result<Self>
+    /// No subscriber and no endpoint, with room for a batch of `capacity` events, and the id that is given first. The poller
+    /// is asked for nothing.
+    pub(crate) fn without_endpoint(
+        alloc: Global,
+        poller: P,
+        capacity: usize,
+        first_id: u64,
+    ) -> Result<Self>
     where
         P: Drop,
-        ensures made { IfOk result (λ made. loop_state made ≡ new_loop no_descriptor poller capacity) }
+        ensures made { IfOk result (λ made. loop_state made ≡ with_next_id (new_loop no_descriptor poller capacity) first_id) }
         ensures refusals { IfErr result (λ error. error ≡ Error.OutOfMemory) }
     {
         let registrations = RegistrationState::new(alloc, NO_DESCRIPTOR, capacity)?;
@@ -82,15 +91,15 @@ impl<S: MutEventSubscriber, P: EventPoller> Registry<S, P> {
             registrations,
             poller,
         };
-        Ok(Registry::over(alloc, epoll))
+        Ok(Registry::over(alloc, epoll, first_id))
     }
 
-    /// No subscriber, over these registrations and this poller.
-    fn over(alloc: Global, epoll: EpollWrapper<P>) -> Self
-        ensures { (result.subscribers ≡ nobody) × (result.ops.epoll ≡ epoll) }
+    /// No subscriber, over these registrations and this poller; and the id that is given first.
+    fn over(alloc: Global, epoll: EpollWrapper<P>, first_id: u64) -> Self
+        ensures { (result.subscribers ≡ record nobody { next = first_id }) × (result.ops.epoll ≡ epoll) }
     {
         Registry {
-            subscribers: SubscriberPlaces::new(alloc),
+            subscribers: SubscriberPlaces::from_id(alloc, first_id),
             ops: EventOps {
                 epoll,
                 id: 0,

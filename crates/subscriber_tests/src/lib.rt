@@ -15,6 +15,8 @@ pub mod forms;
 #[cfg(test)]
 mod joins;
 #[cfg(test)]
+mod last_ids;
+#[cfg(test)]
 mod places;
 #[cfg(test)]
 mod served;
