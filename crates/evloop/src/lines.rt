@@ -4,13 +4,12 @@ ghost use Rattle.std.specs.Prelude.{◌≡◌, [], ◌∷◌, OnOk, slice_get};
 ghost use Rattle.std.specs.Option.{option_flatten};
 ghost use Rattle.std.specs.Vec.Iter.{into_iter_items};
 ghost use Rattle.event_manager.specs.Manager.{state_of};
-ghost use Rattle.evloop.specs.Lines.{IsLineRun, IsRun, TakesNext};
+ghost use Rattle.evloop.specs.Lines.{IsLineRun, IsRun, TakesNext, done_of};
+ghost use Rattle.evloop_script.specs.Printed.{written_by};
 
 use crate::calls::{ask, join, leave, run_once};
 use event_manager::laws::driven_lists_join;
-use event_manager::{
-    Error, EventManager, EventPoller, Job, MutEventSubscriber, Naming, SubscriberId, SubscriberOps,
-};
+use event_manager::{Error, EventManager, EventPoller, Job, Naming, SubscriberId, SubscriberOps};
 use evloop_script::fault::Fault;
 use evloop_script::output::{Out, OutputLine, Printer};
 use evloop_script::reactions::Reactions;
@@ -39,6 +38,16 @@ fn next_of(alloc: Global, reactions: &mut IntoIter<Reactions>) -> Reactions
     }
 }
 
+// Whether a leave was refused.
+fn done<T: Drop>(answer: Result<T, Error>) -> Result<(), Error>
+    ensures { result ≡ done_of answer }
+{
+    match answer {
+        Ok(_) => Ok(()),
+        Err(error) => Err(error),
+    }
+}
+
 // Makes one line.
 fn make_line<'a, R, O, J, N, P>(
     rt: &R,
@@ -55,9 +64,9 @@ where
     J: Job<Subscriber<'a, O>>,
     N: Naming,
     P: EventPoller,
-    ensures { IsLineRun ⟦<Subscriber<'a, O> as MutEventSubscriber>⟧.begins ⟦<Subscriber<'a, O> as MutEventSubscriber>⟧.serves J.may P.controls P.waits
-        (record { ids = ids.old.items; reactions = into_iter_items reactions.old }) line.entry result
-        (record { ids = ids.new.items; reactions = into_iter_items reactions.new }) (state_of manager.old) (state_of manager.new) }
+    ensures { IsLineRun J.may P.controls P.waits
+        (record { ids = ids.old.items; reactions = into_iter_items reactions.old; written = written_by O.contents printer.old }) line.entry result
+        (record { ids = ids.new.items; reactions = into_iter_items reactions.new; written = written_by O.contents printer.new }) (state_of manager.old) (state_of manager.new) }
 {
     // Its contract says that each held id is below the next.
     let _next = manager.next_id();
@@ -91,7 +100,7 @@ where
         },
         Call::Leave { name, join } => match id_of(ids, join) {
             Some(id) => {
-                let answer = leave(rt, alloc, manager, id)?.map(|_| ());
+                let answer = done(leave(rt, alloc, manager, id)?);
                 printer.print(&OutputLine::Left { name, answer })
             }
             None => {
@@ -131,8 +140,8 @@ where
     J: Job<Subscriber<'a, O>>,
     N: Naming,
     P: EventPoller,
-    ensures { IsRun ⟦<Subscriber<'a, O> as MutEventSubscriber>⟧.begins ⟦<Subscriber<'a, O> as MutEventSubscriber>⟧.serves J.may P.controls P.waits
-        (record { ids = []; reactions = reactions.items }) lines.entry.items result (state_of manager.old) (state_of manager.new) }
+    ensures { IsRun J.may P.controls P.waits (record { ids = []; reactions = reactions.items; written = written_by O.contents printer.old })
+        lines.entry.items result (written_by O.contents printer.new) (state_of manager.old) (state_of manager.new) }
 {
     // Their contracts say that no call is a driven list, and that each held id is below the next.
     driven_lists_join::<Subscriber<'a, O>, J, P>();
