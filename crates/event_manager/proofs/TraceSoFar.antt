@@ -9,7 +9,7 @@ use Rattle.event_loop.specs.Exchange.{Exchanges, Answer}
 use Rattle.event_loop.specs.Registry.{Step, AreBelow}
 use Rattle.event_loop.specs.Iteration.{ManagerState}
 use Rattle.event_loop.specs.LoopState.{LoopState, HasStepped, IsJoin, IsLeave, IsLoopIteration, manager_state}
-use Rattle.event_manager.specs.Trace.{Effect, Stepped, Iterated, Entry, Matches, HasEffect, IsTrace, calls_of_effect, calls_of_trace}
+use Rattle.event_manager.specs.Trace.{Effect, Stepped, Iterated, Entry, Matches, IsTrace, calls_of_effect, calls_of_trace}
 use Rattle.event_manager.specs.SingleCall.{IsAsk, IsReplacement, HasCalled}
 use Rattle.event_manager.specs.Driven.{IsGuaranteed, IsTraceOf, IsDriven}
 use Rattle.event_loop.specs.declared.error.Error.{Error}
@@ -51,10 +51,9 @@ module _ {S J R P : Type 0} (begins : S → Exchanges → S → Type 0) (serves 
   pub iteration_called : {before after : LoopState S P} {ms : ℤ} {result : Result ℕ Error} → (did : IsLoopIteration begins serves may controls waits before ms result after) → HasCalled begins serves may controls waits before (Iterated did.iteration) after
   iteration_called did = record { had = did.iterated; led = did.led; same_capacity = did.same_capacity }
 
-  trace_more : (before mid after : ManagerState S) (trace : List (Entry S J R)) (entry : Entry S J R) → IsTrace begins serves may before trace mid → Matches entry.effect entry.call entry.reply → HasEffect begins serves may mid entry.effect after
-      → IsTrace begins serves may before (trace ++ entry ∷ []) after
-  trace_more before mid after [] entry is matches had = (after, matches, subst (λ s. HasEffect begins serves may s entry.effect after) is had, refl)
-  trace_more before mid after (first ∷ trace) entry (next, says, did, rest) matches had = (next, says, did, trace_more next mid after trace entry rest matches had)
+  traces_join : (before mid after : ManagerState S) (trace more : List (Entry S J R)) → IsTrace begins serves may before trace mid → IsTrace begins serves may mid more after → IsTrace begins serves may before (trace ++ more) after
+  traces_join before mid after [] more is then = subst (λ s. IsTrace begins serves may s more after) is then
+  traces_join before mid after (first ∷ trace) more (next, says, did, rest) then = (next, says, did, traces_join next mid after trace more rest then)
 
   calls_more : (capacity : ℕ) (trace : List (Entry S J R)) (entry : Entry S J R) → calls_of_trace capacity (trace ++ entry ∷ []) ≡ calls_of_trace capacity trace ++ calls_of_effect capacity entry.effect
   calls_more capacity trace entry =
@@ -81,7 +80,7 @@ module _ {S J R P : Type 0} (begins : S → Exchanges → S → Type 0) (serves 
         trace = so_far.trace ++ entry ∷ [];
         calls_are = ap (λ cs. cs ++ left) (map-append (λ (e : Entry S J R). e.call) so_far.trace (entry ∷ [])) ∙ append_assoc (map (λ e. e.call) so_far.trace) (c ∷ []) left ∙ so_far.calls_are;
         replies_are = ap (λ rs. rs ++ r ∷ []) so_far.replies_are ∙ append_assoc old (map (λ e. e.reply) so_far.trace) (r ∷ []) ∙ ap (λ rs. old ++ rs) (sym (map-append (λ (e : Entry S J R). e.reply) so_far.trace (entry ∷ [])));
-        is_trace = trace_more (manager_state before) (manager_state now) (manager_state next) so_far.trace entry so_far.is_trace matches did.had;
+        is_trace = traces_join (manager_state before) (manager_state now) (manager_state next) so_far.trace (entry ∷ []) so_far.is_trace (manager_state next, matches, did.had, refl);
         led = subst (λ xs. Leads controls waits before.poller xs next.poller) (sym (calls_more before.capacity so_far.trace entry)) (leads_join controls waits before.poller now.poller next.poller (calls_of_trace before.capacity so_far.trace) (calls_of_effect before.capacity effect) so_far.led led);
         same_capacity = did.same_capacity ∙ so_far.same_capacity;
       }
@@ -114,3 +113,27 @@ module _ {S J R P : Type 0} (begins : S → Exchanges → S → Type 0) (serves 
     subst (λ cs. IsDriven begins serves may controls waits before cs (map (λ e. e.reply) so_far.trace) after) (sym (append-nil (map (λ e. e.call) so_far.trace)) ∙ so_far.calls_are)
         (driven_by before so_far.trace after below (record { calls_are = refl; replies_are = refl; is_trace = so_far.is_trace; led = so_far.led; same_capacity = so_far.same_capacity })),
   )
+
+  -- no call
+  pub none_driven : (state : LoopState S P) → AreBelow state.registry.next state.registry.values → IsDriven begins serves may controls waits state [] [] state
+  none_driven state below = driven_by state [] state below (record { calls_are = refl; replies_are = refl; is_trace = refl; led = refl; same_capacity = refl })
+
+  -- two lists in a row are one
+  pub lists_join : (before between after : LoopState S P) (calls more_calls : List (Call S)) (replies more_replies : List (Reply S)) → IsDriven begins serves may controls waits before calls replies between → IsDriven begins serves may controls waits between more_calls more_replies after
+      → IsDriven begins serves may controls waits before (calls ++ more_calls) (replies ++ more_replies) after
+  lists_join before between after calls more_calls replies more_replies first second =
+      let one = first.is_trace_of in
+      let two = second.is_trace_of in
+      let led = subst (λ k. Leads controls waits between.poller (calls_of_trace k second.trace) after.poller) one.same_capacity two.led in
+      let is_trace = traces_join (manager_state before) (manager_state between) (manager_state after) first.trace second.trace one.is_trace two.is_trace in
+      record {
+        trace = first.trace ++ second.trace;
+        is_trace_of = record {
+          calls_are = map-append (λ (e : Entry S J R). e.call) first.trace second.trace ∙ ap (λ cs. cs ++ map (λ e. e.call) second.trace) one.calls_are ∙ ap (λ cs. calls ++ cs) two.calls_are;
+          replies_are = map-append (λ (e : Entry S J R). e.reply) first.trace second.trace ∙ ap (λ rs. rs ++ map (λ e. e.reply) second.trace) one.replies_are ∙ ap (λ rs. replies ++ rs) two.replies_are;
+          is_trace = is_trace;
+          led = subst (λ xs. Leads controls waits before.poller xs after.poller) (sym (flat_map-append (λ (e : Entry S J R). calls_of_effect before.capacity e.effect) first.trace second.trace)) (leads_join controls waits before.poller between.poller after.poller (calls_of_trace before.capacity first.trace) (calls_of_trace before.capacity second.trace) one.led led);
+          same_capacity = two.same_capacity ∙ one.same_capacity;
+        };
+        guaranteed = guaranteed (manager_state before) (first.trace ++ second.trace) (manager_state after) first.guaranteed.below.0 is_trace;
+      }

@@ -23,7 +23,7 @@ ghost use Rattle.event_loop.specs.LoopState.{LoopState, manager_state, no_job};
 ghost use Rattle.event_manager.specs.declared.calls.Call.{Call};
 ghost use Rattle.event_manager.specs.declared.calls.Reply.{Reply};
 ghost use Rattle.event_manager.specs.Determinism.{AreFunctions, IsReplay, IsTheRun};
-ghost use Rattle.event_manager.specs.Driven.{IsTraceOf};
+ghost use Rattle.event_manager.specs.Driven.{IsTraceOf, IsDriven};
 ghost use Rattle.event_manager.specs.RecordedRun.{BeginsAgain, IsMadeAgain};
 ghost use Rattle.event_manager.specs.Example.{any_begins, any_serves, any_may, joins, iterates};
 
@@ -107,6 +107,17 @@ pub fn exchanges_join()
     ensures empty { (i : ℕ) (registrations : Registrations) → ExchangesFit i registrations [] [] registrations }
     ensures joined { (i : ℕ) (before mid after : Registrations) (exchanges more : Exchanges) (calls rest : List PollerCall) →
         ExchangesFit i before exchanges calls mid → ExchangesFit i mid more rest after → ExchangesFit i before (exchanges ++ more) (calls ++ rest) after }
+{}
+
+/// No call is a list of calls that was driven, where each held id is below the next, and two such lists in a row are one. So
+/// what `drive` promises of a list holds of all that a program drove bit by bit.
+pub fn driven_lists_join<S: MutEventSubscriber, J: Job<S>, P: EventPoller>()
+    ensures empty { (state : LoopState S P) → AreBelow state.registry.next state.registry.values →
+        IsDriven S.begins S.serves J.may P.controls P.waits state [] [] state }
+    ensures joined { (before between after : LoopState S P) (calls more_calls : List (Call S)) (replies more_replies : List (Reply S)) →
+        IsDriven S.begins S.serves J.may P.controls P.waits before calls replies between →
+        IsDriven S.begins S.serves J.may P.controls P.waits between more_calls more_replies after →
+        IsDriven S.begins S.serves J.may P.controls P.waits before (calls ++ more_calls) (replies ++ more_replies) after }
 {}
 
 /// A replay is the run: of subscribers and jobs that are functions (the answers so far decide what is asked next, and all

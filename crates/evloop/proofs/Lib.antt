@@ -1,1 +1,2 @@
+pub mod LinesSoFar
 pub mod Replies

@@ -13,7 +13,7 @@ use Rattle.event_manager.specs.LoopState.{LoopState, manager_state}
 use Rattle.event_manager.specs.PollerCall.{Controls, Waits}
 use Rattle.event_manager.specs.Registry.{Step, Joined, NotJoined, Left, Replaced, Requested, Refused}
 use Rattle.event_manager.specs.Trace.{Effect, Stepped, Iterated, Entry, Matches, IsTrace}
-use Rattle.evloop.specs.Calls.{IsReplyTo}
+use Rattle.evloop.specs.Replies.{IsReplyTo}
 
 is_of_call : {S : Type 0} {call other : Call S} (reply : Reply S) → call ≡ other → IsReplyTo other reply → IsReplyTo call reply
 is_of_call reply same is = subst (λ c. IsReplyTo c reply) (sym same) is

@@ -1,3 +1,3 @@
-pub mod Calls
-pub mod Joins
+pub mod Lines
+pub mod Replies
 pub mod ScriptedPoller

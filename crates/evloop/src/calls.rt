@@ -1,17 +1,17 @@
-//! The calls of a script: each is one call of the manager through `drive`, and its reply is printed.
+//! The calls that lines of a script make: each is a list of its own, through `drive`.
 
-ghost use Rattle.std.specs.Prelude.{◌≡◌, [], ◌∷◌, IfErr, IfOk, OnErr};
+ghost use Rattle.std.specs.Prelude.{◌≡◌, [], ◌∷◌, IfErr, IfOk, OnErr, negsuc};
 ghost use Rattle.event_manager.specs.Driven.{IsDriven};
 ghost use Rattle.event_manager.specs.Manager.{state_of};
-ghost use Rattle.evloop.specs.Calls.{IsReplyTo, Joins, Leaves, Asks, Runs};
+ghost use Rattle.event_manager.specs.declared.calls.Call.TheVariants as call;
+ghost use Rattle.event_manager.specs.declared.calls.Reply.TheVariants as reply;
+ghost use Rattle.evloop.specs.Replies.{IsReplyTo};
 
 use event_manager::{
     Call, Error, EventManager, EventPoller, Job, MutEventSubscriber, Naming, Reply, Request,
     SubscriberId, drive,
 };
 use evloop_script::fault::Fault;
-use evloop_script::output::{Out, OutputLine, Printer};
-use evloop_script::requests::print_replies;
 use std::alloc::Global;
 use std::sync::Wait;
 use std::time::Clock;
@@ -46,137 +46,114 @@ where
     }
 }
 
-/// Takes a subscriber in, and prints the answer; gives its id, unless it was refused.
+/// Takes a subscriber in, and answers as the manager does.
 ///
 /// # Errors
 ///
-/// `OutOfMemory`, the call not having been made; `CannotWrite`.
-pub fn join<S, J, N, P, R, O>(
+/// `OutOfMemory`, the call not having been made.
+pub fn join<S, J, N, P, R>(
     rt: &R,
     alloc: Global,
     manager: &mut EventManager<S, J, N, P>,
     subscriber: S,
-    name: &str,
-    printer: &mut Printer<O>,
-) -> Result<Option<SubscriberId>, Fault>
+) -> Result<Result<SubscriberId, Error>, Fault>
 where
     S: MutEventSubscriber + Drop,
     J: Job<S>,
     N: Naming,
     P: EventPoller,
     R: Wait + Clock,
-    O: Out + Drop,
-    ensures { Joins S.begins S.serves J.may P.controls P.waits subscriber result (state_of manager.old) (state_of manager.new) }
+    ensures driven { IfOk result (λ answer. IsDriven S.begins S.serves J.may P.controls P.waits (state_of manager.old)
+        (call.Add subscriber ∷ []) (reply.Added answer ∷ []) (state_of manager.new)) }
+    ensures refused { OnErr result (state_of manager.new ≡ state_of manager.old) }
+    ensures memory { IfErr result (λ fault. fault ≡ Fault.OutOfMemory) }
 {
     match make_one(rt, alloc, manager, Call::Add(subscriber))? {
-        Reply::Added(Ok(id)) => {
-            let answer = Ok(id);
-            printer.print(&OutputLine::Joined { name, answer })?;
-            Ok(Some(id))
-        }
-        Reply::Added(Err(error)) => {
-            let answer = Err(error);
-            printer.print(&OutputLine::Joined { name, answer })?;
-            Ok(None)
-        }
+        Reply::Added(answer) => Ok(answer),
         _ => unreachable!(),
     }
 }
 
-/// Makes requests of one subscriber, and prints each with its answer. A line of a request that can't be
-/// written is dropped.
+/// Makes requests of one subscriber, and answers as the manager does.
 ///
 /// # Errors
 ///
-/// `OutOfMemory`, the call not having been made; `CannotWrite` where the requests are refused as a whole.
-pub fn ask<S, J, N, P, R, O>(
+/// `OutOfMemory`, the call not having been made.
+pub fn ask<S, J, N, P, R>(
     rt: &R,
     alloc: Global,
     manager: &mut EventManager<S, J, N, P>,
-    id: Result<SubscriberId, Error>,
-    name: &str,
+    id: SubscriberId,
     requests: Vec<Request>,
-    printer: &mut Printer<O>,
-) -> Result<(), Fault>
+) -> Result<Result<Vec<Result<(), Error>>, Error>, Fault>
 where
     S: MutEventSubscriber + Drop,
     J: Job<S>,
     N: Naming,
     P: EventPoller,
     R: Wait + Clock,
-    O: Out + Drop,
-    ensures { Asks S.begins S.serves J.may P.controls P.waits id requests result (state_of manager.old) (state_of manager.new) }
+    ensures driven { IfOk result (λ answer. IsDriven S.begins S.serves J.may P.controls P.waits (state_of manager.old)
+        (call.Ask id requests ∷ []) (reply.Asked answer ∷ []) (state_of manager.new)) }
+    ensures refused { OnErr result (state_of manager.new ≡ state_of manager.old) }
+    ensures memory { IfErr result (λ fault. fault ≡ Fault.OutOfMemory) }
 {
-    let id = match id {
-        Ok(id) => id,
-        Err(error) => return printer.print(&OutputLine::AskRefused { name, error }),
-    };
-    let asked = requests.clone()?;
     match make_one(rt, alloc, manager, Call::Ask(id, requests))? {
-        Reply::Asked(Ok(answers)) => {
-            print_replies(name, &asked, &answers, printer);
-            Ok(())
-        }
-        Reply::Asked(Err(error)) => printer.print(&OutputLine::AskRefused { name, error }),
+        Reply::Asked(answer) => Ok(answer),
         _ => unreachable!(),
     }
 }
 
-/// Lets a subscriber leave, and prints the answer.
+/// Lets a subscriber leave, and answers as the manager does.
 ///
 /// # Errors
 ///
-/// `OutOfMemory`, the call not having been made; `CannotWrite`.
-pub fn leave<S, J, N, P, R, O>(
+/// `OutOfMemory`, the call not having been made.
+pub fn leave<S, J, N, P, R>(
     rt: &R,
     alloc: Global,
     manager: &mut EventManager<S, J, N, P>,
-    id: Result<SubscriberId, Error>,
-    name: &str,
-    printer: &mut Printer<O>,
-) -> Result<(), Fault>
+    id: SubscriberId,
+) -> Result<Result<S, Error>, Fault>
 where
     S: MutEventSubscriber + Drop,
     J: Job<S>,
     N: Naming,
     P: EventPoller,
     R: Wait + Clock,
-    O: Out + Drop,
-    ensures { Leaves S.begins S.serves J.may P.controls P.waits id result (state_of manager.old) (state_of manager.new) }
+    ensures driven { IfOk result (λ answer. IsDriven S.begins S.serves J.may P.controls P.waits (state_of manager.old)
+        (call.Remove id ∷ []) (reply.Removed answer ∷ []) (state_of manager.new)) }
+    ensures refused { OnErr result (state_of manager.new ≡ state_of manager.old) }
+    ensures memory { IfErr result (λ fault. fault ≡ Fault.OutOfMemory) }
 {
-    let answer = match id {
-        Ok(id) => match make_one(rt, alloc, manager, Call::Remove(id))? {
-            Reply::Removed(Ok(_)) => Ok(()),
-            Reply::Removed(Err(error)) => Err(error),
-            _ => unreachable!(),
-        },
-        Err(error) => Err(error),
-    };
-    printer.print(&OutputLine::Left { name, answer })
+    match make_one(rt, alloc, manager, Call::Remove(id))? {
+        Reply::Removed(answer) => Ok(answer),
+        _ => unreachable!(),
+    }
 }
 
-/// Runs the loop once, without a limit of time, and prints the answer.
+/// Runs the loop once, without a limit of time, and answers as the manager does.
 ///
 /// # Errors
 ///
-/// `OutOfMemory`, the call not having been made; `CannotWrite`.
-pub fn run_once<S, J, N, P, R, O>(
+/// `OutOfMemory`, the call not having been made.
+pub fn run_once<S, J, N, P, R>(
     rt: &R,
     alloc: Global,
     manager: &mut EventManager<S, J, N, P>,
-    printer: &mut Printer<O>,
-) -> Result<(), Fault>
+) -> Result<Result<usize, Error>, Fault>
 where
     S: MutEventSubscriber + Drop,
     J: Job<S>,
     N: Naming,
     P: EventPoller,
     R: Wait + Clock,
-    O: Out + Drop,
-    ensures { Runs S.begins S.serves J.may P.controls P.waits result (state_of manager.old) (state_of manager.new) }
+    ensures driven { IfOk result (λ answer. IsDriven S.begins S.serves J.may P.controls P.waits (state_of manager.old)
+        (call.Run (negsuc 0) ∷ []) (reply.Ran answer ∷ []) (state_of manager.new)) }
+    ensures refused { OnErr result (state_of manager.new ≡ state_of manager.old) }
+    ensures memory { IfErr result (λ fault. fault ≡ Fault.OutOfMemory) }
 {
     match make_one(rt, alloc, manager, Call::Run(-1))? {
-        Reply::Ran(answer) => printer.print(&OutputLine::Ran { answer }),
+        Reply::Ran(answer) => Ok(answer),
         _ => unreachable!(),
     }
 }

@@ -3,6 +3,7 @@
 #![tactic(auto)]
 
 pub mod calls;
+pub mod lines;
 pub mod run;
 
 use run::run_script;

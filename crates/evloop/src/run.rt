@@ -1,15 +1,11 @@
 //! A script, run over an event manager.
 
 ghost use Rattle.std.specs.Prelude.{◌≡◌, IfOk, OnOk, IsOkUnless};
-ghost use Rattle.evloop.specs.Joins.{id_at};
 ghost use Rattle.evloop.specs.ScriptedPoller.{empty, answer_of, with_waits, with_refusals};
 ghost use Rattle.vmm_sys.specs.ScriptPoller.{with_answer};
 
-use crate::calls::{ask, join, leave, run_once};
-use event_manager::{
-    BoxedPoller, Error, EventManager, EventPoller, Job, Ledgers, Naming, NoJob, SubscriberId,
-    WithLedgers, with_ledgers,
-};
+use crate::lines::make_lines;
+use event_manager::{BoxedPoller, EventManager, Ledgers, Naming, NoJob, WithLedgers, with_ledgers};
 use evloop_script::fault::Fault;
 use evloop_script::input::read_text;
 use evloop_script::output::{Out, Printer};
@@ -93,7 +89,7 @@ impl<R: Wait + Clock, O: Out + Drop> WithLedgers for ScriptRun<'_, R, O> {
         let mut manager = EventManager::<Subscriber<O>, NoJob, N>::new(
             alloc, poller, endpoint, ledgers,
         )?;
-        make_calls(rt, alloc, &mut manager, calls, reactions, &mut printer)
+        make_lines(rt, alloc, &mut manager, calls, reactions, &mut printer)
     }
 }
 
@@ -140,61 +136,5 @@ fn push_wait(poller: &mut ScriptPoller, wait: ScriptedWait) -> Result<(), Errno>
     match wait {
         ScriptedWait::Report(events) => poller.push_report(events),
         ScriptedWait::Interrupted => poller.push_fault(Errno::EINTR),
-    }
-}
-
-// Makes the calls in order, and prints their answers. The reactions are those of the joins, in order.
-fn make_calls<'a, R, O, J, N, P>(
-    rt: &R,
-    alloc: Global,
-    manager: &mut EventManager<Subscriber<'a, O>, J, N, P>,
-    calls: Vec<Call<'a>>,
-    reactions: Vec<Reactions>,
-    printer: &mut Printer<O>,
-) -> Result<(), Fault>
-where
-    R: Wait + Clock,
-    O: Out + Drop,
-    J: Job<Subscriber<'a, O>>,
-    N: Naming,
-    P: EventPoller,
-{
-    let mut reactions = reactions.into_iter();
-    let mut ids: Vec<Option<SubscriberId>> = Vec::new(alloc);
-    for call in calls {
-        match call {
-            Call::Join { name, requests } => {
-                let own = match reactions.next() {
-                    Some(own) => own,
-                    None => Reactions::new(alloc),
-                };
-                let subscriber = Subscriber::new(name, requests, own, printer.try_clone(alloc)?);
-                ids.push(join(rt, alloc, manager, subscriber, name, printer)?)?;
-            }
-            Call::Ask {
-                name,
-                join,
-                requests,
-            } => {
-                let id = id_of(&ids, join);
-                ask(rt, alloc, manager, id, name, requests, printer)?;
-            }
-            Call::Leave { name, join } => {
-                let id = id_of(&ids, join);
-                leave(rt, alloc, manager, id, name, printer)?;
-            }
-            Call::Run => run_once(rt, alloc, manager, printer)?,
-        }
-    }
-    Ok(())
-}
-
-// The id of the join at this place; `InvalidId` where the join was refused.
-fn id_of(ids: &[Option<SubscriberId>], join: usize) -> Result<SubscriberId, Error>
-    ensures { result ≡ id_at ids.now join }
-{
-    match ids.get(join) {
-        Some(Some(id)) => Ok(*id),
-        _ => Err(Error::InvalidId),
     }
 }

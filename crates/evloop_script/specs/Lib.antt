@@ -4,3 +4,5 @@ pub mod FaultOf
 pub mod Item
 pub mod Name
 pub mod Number
+pub mod Printed
+pub mod Scripted

@@ -1,5 +1,9 @@
 //! What the program writes.
 
+ghost use Rattle.std.specs.Prelude.{◌≡◌, ◌⊎◌, IfErr, OnOk};
+ghost use Rattle.evloop_script.specs.Printed.{line_text, written_by, Prints};
+ghost use Rattle.evloop_script.specs.declared.fault.Fault.TheVariants as fault;
+
 use crate::fault::Fault;
 use crate::names::SetNames;
 use event_loop::{Error, Events, Request, SubscriberId};
@@ -77,6 +81,8 @@ fn descriptor(request: &Request) -> i32 {
 }
 
 impl Display for OutputLine<'_> {
+    ghost output = { line_text };
+
     fn fmt<W: fmt::Write>(&self, f: &mut fmt::Formatter<W>) -> fmt::Result {
         match self {
             OutputLine::Deliver { name, events } => {
@@ -147,6 +153,7 @@ impl<O: Out> Printer<O> {
     pub fn try_clone(&self, alloc: Global) -> Result<Printer<O>, Fault>
     where
         O: Drop,
+        ensures memory { IfErr result (λ f. f ≡ fault.OutOfMemory) }
     {
         match self.out.try_clone() {
             Some(out) => Printer::new(alloc, out).map_err(|_| Fault::OutOfMemory),
@@ -161,7 +168,10 @@ impl<O: Out> Printer<O> {
     ///
     /// `CannotWrite` where the output refuses it. What the output took before stays written, and the next
     /// line goes right behind it.
-    pub fn print(&mut self, line: &OutputLine<'_>) -> Result<(), Fault> {
+    pub fn print(&mut self, line: &OutputLine<'_>) -> Result<(), Fault>
+        ensures printed { OnOk result (Prints (written_by O.contents self.old) line.now (written_by O.contents self.new)) }
+        ensures errors { IfErr result (λ f. (f ≡ fault.OutOfMemory) ⊎ (f ≡ fault.CannotWrite)) }
+    {
         self.line.clear();
         match writeln!(self.line, "{line}") {
             Ok(()) => {}

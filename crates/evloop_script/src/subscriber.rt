@@ -1,8 +1,7 @@
 //! The subscribers of a script.
 
 ghost use Rattle.std.specs.Prelude.{◌≡◌};
-ghost use Rattle.event_loop.specs.Exchange.{requests_of};
-ghost use Rattle.evloop_script.specs.Coming.{Reacts};
+ghost use Rattle.evloop_script.specs.Scripted.{script_begins, script_serves};
 
 use crate::output::{Out, OutputLine, Printer};
 use crate::reactions::Reactions;
@@ -42,9 +41,9 @@ impl<'a, O: Out> Subscriber<'a, O> {
 }
 
 impl<O: Out> MutEventSubscriber for Subscriber<'_, O> {
-    ghost begins = { λ v exchanges w. (requests_of exchanges ≡ v.first.items) × (w.first ≡ v.first) × (w.reactions ≡ v.reactions) };
+    ghost begins = { script_begins };
 
-    ghost serves = { λ v event exchanges w. Reacts v.reactions.queues event.fd exchanges w.reactions.queues };
+    ghost serves = { script_serves };
 
     fn process<P: EventPoller>(&mut self, events: Events, ops: &mut EventOps<P>) {
         let _ = self.printer.print(&OutputLine::Deliver {

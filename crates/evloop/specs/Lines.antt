@@ -1,0 +1,107 @@
+-- What the lines of a script make of a manager.
+use Rattle.std.specs.Prelude.{◌≡◌, ◌⊎◌, ⊤, ℕ, ℤ, negsuc, List, [], ◌∷◌, ◌++◌, Option, Some, None, Result, Ok, Err, OnOk, Vec, slice_get, map}
+use Rattle.std.specs.Option.{option_flatten}
+use Rattle.std.specs.Result.{result_ok}
+use Rattle.std.specs.declared.alloc.Global.{Global}
+use Rattle.event_manager.specs.declared.calls.Call.{Call}
+use Rattle.event_manager.specs.declared.calls.Call.TheVariants as call
+use Rattle.event_manager.specs.declared.calls.Reply.{Reply}
+use Rattle.event_manager.specs.declared.calls.Reply.TheVariants as reply
+use Rattle.event_manager.specs.Driven.{IsDriven}
+use Rattle.event_manager.specs.Error.{Error}
+use Rattle.event_manager.specs.Error.TheVariants.{InvalidId}
+use Rattle.event_manager.specs.Exchange.{Answer}
+use Rattle.event_manager.specs.LoopState.{LoopState}
+use Rattle.event_manager.specs.PollerCall.{Controls, Waits}
+use Rattle.event_manager.specs.Registry.{Step}
+use Rattle.evloop_script.specs.Coming.{coming}
+use Rattle.evloop_script.specs.Printed.{Prints}
+use Rattle.evloop_script.specs.Scripted.{script_begins, script_serves}
+use Rattle.evloop_script.specs.declared.fault.Fault.{Fault}
+use Rattle.evloop_script.specs.declared.fault.Fault.TheVariants.{OutOfMemory}
+use Rattle.evloop_script.specs.declared.output.OutputLine.{OutputLine}
+use Rattle.evloop_script.specs.declared.output.OutputLine.TheVariants.{Joined, AskRefused, Left, Ran}
+use Rattle.evloop_script.specs.declared.reactions.Reactions.{Reactions}
+use Rattle.evloop_script.specs.declared.script.Call.TheVariants as line
+use Rattle.evloop_script.specs.declared.script.Call as script
+use Rattle.evloop_script.specs.declared.subscriber.Subscriber.{Subscriber}
+
+-- how far a script has come: the ids of the joins so far, none where one was refused; the reactions of those to come; what the
+-- output holds, where that is known
+pub record Progress : Type 0 where
+  pub ids : List (Option ℕ)
+  pub reactions : List Reactions
+  pub written : Option (List ℕ)
+
+-- the next reactions are taken; none, where there are no more
+abbrev pub TakesNext : List Reactions → Reactions → List Reactions → Type 0
+TakesNext [] own later = ((fd : ℤ) → coming own.queues fd ≡ []) × (later ≡ [])
+TakesNext (next ∷ others) own later = (own ≡ next) × (later ≡ others)
+
+-- the joins are as before
+abbrev pub KeepsJoins : Progress → Progress → Type 0
+KeepsJoins at then = (then.ids ≡ at.ids) × (then.reactions ≡ at.reactions)
+
+-- a call that gave nothing but a refusal
+abbrev pub done_of : {A : Type 0} → Result A Error → Result (Unit {0}) Error
+done_of (Ok value) = Ok tt
+done_of (Err error) = Err error
+
+-- a refusal of all requests of a line is printed
+abbrev pub PrintsRefusal : {A : Type 0} → (Error → OutputLine) → Progress → Result A Error → Progress → Type 0
+PrintsRefusal line at (Ok answers) then = ⊤
+PrintsRefusal line at (Err error) then = Prints at.written (line error) then.written
+
+-- the calls that were made, each with its reply
+abbrev pub Made : Type 0 → Type 0
+Made O = List (Call (Subscriber O) × Reply (Subscriber O))
+
+module _ {O : Type 0} where
+  -- under the id of the join at a place one call was made; none where that join gave none
+  abbrev pub IsMadeUnder : {A : Type 0} → Option ℕ → Result A Error → (ℕ → Call (Subscriber O) × Reply (Subscriber O)) → Made O → Type 0
+  IsMadeUnder None answer one made = (made ≡ []) × (answer ≡ Err InvalidId)
+  IsMadeUnder (Some id) answer one made = made ≡ one id ∷ []
+
+  -- what one line makes and prints, and how far the script is then
+  abbrev pub Makes : Progress → script.Call → Made O → Progress → Type 0
+  Makes at (line.Join name requests) made then =
+      (subscriber : Subscriber O) × (answer : Result ℕ Error) × (made ≡ (call.Add subscriber, reply.Added answer) ∷ []) × (then.ids ≡ at.ids ++ result_ok answer ∷ [])
+      × (subscriber.name.now ≡ name.now) × (subscriber.first ≡ requests) × TakesNext at.reactions subscriber.reactions then.reactions × Prints at.written (Joined name answer) then.written
+  Makes at (line.Ask name place requests) made then =
+      (answer : Result (Vec Answer Global) Error) × IsMadeUnder (option_flatten (slice_get at.ids place)) answer (λ id. (call.Ask id requests, reply.Asked answer)) made
+      × KeepsJoins at then × PrintsRefusal (AskRefused name) at answer then
+  Makes at (line.Leave name place) made then =
+      (answer : Result (Subscriber O) Error) × IsMadeUnder (option_flatten (slice_get at.ids place)) answer (λ id. (call.Remove id, reply.Removed answer)) made
+      × KeepsJoins at then × Prints at.written (Left name (done_of answer)) then.written
+  Makes at line.Run made then =
+      (answer : Result ℕ Error) × (made ≡ (call.Run (negsuc 0), reply.Ran answer) ∷ []) × KeepsJoins at then × Prints at.written (Ran answer) then.written
+
+  -- what lines make, one after another
+  abbrev pub AreMade : Progress → List script.Call → Made O → Progress → Type 0
+  AreMade at [] made then = (made ≡ []) × (then ≡ at)
+  AreMade at (line ∷ lines) made then =
+      (first : Made O) × (others : Made O) × (between : Progress) × (made ≡ first ++ others) × Makes at line first between × AreMade between lines others then
+
+  module _ {J R P : Type 0} (may : J → List (Step (Subscriber O)) → R → Type 0) (controls : Controls P) (waits : Waits P) where
+    -- these calls, as one list, were driven with these replies
+    abbrev pub AreDriven : LoopState (Subscriber O) P → Made O → LoopState (Subscriber O) P → Type 0
+    AreDriven before made after = IsDriven script_begins script_serves may controls waits before (map (λ m. m.0) made) (map (λ m. m.1) made) after
+
+    -- a line was made, or memory was refused before its call
+    abbrev pub IsLineRun : Progress → script.Call → Result (Unit {0}) Fault → Progress → LoopState (Subscriber O) P → LoopState (Subscriber O) P → Type 0
+    IsLineRun at line result now before after =
+        ((result ≡ Err OutOfMemory) × (after ≡ before))
+        ⊎ ((made : Made O) × (then : Progress) × Makes at line made then × AreDriven before made after × OnOk result (then ≡ now))
+
+    -- The first lines of a script were made and printed, all of them where no fault is the result, else the last of them maybe not
+    -- printed; and what they made was driven.
+    pub record IsRun (at : Progress) (lines : List script.Call) (result : Result (Unit {0}) Fault) (written : Option (List ℕ)) (before after : LoopState (Subscriber O) P) : Type 0 where
+      pub first : List script.Call
+      pub left : List script.Call
+      pub lines_are : lines ≡ first ++ left
+      pub all : OnOk result (left ≡ [])
+      pub made : Made O
+      pub then : Progress
+      pub are_made : AreMade at first made then
+      pub printed : OnOk result (then.written ≡ written)
+      pub driven : AreDriven before made after

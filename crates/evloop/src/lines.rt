@@ -1,0 +1,155 @@
+//! The lines of a script, made one after another: a call at most, and what it answers is printed.
+
+ghost use Rattle.std.specs.Prelude.{◌≡◌, [], ◌∷◌, OnOk, slice_get};
+ghost use Rattle.std.specs.Option.{option_flatten};
+ghost use Rattle.std.specs.Vec.Iter.{into_iter_items};
+ghost use Rattle.event_manager.specs.Manager.{state_of};
+ghost use Rattle.evloop.specs.Lines.{IsLineRun, IsRun, TakesNext, done_of};
+ghost use Rattle.evloop_script.specs.Printed.{written_by};
+
+use crate::calls::{ask, join, leave, run_once};
+use event_manager::laws::driven_lists_join;
+use event_manager::{Error, EventManager, EventPoller, Job, Naming, SubscriberId, SubscriberOps};
+use evloop_script::fault::Fault;
+use evloop_script::output::{Out, OutputLine, Printer};
+use evloop_script::reactions::Reactions;
+use evloop_script::requests::print_replies;
+use evloop_script::script::Call;
+use evloop_script::subscriber::Subscriber;
+use std::alloc::Global;
+use std::sync::Wait;
+use std::time::Clock;
+use std::vec::IntoIter;
+
+// The id of the join at this place; none where the join was refused.
+fn id_of(ids: &[Option<SubscriberId>], join: usize) -> Option<SubscriberId>
+    ensures { result ≡ option_flatten (slice_get ids.now join) }
+{
+    ids.get(join).copied().flatten()
+}
+
+// The reactions of the next join; without one they are none.
+fn next_of(alloc: Global, reactions: &mut IntoIter<Reactions>) -> Reactions
+    ensures { TakesNext (into_iter_items reactions.old) result (into_iter_items reactions.new) }
+{
+    match reactions.next() {
+        Some(own) => own,
+        None => Reactions::new(alloc),
+    }
+}
+
+// Whether a leave was refused.
+fn done<T: Drop>(answer: Result<T, Error>) -> Result<(), Error>
+    ensures { result ≡ done_of answer }
+{
+    match answer {
+        Ok(_) => Ok(()),
+        Err(error) => Err(error),
+    }
+}
+
+// Makes one line.
+fn make_line<'a, R, O, J, N, P>(
+    rt: &R,
+    alloc: Global,
+    manager: &mut EventManager<Subscriber<'a, O>, J, N, P>,
+    line: Call<'a>,
+    ids: &mut Vec<Option<SubscriberId>>,
+    reactions: &mut IntoIter<Reactions>,
+    printer: &mut Printer<O>,
+) -> Result<(), Fault>
+where
+    R: Wait + Clock,
+    O: Out + Drop,
+    J: Job<Subscriber<'a, O>>,
+    N: Naming,
+    P: EventPoller,
+    ensures { IsLineRun J.may P.controls P.waits
+        (record { ids = ids.old.items; reactions = into_iter_items reactions.old; written = written_by O.contents printer.old }) line.entry result
+        (record { ids = ids.new.items; reactions = into_iter_items reactions.new; written = written_by O.contents printer.new }) (state_of manager.old) (state_of manager.new) }
+{
+    // Its contract says that each held id is below the next.
+    let _next = manager.next_id();
+    match line {
+        Call::Join { name, requests } => {
+            let own = next_of(alloc, reactions);
+            let subscriber = Subscriber::new(name, requests, own, printer.try_clone(alloc)?);
+            let answer = join(rt, alloc, manager, subscriber)?;
+            printer.print(&OutputLine::Joined { name, answer })?;
+            Ok(ids.push(answer.ok())?)
+        }
+        Call::Ask {
+            name,
+            join,
+            requests,
+        } => match id_of(ids, join) {
+            Some(id) => {
+                let asked = requests.clone()?;
+                match ask(rt, alloc, manager, id, requests)? {
+                    Ok(answers) => {
+                        print_replies(name, &asked, &answers, printer);
+                        Ok(())
+                    }
+                    Err(error) => printer.print(&OutputLine::AskRefused { name, error }),
+                }
+            }
+            None => {
+                let error = Error::InvalidId;
+                printer.print(&OutputLine::AskRefused { name, error })
+            }
+        },
+        Call::Leave { name, join } => match id_of(ids, join) {
+            Some(id) => {
+                let answer = done(leave(rt, alloc, manager, id)?);
+                printer.print(&OutputLine::Left { name, answer })
+            }
+            None => {
+                let answer = Err(Error::InvalidId);
+                printer.print(&OutputLine::Left { name, answer })
+            }
+        },
+        Call::Run => {
+            let answer = run_once(rt, alloc, manager)?;
+            printer.print(&OutputLine::Ran { answer })
+        }
+    }
+}
+
+/// Makes the lines in order, and prints what they are answered. Each makes one call of the manager; an `ask` or `drop` line
+/// of a name whose join was refused makes none. The reactions are those of the joins, in order; a join behind the last of
+/// them has none. A line of a reply to an `ask` that can't be written is dropped.
+///
+/// The calls that were made, with their replies, are one list that was driven, whose `Remove` and `Ask` calls have the ids
+/// that the replies to the joins gave.
+///
+/// # Errors
+///
+/// `OutOfMemory`; `CannotWrite` where another line can't be written. Then the first lines were made, and those behind them
+/// were not.
+pub fn make_lines<'a, R, O, J, N, P>(
+    rt: &R,
+    alloc: Global,
+    manager: &mut EventManager<Subscriber<'a, O>, J, N, P>,
+    lines: Vec<Call<'a>>,
+    reactions: Vec<Reactions>,
+    printer: &mut Printer<O>,
+) -> Result<(), Fault>
+where
+    R: Wait + Clock,
+    O: Out + Drop,
+    J: Job<Subscriber<'a, O>>,
+    N: Naming,
+    P: EventPoller,
+    ensures { IsRun J.may P.controls P.waits (record { ids = []; reactions = reactions.items; written = written_by O.contents printer.old })
+        lines.entry.items result (written_by O.contents printer.new) (state_of manager.old) (state_of manager.new) }
+{
+    // Their contracts say that no call is a driven list, and that each held id is below the next.
+    driven_lists_join::<Subscriber<'a, O>, J, P>();
+    let _next = manager.next_id();
+    let mut reactions = reactions.into_iter();
+    let mut ids = Vec::new(alloc);
+    for line in lines {
+        make_line(rt, alloc, manager, line, &mut ids, &mut reactions, printer)?;
+    }
+    Ok(())
+}
