@@ -42,12 +42,12 @@ TakesNext (next ∷ others) own later = (own ≡ next) × (later ≡ others)
 abbrev pub KeepsJoins : Progress → Progress → Type 0
 KeepsJoins at then = (then.ids ≡ at.ids) × (then.reactions ≡ at.reactions)
 
--- a call that gave nothing but a refusal
+-- whether a call was refused, without what it gave
 abbrev pub done_of : {A : Type 0} → Result A Error → Result (Unit {0}) Error
 done_of (Ok value) = Ok tt
 done_of (Err error) = Err error
 
--- a refusal of all requests of a line is printed
+-- a refusal of all requests of a line is printed; of the lines of single replies nothing is said
 abbrev pub PrintsRefusal : {A : Type 0} → (Error → OutputLine) → Progress → Result A Error → Progress → Type 0
 PrintsRefusal line at (Ok answers) then = ⊤
 PrintsRefusal line at (Err error) then = Prints at.written (line error) then.written
@@ -62,7 +62,8 @@ module _ {O : Type 0} where
   IsMadeUnder None answer one made = (made ≡ []) × (answer ≡ Err InvalidId)
   IsMadeUnder (Some id) answer one made = made ≡ one id ∷ []
 
-  -- what one line makes and prints, and how far the script is then
+  -- what one line makes and prints: a subscriber of the line's name, requests and reactions joins; requests, or a leave, under the id of
+  -- that join; one run without a limit
   abbrev pub Makes : Progress → script.Call → Made O → Progress → Type 0
   Makes at (line.Join name requests) made then =
       (subscriber : Subscriber O) × (answer : Result ℕ Error) × (made ≡ (call.Add subscriber, reply.Added answer) ∷ []) × (then.ids ≡ at.ids ++ result_ok answer ∷ [])
@@ -93,8 +94,8 @@ module _ {O : Type 0} where
         ((result ≡ Err OutOfMemory) × (after ≡ before))
         ⊎ ((made : Made O) × (then : Progress) × Makes at line made then × AreDriven before made after × OnOk result (then ≡ now))
 
-    -- The first lines of a script were made and printed, all of them where no fault is the result, else the last of them maybe not
-    -- printed; and what they made was driven.
+    -- The first lines of a script were made and printed: all of them, or up to a fault, the last one then maybe not printed. What they
+    -- made was driven as one list.
     pub record IsRun (at : Progress) (lines : List script.Call) (result : Result (Unit {0}) Fault) (written : Option (List ℕ)) (before after : LoopState (Subscriber O) P) : Type 0 where
       pub first : List script.Call
       pub left : List script.Call

@@ -120,12 +120,13 @@ where
 /// them has none. A line of a reply to an `ask` that can't be written is dropped.
 ///
 /// The calls that were made, with their replies, are one list that was driven, whose `Remove` and `Ask` calls have the ids
-/// that the replies to the joins gave.
+/// that the replies to the joins gave. Each line of `sub`, `drop` and `run`, and of an `ask` that is refused as a whole, is
+/// printed as its reply, behind what the output held, where std knows what it holds.
 ///
 /// # Errors
 ///
-/// `OutOfMemory`; `CannotWrite` where another line can't be written. Then the first lines were made, and those behind them
-/// were not.
+/// `OutOfMemory`; `CannotWrite` where another line can't be written. Then the first lines were made, of which the last may not
+/// be printed, and those behind them were not.
 pub fn make_lines<'a, R, O, J, N, P>(
     rt: &R,
     alloc: Global,
