@@ -1,4 +1,4 @@
-//! What another thread sees while a job, a reply, a subscriber or a poller is dropped.
+//! What another thread sees while a job, a reply or a subscriber is dropped.
 
 use crate::expecting::{expect_ok, expect_same};
 use crate::host::{Host, Looping, Rounds};
@@ -41,8 +41,6 @@ enum Act {
     CloseOnJob,
     /// A close of a manager with a subscriber that holds it.
     CloseOnGuest,
-    /// A close of a manager with a poller that holds it.
-    CloseOnPoller,
 }
 
 /// What is expected of an act: how many jobs wait while the value is dropped, what a send is then answered, and how the
@@ -54,7 +52,7 @@ fn expected(act: Act) -> (usize, Result<u64>, Option<Error>) {
         Act::SendToFull(_) => (1, Err(full), Some(full)),
         Act::SendToClosed(_) => (0, Err(closed), Some(closed)),
         Act::RunReply => (0, Ok(3), None),
-        Act::CloseOnJob | Act::CloseOnGuest | Act::CloseOnPoller => (0, Err(closed), None),
+        Act::CloseOnJob | Act::CloseOnGuest => (0, Err(closed), None),
     }
 }
 
@@ -62,20 +60,18 @@ fn expected(act: Act) -> (usize, Result<u64>, Option<Error>) {
 #[derive(Drop)]
 struct Holders<R: Clock + Drop> {
     guest: Guest<R>,
-    poller: Reporter<R>,
     job: Task<R>,
 }
 
 impl<R: Clock + Drop> Holders<R> {
     fn new(act: Act, value: Watched<R>) -> Self {
-        let (mut guest, mut poller, mut job) = (Guest(None), Reporter(None), Task::Nothing);
+        let (mut guest, mut job) = (Guest(None), Task::Nothing);
         match act {
             Act::CloseOnGuest => guest = Guest(Some(value)),
-            Act::CloseOnPoller => poller = Reporter(Some(value)),
             Act::RunReply => job = Task::Reply(value),
             Act::SendToFull(_) | Act::SendToClosed(_) | Act::CloseOnJob => job = Task::Hold(value),
         }
-        Holders { guest, poller, job }
+        Holders { guest, job }
     }
 }
 
@@ -185,7 +181,7 @@ impl<'a, R: Looping> LoopWithSenders<Guest<R>, Task<R>, Beside<'a, R>, R> for Ac
                 return Ok(());
             }
             Act::SendToClosed(_) => 0,
-            Act::CloseOnJob | Act::CloseOnGuest | Act::CloseOnPoller => 1,
+            Act::CloseOnJob | Act::CloseOnGuest => 1,
             Act::RunReply => 2,
         };
         let endpoint = expect_ok(rt, manager.remote_endpoint());
@@ -204,7 +200,7 @@ impl<'a, R: Looping> LoopWithSenders<Guest<R>, Task<R>, Beside<'a, R>, R> for Ac
 fn expect_seen<R: Host>(rt: &R, alloc: Global, act: Act) {
     let drops = expect_ok(rt, Arc::new(alloc, Drops::new()));
     let value = expect_ok(rt, Watched::new(&drops, *rt));
-    let Holders { guest, poller, job } = Holders::new(act, value);
+    let Holders { guest, job } = Holders::new(act, value);
     let Parts { event_fd, .. } = expect_ok(rt, on_table(*rt, alloc, NEARLY_FULL));
     let second = Mutex::new(Some(job));
     let mut acting = Acting {
@@ -213,7 +209,7 @@ fn expect_seen<R: Host>(rt: &R, alloc: Global, act: Act) {
         guest: Some(guest),
         second: &second,
     };
-    let ended = expect_ok(rt, with_senders(rt, alloc, poller, event_fd, &mut acting));
+    let ended = expect_ok(rt, with_senders(rt, alloc, Reporter, event_fd, &mut acting));
     expect_same(rt, &ended.ran, &Ok(()));
     expect_same(rt, &drops.count(), &1);
 }
@@ -272,7 +268,7 @@ fn a_job_that_waits_at_a_close_is_dropped_behind_it(rt: HostRuntime) {
 }
 
 #[test]
-fn subscribers_and_poller_are_dropped_behind_a_close(rt: HostRuntime) {
-    let acts = [Act::CloseOnGuest, Act::CloseOnPoller];
+fn subscribers_are_dropped_behind_a_close(rt: HostRuntime) {
+    let acts = [Act::CloseOnGuest];
     expect_each_seen(&rt, rt.alloc(), &acts);
 }

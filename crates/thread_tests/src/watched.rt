@@ -122,11 +122,11 @@ impl<R: Clock + Drop> MutEventSubscriber for Guest<R> {
     fn init<P: EventPoller>(&mut self, _ops: &mut EventOps<P>) {}
 }
 
-/// A poller that holds a value, agrees to all, and reports the descriptor 0 at each wait.
+/// A poller that agrees to all, and reports the descriptor 0 at each wait.
 #[derive(Drop)]
-pub struct Reporter<R: Clock + Drop>(pub Option<Watched<R>>);
+pub struct Reporter;
 
-impl<R: Clock + Drop> EventPoller for Reporter<R> {
+impl EventPoller for Reporter {
     ghost controls = { λ v op fd event answer w. Unit {0} };
 
     ghost waits = { λ v ms capacity answer w. Unit {0} };
