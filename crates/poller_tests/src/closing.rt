@@ -1,29 +1,78 @@
-//! What becomes of a poller when its manager is closed.
+//! What a close of a manager drops, and when.
 
-use crate::expecting::{expect_ok, expect_same};
+use crate::expecting::{expect, expect_ok, expect_same};
 use event_manager::{
-    EventManager, EventPoller, Events, Ledgers, Naming, NoJob, Result, WithLedgers, with_ledgers,
+    EventManager, EventOps, EventPoller, Events, Job, Ledgers, MutEventSubscriber, Naming,
+    Registry, Result, SubscriberOps, WithLedgers, with_ledgers,
 };
-use fixtures::parts::{Idle, Parts, silent_parts};
+use fixtures::parts::{Parts, silent_parts};
 use std::sync::Wait;
 use std::sync::atomic::{AtomicU64, Ordering};
 use std::time::Clock;
 use vmm_sys::epoll::{ControlOperation, EpollEvent};
 use vmm_sys::errno::Errno;
 
-/// A poller that agrees to all and reports nothing, and counts how often it is dropped.
-struct Leaving<'a> {
-    drops: &'a AtomicU64,
+/// Notes as the how many-th of all it is dropped.
+struct Noting<'a> {
+    dropped: &'a AtomicU64,
+    place: &'a AtomicU64,
 }
 
-impl Drop for Leaving<'_> {
+impl Drop for Noting<'_> {
     fn drop(self) {
-        let Leaving { drops } = self;
-        drops.fetch_add(1, Ordering::SeqCst);
+        let Noting { dropped, place } = self;
+        let before = dropped.fetch_add(1, Ordering::SeqCst);
+        place.store(before.saturating_add(1), Ordering::SeqCst);
     }
 }
 
-impl EventPoller for Leaving<'_> {
+/// A subscriber that asks for nothing.
+#[derive(Drop)]
+struct Guest<'a> {
+    noting: Noting<'a>,
+}
+
+impl MutEventSubscriber for Guest<'_> {
+    ghost use Rattle.event_manager.specs.Exchange.{AsksNothing};
+
+    ghost begins = { λ v exchanges w. AsksNothing exchanges };
+
+    ghost serves = { λ v event exchanges w. AsksNothing exchanges };
+
+    fn process<P: EventPoller>(&mut self, _events: Events, _ops: &mut EventOps<P>) {}
+
+    fn init<P: EventPoller>(&mut self, _ops: &mut EventOps<P>) {}
+}
+
+/// A job that does nothing.
+#[derive(Drop)]
+struct Waiting<'a> {
+    noting: Noting<'a>,
+}
+
+impl<'a> Job<Guest<'a>> for Waiting<'a> {
+    type Reply = ();
+
+    ghost use Rattle.std.specs.Prelude.{◌≡◌, []};
+
+    ghost may = { λ job steps reply. steps ≡ [] };
+
+    ghost replies = { λ reply. Unit {0} };
+
+    fn call<P: EventPoller, R: Wait + Clock>(
+        self,
+        _registry: &mut Registry<Guest<'a>, P>,
+        _rt: &R,
+    ) {}
+}
+
+/// A poller that agrees to all and reports nothing.
+#[derive(Drop)]
+struct Silent<'a> {
+    noting: Noting<'a>,
+}
+
+impl EventPoller for Silent<'_> {
     ghost controls = { λ v op fd event answer w. Unit {0} };
 
     ghost waits = { λ v ms capacity answer w. Unit {0} };
@@ -42,33 +91,62 @@ impl EventPoller for Leaving<'_> {
     }
 }
 
-/// Makes a manager over the parts, and closes it.
+/// Makes a manager over the parts, which the guest joins, and closes it while the job waits.
 struct Closing<'a, R> {
     rt: &'a R,
-    parts: Parts<Leaving<'a>>,
+    parts: Parts<Silent<'a>>,
+    guest: Guest<'a>,
+    job: Waiting<'a>,
 }
 
-impl<R: Wait + Clock> WithLedgers for Closing<'_, R> {
+impl<'a, R: Wait + Clock> WithLedgers for Closing<'a, R> {
     type Output = Result<()>;
 
     fn run<N: Naming + Send + Sync>(self, ledgers: Ledgers<N>) -> Result<()> {
-        let Closing { rt, parts } = self;
-        let manager = EventManager::<Idle, NoJob, N, _>::new(
+        let Closing {
+            rt,
+            parts,
+            guest,
+            job,
+        } = self;
+        let mut manager = EventManager::<Guest<'a>, Waiting<'a>, N, _>::new(
             parts.alloc,
             parts.poller,
             parts.event_fd,
             ledgers,
         )?;
+        manager.add_subscriber(guest)?;
+        manager.remote_endpoint()?.fire(job, rt)?;
         manager.close(rt);
         Ok(())
     }
 }
 
 #[test]
-fn a_close_drops_the_poller(rt: HostRuntime) {
-    let drops = AtomicU64::new(0);
-    let poller = Leaving { drops: &drops };
-    let parts = expect_ok(&rt, silent_parts(rt, rt.alloc(), poller));
-    expect_ok(&rt, with_ledgers(Closing { rt: &rt, parts }));
-    expect_same(&rt, &drops.load(Ordering::SeqCst), &1);
+fn a_close_drops_the_jobs_and_then_subscribers_and_poller(rt: HostRuntime) {
+    let dropped = AtomicU64::new(0);
+    let places = [AtomicU64::new(0), AtomicU64::new(0), AtomicU64::new(0)];
+    let [of_job, of_guest, of_poller] = &places;
+    let noting = |place| Noting {
+        dropped: &dropped,
+        place,
+    };
+    let poller = Silent {
+        noting: noting(of_poller),
+    };
+    let closing = Closing {
+        rt: &rt,
+        parts: expect_ok(&rt, silent_parts(rt, rt.alloc(), poller)),
+        guest: Guest {
+            noting: noting(of_guest),
+        },
+        job: Waiting {
+            noting: noting(of_job),
+        },
+    };
+    expect_ok(&rt, with_ledgers(closing));
+    expect_same(&rt, &dropped.load(Ordering::SeqCst), &3);
+    expect_same(&rt, &of_job.load(Ordering::SeqCst), &1);
+    expect(&rt, of_guest.load(Ordering::SeqCst) > 1);
+    expect(&rt, of_poller.load(Ordering::SeqCst) > 1);
 }
