@@ -14,9 +14,9 @@ use vmm_sys::errno::Errno;
 use vmm_sys::eventfd::EventFd;
 use vmm_sys::poller::Poller;
 
-/// A sender that isn't there.
+/// A sender that sends nothing.
 #[derive(Drop)]
-enum Nobody {}
+struct Nobody;
 
 impl<R: Looping> Sender<Idle, NoJob, (), R> for Nobody {
     fn send<N: Naming>(self, _endpoint: &RemoteEndpoint<Idle, NoJob, N>, _rt: &R) {}
