@@ -13,6 +13,7 @@ use refused_calls::watcher::Watcher;
 use std::alloc::Global;
 use std::sync::atomic::{AtomicU64, Ordering};
 use std::thread::Threads;
+use vmm_sys::epoll::Epoll;
 
 /// How many jobs each thread calls.
 const CALLS: u64 = 3;
