@@ -1,3 +1,5 @@
+pub mod Descriptors
+pub mod Fd
 pub mod EventSet
 pub mod EpollEvent
 pub mod Poller

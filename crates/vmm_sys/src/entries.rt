@@ -1,61 +1,9 @@
 //! What a poller is given and what it reports; [`epoll`](crate::epoll) hands it out.
 
-ghost use Rattle.std.specs.Prelude.{◌≡◌, ◌≤ℤ◌, pos, ℤ};
-ghost use Rattle.std.specs.Arc.{arc_value};
+ghost use Rattle.std.specs.Prelude.{◌≡◌};
 
+use crate::descriptors::RawFd;
 use crate::event_set::EventSet;
-use std::rc::Rc;
-use std::sync::Arc;
-
-/// A file descriptor. Numbers from 0 up stand for descriptors, others for none.
-pub type RawFd = i32;
-
-/// What has a file descriptor.
-pub trait AsRawFd {
-    /// The descriptor of a value.
-    ghost descriptor: { Self → ℤ };
-
-    /// Its descriptor, from 0 up.
-    fn as_raw_fd(&self) -> RawFd
-        ensures descriptor { result ≡ descriptor self.now }
-        ensures from_0_up { pos 0 ≤ℤ result };
-}
-
-/// That of what is referred to.
-impl<T: AsRawFd> AsRawFd for &T {
-    ghost descriptor = { λ v. T.descriptor v.now };
-
-    fn as_raw_fd(&self) -> RawFd {
-        (**self).as_raw_fd()
-    }
-}
-
-/// That of what is shared.
-impl<T: AsRawFd> AsRawFd for Arc<T> {
-    ghost descriptor = { λ v. T.descriptor (arc_value v) };
-
-    fn as_raw_fd(&self) -> RawFd {
-        (**self).as_raw_fd()
-    }
-}
-
-/// That of what is shared.
-impl<T: AsRawFd> AsRawFd for Rc<T> {
-    ghost descriptor = { λ v. T.descriptor v.value };
-
-    fn as_raw_fd(&self) -> RawFd {
-        (**self).as_raw_fd()
-    }
-}
-
-/// That of what is in the box.
-impl<T: AsRawFd> AsRawFd for Box<T> {
-    ghost descriptor = { λ v. T.descriptor v.value };
-
-    fn as_raw_fd(&self) -> RawFd {
-        (**self).as_raw_fd()
-    }
-}
 
 /// What is done to an interest list.
 #[derive(Clone, Copy, PartialEq, Eq, Debug)]

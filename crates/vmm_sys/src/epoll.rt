@@ -5,9 +5,11 @@ ghost use Rattle.std.specs.Duration.{as_nanos};
 ghost use base.Stored.{gnil};
 ghost use Rattle.vmm_sys.specs.SharedTable.{MayCtl, MayWait};
 
-pub use crate::entries::{AsRawFd, ControlOperation, EpollEvent, RawFd};
+pub use crate::descriptors::{AsRawFd, RawFd};
+pub use crate::entries::{ControlOperation, EpollEvent};
 use crate::errno::Errno;
 pub use crate::event_set::EventSet;
+pub use crate::fd::Fd;
 use crate::poller::Poller;
 use crate::shared_table::{TableOwner, another_owner, new_table};
 use std::alloc::Global;

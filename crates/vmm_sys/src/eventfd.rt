@@ -2,7 +2,7 @@
 
 ghost use Rattle.std.specs.Prelude.{◌≡◌, ◌≤ℤ◌, pos, IsErr, IfErr, IfOk};
 
-use crate::entries::{AsRawFd, RawFd};
+use crate::descriptors::{AsRawFd, RawFd};
 use crate::epoll::Epoll;
 use crate::errno::Errno;
 use crate::shared_table::{TableOwner, another_owner};

@@ -3,7 +3,8 @@
 ghost use Rattle.std.specs.Prelude.{◌≡◌};
 ghost use Rattle.vmm_sys.specs.FaultPoller.{counted, is_refused, faulty_code, MayCtl, MayWait};
 
-use crate::entries::{ControlOperation, EpollEvent, RawFd};
+use crate::descriptors::RawFd;
+use crate::entries::{ControlOperation, EpollEvent};
 use crate::errno::Errno;
 use crate::poller::Poller;
 use crate::script_poller::ScriptPoller;

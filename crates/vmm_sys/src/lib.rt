@@ -9,12 +9,15 @@
 //! [`line::Line`] for its descriptors.
 #![tactic(auto)]
 
+pub mod counter;
+mod descriptors;
 mod entries;
 pub mod epoll;
 pub mod errno;
 pub mod event_set;
 pub mod eventfd;
 pub mod fault_poller;
+mod fd;
 pub mod line;
 pub mod poller;
 pub mod record;

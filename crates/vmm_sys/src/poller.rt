@@ -7,7 +7,8 @@ ghost use Rattle.vmm_sys.specs.declared.entries.ControlOperation.{ControlOperati
 ghost use Rattle.vmm_sys.specs.declared.entries.EpollEvent.{EpollEvent};
 ghost use Rattle.vmm_sys.specs.declared.errno.Errno.{Errno};
 
-use crate::entries::{ControlOperation, EpollEvent, RawFd};
+use crate::descriptors::RawFd;
+use crate::entries::{ControlOperation, EpollEvent};
 use crate::errno::Errno;
 
 /// Keeps an interest list, and reports which of its descriptors have something.

@@ -1,6 +1,7 @@
 //! What a record of a poller's calls consists of.
 
-use crate::entries::{ControlOperation, EpollEvent, RawFd};
+use crate::descriptors::RawFd;
+use crate::entries::{ControlOperation, EpollEvent};
 use crate::errno::Errno;
 
 /// An entry of a record: a call of a poller with its answer, or an event that the wait before it reported.

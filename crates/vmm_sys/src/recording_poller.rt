@@ -5,7 +5,8 @@ ghost use Rattle.vmm_sys.specs.declared.record.RecordEntry.TheVariants.{Reported
 ghost use Rattle.vmm_sys.specs.Poller.{reported};
 ghost use Rattle.vmm_sys.specs.Recording.{recorded, with_poller, recording_code, MayCtl, MayWait};
 
-use crate::entries::{ControlOperation, EpollEvent, RawFd};
+use crate::descriptors::RawFd;
+use crate::entries::{ControlOperation, EpollEvent};
 use crate::errno::Errno;
 use crate::event_set::EventSet;
 use crate::poller::Poller;

@@ -14,7 +14,8 @@ ghost use Rattle.vmm_sys.specs.Recording as recording;
 ghost use Rattle.vmm_sys.specs.Recording.{Recording, recording_code};
 ghost use Rattle.vmm_sys.specs.Replay.{start_of, divergence, divergence_index, replay_code, MayCtl, MayWait};
 
-use crate::entries::{ControlOperation, EpollEvent, RawFd};
+use crate::descriptors::RawFd;
+use crate::entries::{ControlOperation, EpollEvent};
 use crate::errno::Errno;
 use crate::poller::Poller;
 use crate::record::RecordEntry;

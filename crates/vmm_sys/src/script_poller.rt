@@ -3,7 +3,8 @@
 ghost use Rattle.std.specs.Prelude.{◌≡◌, ◌≤◌, ◌<◌, ◌++◌, [], length, take, drop, position, Ok, Err, OnOk, OnErr, IfSome, IsOkUnless};
 ghost use Rattle.vmm_sys.specs.ScriptPoller.{same_operation, refuses, with_answer, with_refusal, answer_of, ctl_answer, after_ctl, next_answer, after_wait, entries_of, count_of, script_code, MayCtl, MayWait};
 
-use crate::entries::{ControlOperation, EpollEvent, RawFd};
+use crate::descriptors::RawFd;
+use crate::entries::{ControlOperation, EpollEvent};
 use crate::errno::Errno;
 use crate::poller::Poller;
 use std::alloc::Global;

@@ -5,7 +5,8 @@ ghost use Rattle.vmm_sys.specs.Poller.{reported};
 ghost use Rattle.vmm_sys.specs.Table.{write_of, read_of, set_line_of, add_counter_of, add_line_of};
 ghost use Rattle.vmm_sys.specs.SharedTable.{AnswersOfSome, AnswersOfSomeWithMemory, Changed, Waited};
 
-use crate::entries::{ControlOperation, EpollEvent, RawFd};
+use crate::descriptors::RawFd;
+use crate::entries::{ControlOperation, EpollEvent};
 use crate::errno::Errno;
 use crate::event_set::EventSet;
 use crate::table::Table;

@@ -11,7 +11,8 @@ ghost use Rattle.vmm_sys.specs.TablePoller.{table_code, MayCtl, MayWait};
 mod interests;
 mod ready_set;
 
-use crate::entries::{ControlOperation, EpollEvent, RawFd};
+use crate::descriptors::RawFd;
+use crate::entries::{ControlOperation, EpollEvent};
 use crate::errno::Errno;
 use crate::event_set::EventSet;
 use crate::poller::Poller;
