@@ -37,6 +37,7 @@ pub mod Trace
 pub mod Determinism
 pub mod RecordedRun
 pub mod Manager
+pub mod NamedCounter
 pub mod Account
 pub mod JobQueue
 pub mod Endpoint

@@ -1,8 +1,6 @@
 -- A manager, seen by the definitions, and how one is made.
-use Rattle.std.specs.Prelude.{◌≡◌, ℕ, ◌<◌, ◌≤◌, unsigned_abs, Result, Ok, Err}
+use Rattle.std.specs.Prelude.{◌≡◌, ℕ, ◌<◌, ◌≤◌, ℤ, unsigned_abs, Result, Ok, Err}
 use Rattle.vmm_sys.specs.declared.entries.ControlOperation.TheVariants as operation
-use Rattle.vmm_sys.specs.EventFd.{descriptor_of}
-use Rattle.vmm_sys.specs.declared.eventfd.EventFd.{EventFd}
 use Rattle.dispatch_tables.specs.Event.{Event}
 use Rattle.event_loop.specs.PollerCall.{Controls}
 use Rattle.event_loop.specs.LoopState.{LoopState, new_loop}
@@ -16,9 +14,9 @@ use Rattle.event_manager.specs.declared.manager.EventManager.{EventManager}
 abbrev pub state_of : {S J N P R : Type 0} → EventManager S J N P R → LoopState S P
 state_of m = record (loop_state m.registry) { taken = m.channel }
 
--- the number of the endpoint's descriptor
-abbrev pub endpoint_of : EventFd → ℕ
-endpoint_of event_fd = unsigned_abs (descriptor_of event_fd)
+-- the number of the endpoint's descriptor, which is the counter's
+abbrev pub endpoint_of : {N : Type 0} → (N → ℤ) → N → ℕ
+endpoint_of descriptor counter = unsigned_abs (descriptor counter)
 
 -- the event with which the endpoint's descriptor is added to the poller
 abbrev pub endpoint_event : ℕ → Event

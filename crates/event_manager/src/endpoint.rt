@@ -2,7 +2,7 @@
 
 ghost use Rattle.std.specs.Prelude.{◌≡◌, ◌<◌, IfOk, IfErr};
 ghost use Rattle.event_manager.specs.JobQueue.{answer_of};
-ghost use Rattle.event_manager.specs.Endpoint.{IsSendRefusal, IsCallRefusal, IsRingRefusal};
+ghost use Rattle.event_manager.specs.Endpoint.{counter_of_endpoint, IsSendRefusal, IsCallRefusal, IsRingRefusal};
 ghost use Rattle.event_loop.specs.declared.error.Error.TheVariants.{OutOfMemory};
 
 pub(crate) mod channel;
@@ -16,11 +16,13 @@ use crate::endpoint::channel::Channel;
 use crate::endpoint::slot::new_slot;
 use crate::endpoint::waiting_job::WaitingJob;
 use crate::jobs::{Job, Refused};
+use crate::named_counter::NamedCounter;
 use event_loop::{Error, MutEventSubscriber, Result};
 use job_tickets::naming::Naming;
 use job_tickets::tickets::Ticket;
 use std::sync::{Arc, Wait};
 use std::time::Clock;
+use vmm_sys::counter::Bell;
 
 // Lets go of what was refused: where the queue's lock is free, since the drop of a job is its sender's code.
 fn answer<J: Drop, Q: Drop, N: Naming>(
@@ -42,22 +44,22 @@ fn answer<J: Drop, Q: Drop, N: Naming>(
 /// The queue of a manager that was dropped without [`close`](crate::EventManager::close) stays open: sends are still
 /// accepted, nobody runs the jobs, and a `call_blocking` waits for ever. `close` is the way out.
 #[derive(Drop)]
-pub struct RemoteEndpoint<S: MutEventSubscriber, J: Job<S>, N: Naming> {
+pub struct RemoteEndpoint<S: MutEventSubscriber, J: Job<S>, N: NamedCounter> {
     pub(crate) channel: Arc<Channel<S, J, N>>,
 }
 
-impl<S: MutEventSubscriber, J: Job<S>, N: Naming> RemoteEndpoint<S, J, N> {
+impl<S: MutEventSubscriber, J: Job<S>, N: NamedCounter> RemoteEndpoint<S, J, N> {
     /// Sends a job, which the loop runs once, in the order of the tickets, after a later batch. The ticket may be dropped.
     ///
     /// Refused, in this order, the queue as it was and the job dropped: `ChannelSend` where the manager was closed;
     /// `TicketsUsedUp` where 9223372036854775807 tickets were issued; `OutOfMemory`; `EventFd(EAGAIN)` where the value of
     /// the endpoint's `EventFd` is full.
     pub fn fire<R: Wait + Clock>(&self, job: J, rt: &R) -> Result<Ticket<N>>
-        ensures refusals { IfErr result IsSendRefusal }
+        ensures refusals { IfErr result (IsSendRefusal (N.rings (counter_of_endpoint self.now))) }
     {
         let channel = &*self.channel;
         let fired = WaitingJob::new(job, None);
-        let sent = channel.state.lock(rt).send(fired, &channel.event_fd, rt);
+        let sent = channel.state.lock(rt).send(fired, &channel.counter, rt);
         answer(sent)
     }
 
@@ -73,14 +75,14 @@ impl<S: MutEventSubscriber, J: Job<S>, N: Naming> RemoteEndpoint<S, J, N> {
         rt: &R,
     ) -> Result<Ticket<N>>
         ensures above { IfOk result (λ n. shown.now < n) }
-        ensures refusals { IfErr result IsSendRefusal }
+        ensures refusals { IfErr result (IsSendRefusal (N.rings (counter_of_endpoint self.now))) }
     {
         let channel = &*self.channel;
         let job = WaitingJob::new(job, None);
         let sent = channel
             .state
             .lock(rt)
-            .send_after(shown, job, &channel.event_fd, rt);
+            .send_after(shown, job, &channel.counter, rt);
         answer(sent)
     }
 
@@ -91,12 +93,12 @@ impl<S: MutEventSubscriber, J: Job<S>, N: Naming> RemoteEndpoint<S, J, N> {
     /// ran.
     pub fn call_blocking<R: Wait + Clock>(&self, job: J, rt: &R) -> Result<J::Reply>
         ensures fact { IfOk result (λ r. J.replies r) }
-        ensures refusals { IfErr result IsCallRefusal }
+        ensures refusals { IfErr result (IsCallRefusal (N.rings (counter_of_endpoint self.now))) }
     {
         let channel = &*self.channel;
         let (sender, receiver) = new_slot(channel.alloc)?;
         let called = WaitingJob::new(job, Some(sender));
-        let sent = channel.state.lock(rt).send(called, &channel.event_fd, rt);
+        let sent = channel.state.lock(rt).send(called, &channel.counter, rt);
         let _ticket = answer(sent)?;
         receiver.wait(rt)
     }
@@ -105,13 +107,14 @@ impl<S: MutEventSubscriber, J: Job<S>, N: Naming> RemoteEndpoint<S, J, N> {
     ///
     /// `EventFd(EAGAIN)` where its value is full; then nothing changes.
     pub fn kick<R: Wait + Clock>(&self, rt: &R) -> Result<()>
-        ensures refusals { IfErr result IsRingRefusal }
+        ensures refusals { IfErr result (IsRingRefusal (N.rings (counter_of_endpoint self.now))) }
     {
-        self.channel.event_fd.write(1, rt).map_err(Error::EventFd)
+        self.channel.counter.ring(rt).map_err(Error::EventFd)
     }
 
     /// Another endpoint of the same manager. `OutOfMemory` where one more owner is refused.
     pub fn try_clone(&self) -> Result<Self>
+        ensures same_counter { IfOk result (λ other. counter_of_endpoint other ≡ counter_of_endpoint self.now) }
         ensures refusals { IfErr result (λ e. e ≡ OutOfMemory) }
     {
         let channel = Arc::try_clone(&self.channel)?;

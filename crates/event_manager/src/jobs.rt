@@ -7,4 +7,5 @@ pub mod queue;
 pub use account::{Outcome, Step, replay};
 pub use job::{Job, NoJob};
 pub(crate) use queue::Refused;
-pub use queue::{Bell, Entry, JobQueue};
+pub use queue::{Entry, JobQueue};
+pub use vmm_sys::counter::Bell;

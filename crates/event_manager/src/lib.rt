@@ -10,8 +10,10 @@ mod calls;
 mod endpoint;
 pub mod jobs;
 pub mod laws;
+mod ledgers;
 mod lists;
 mod manager;
+mod named_counter;
 mod senders;
 
 pub use calls::{Call, Reply};
@@ -23,10 +25,13 @@ pub use event_loop::{
     RefusedRequest, Registry, Request, Result, StepInput, StepSubscriber, SubscriberId,
     SubscriberOps, Subscribers, cancelled_at, utilities,
 };
-pub use job_tickets::ledgers::{Ledgers, WithLedgers, with_ledgers};
+pub use job_tickets::ledgers::Ledgers;
 pub use job_tickets::naming::Naming;
 pub use job_tickets::tickets::Ticket;
 pub use jobs::{Job, NoJob};
+pub use ledgers::{WithLedgers, with_ledgers};
 pub use lists::drive;
 pub use manager::EventManager;
+pub use named_counter::{Named, NamedCounter};
 pub use senders::{Ended, LoopWithSenders, Sender, Senders, with_senders};
+pub use vmm_sys::counter::{Bell, Counter};

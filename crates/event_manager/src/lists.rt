@@ -14,8 +14,8 @@ use crate::jobs::Job;
 use crate::lists::ask::{ask, replace};
 use crate::lists::plan::{Planned, plan_all};
 use crate::manager::EventManager;
+use crate::named_counter::NamedCounter;
 use event_loop::{Error, EventPoller, MutEventSubscriber, Result, SubscriberOps};
-use job_tickets::naming::Naming;
 use std::sync::Wait;
 use std::time::Clock;
 
@@ -28,7 +28,7 @@ fn make_call<S, J, N, P, R>(
 where
     S: MutEventSubscriber + Drop,
     J: Job<S>,
-    N: Naming,
+    N: NamedCounter,
     P: EventPoller,
     R: Wait + Clock,
     ensures { (effect : Effect S J J.Reply) × Matches effect planned.call result
@@ -60,7 +60,7 @@ pub fn drive<S, J, N, P, R>(
 where
     S: MutEventSubscriber + Drop,
     J: Job<S>,
-    N: Naming,
+    N: NamedCounter,
     P: EventPoller,
     R: Wait + Clock,
     ensures driven { OnOk result ((new : List (Reply S)) × (replies.new.items ≡ replies.old.items ++ new)

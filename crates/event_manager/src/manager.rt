@@ -10,17 +10,16 @@ use crate::endpoint::RemoteEndpoint;
 use crate::endpoint::channel::EventManagerChannel;
 use crate::endpoint::closed::Closed;
 use crate::jobs::Job;
+use crate::named_counter::NamedCounter;
 use event_loop::{
     BoxedPoller, Error, EventOps, EventPoller, Events, MAX_READY_EVENTS_CAPACITY,
     MutEventSubscriber, Registry, Result, SubscriberId, SubscriberOps, Subscribers,
 };
 use job_tickets::ledgers::Ledgers;
-use job_tickets::naming::Naming;
 use std::alloc::Global;
 use std::sync::Wait;
 use std::time::Clock;
 use vmm_sys::epoll::EventSet;
-use vmm_sys::eventfd::EventFd;
 
 /// The capacity of [`EventManager::new`].
 pub(crate) const DEFAULT_CAPACITY: usize = 256;
@@ -30,20 +29,20 @@ pub(crate) const DEFAULT_CAPACITY: usize = 256;
 /// `N` names the ledgers of its tickets and of its taken jobs, which [`with_ledgers`](crate::with_ledgers) makes.
 /// Where no jobs are needed, `J` is [`NoJob`](crate::jobs::NoJob).
 #[derive(Drop)]
-pub struct EventManager<S: MutEventSubscriber, J: Job<S>, N: Naming, P = BoxedPoller> {
+pub struct EventManager<S: MutEventSubscriber, J: Job<S>, N: NamedCounter, P = BoxedPoller> {
     registry: Registry<S, P>,
     channel: EventManagerChannel<S, J, N>,
 }
 
-impl<S: MutEventSubscriber, J: Job<S>, N: Naming, P: EventPoller> EventManager<S, J, N, P> {
+impl<S: MutEventSubscriber, J: Job<S>, N: NamedCounter, P: EventPoller> EventManager<S, J, N, P> {
     /// A manager with capacity 256, as [`new_with_capacity`](EventManager::new_with_capacity) makes it.
-    pub fn new(alloc: Global, poller: P, event_fd: EventFd, ledgers: Ledgers<N>) -> Result<Self>
+    pub fn new(alloc: Global, poller: P, counter: N, ledgers: Ledgers<N>) -> Result<Self>
     where
         S: Drop,
         P: Drop,
-        ensures { IsMade P.controls poller (endpoint_of event_fd) 256 state_of result }
+        ensures { IsMade P.controls poller (endpoint_of N.descriptor counter) 256 state_of result }
     {
-        EventManager::new_with_capacity(alloc, poller, event_fd, DEFAULT_CAPACITY, ledgers)
+        EventManager::new_with_capacity(alloc, poller, counter, DEFAULT_CAPACITY, ledgers)
     }
 
     /// A manager with no subscriber, whose batches have up to `capacity` events. Its endpoint is `event_fd`.
@@ -60,20 +59,20 @@ impl<S: MutEventSubscriber, J: Job<S>, N: Naming, P: EventPoller> EventManager<S
     pub fn new_with_capacity(
         alloc: Global,
         poller: P,
-        event_fd: EventFd,
+        counter: N,
         capacity: usize,
         ledgers: Ledgers<N>,
     ) -> Result<Self>
     where
         S: Drop,
         P: Drop,
-        ensures { IsMade P.controls poller (endpoint_of event_fd) capacity state_of result }
+        ensures { IsMade P.controls poller (endpoint_of N.descriptor counter) capacity state_of result }
     {
         if capacity > MAX_READY_EVENTS_CAPACITY {
             return Err(Error::InvalidCapacity);
         }
-        let events = Events::new(&event_fd, EventSet::IN);
-        let channel = EventManagerChannel::new(alloc, event_fd, ledgers)?;
+        let events = Events::new(&counter, EventSet::IN);
+        let channel = EventManagerChannel::new(alloc, counter, ledgers)?;
         let registry = Registry::new(alloc, poller, events, capacity)?;
         Ok(EventManager { registry, channel })
     }
@@ -156,7 +155,7 @@ impl<S: MutEventSubscriber, J: Job<S>, N: Naming, P: EventPoller> EventManager<S
     }
 }
 
-impl<S: MutEventSubscriber + Drop, J: Job<S>, N: Naming, P: EventPoller> SubscriberOps
+impl<S: MutEventSubscriber + Drop, J: Job<S>, N: NamedCounter, P: EventPoller> SubscriberOps
     for EventManager<S, J, N, P> {
     type Subscriber = S;
 

@@ -7,6 +7,7 @@ use crate::endpoint::RemoteEndpoint;
 use crate::endpoint::closed::Closed;
 use crate::jobs::Job;
 use crate::manager::{DEFAULT_CAPACITY, EventManager};
+use crate::named_counter::{Named, NamedCounter};
 use event_loop::{Error, EventPoller, MutEventSubscriber, Result};
 use job_tickets::ledgers::Ledgers;
 use job_tickets::naming::Naming;
@@ -18,12 +19,12 @@ use std::sync::{Mutex, Wait};
 use std::thread;
 use std::thread::Threads;
 use std::time::Clock;
-use vmm_sys::eventfd::EventFd;
+use vmm_sys::counter::Counter;
 
 /// Who sends jobs of type `J` from a thread of its own, and gives a `T` in the end.
 pub trait Sender<S: MutEventSubscriber, J: Job<S>, T, R: Wait + Clock> {
     /// Sends what there is to send, by an endpoint of the loop beside it.
-    fn send<N: Naming>(self, endpoint: &RemoteEndpoint<S, J, N>, rt: &R) -> T;
+    fn send<N: NamedCounter>(self, endpoint: &RemoteEndpoint<S, J, N>, rt: &R) -> T;
 }
 
 /// The loop's side of [`with_senders`]: its subscribers and its senders, of type `Q`, and how long it runs.
@@ -34,7 +35,7 @@ pub trait LoopWithSenders<S: MutEventSubscriber, J: Job<S>, Q, R: Wait + Clock> 
     }
 
     /// Lets subscribers join, and answers the senders: each gets a thread once this is over.
-    fn begin<N: Naming, P: EventPoller>(
+    fn begin<N: NamedCounter, P: EventPoller>(
         &mut self,
         rt: &R,
         alloc: Global,
@@ -43,7 +44,7 @@ pub trait LoopWithSenders<S: MutEventSubscriber, J: Job<S>, Q, R: Wait + Clock> 
 
     /// Runs the loop beside the senders, on the thread that called `with_senders`. As it stands here:
     /// [`run_until_ended`](Senders::run_until_ended).
-    fn run<N: Naming, P: EventPoller>(
+    fn run<N: NamedCounter, P: EventPoller>(
         &mut self,
         rt: &R,
         manager: &mut EventManager<S, J, N, P>,
@@ -75,7 +76,7 @@ impl Senders {
     where
         S: MutEventSubscriber,
         J: Job<S>,
-        N: Naming,
+        N: NamedCounter,
         P: EventPoller,
         R: Wait + Clock,
     {
@@ -96,7 +97,7 @@ impl Senders {
     }
 
     // One has ended: the last wakes the loop.
-    fn end_one<S: MutEventSubscriber, J: Job<S>, N: Naming, R: Wait + Clock>(
+    fn end_one<S: MutEventSubscriber, J: Job<S>, N: NamedCounter, R: Wait + Clock>(
         &self,
         endpoint: &RemoteEndpoint<S, J, N>,
         rt: &R,
@@ -132,14 +133,14 @@ struct LoopEnded<N: Naming, P> {
 
 // What the loop's thread shares with those of the senders.
 #[derive(Drop)]
-struct Shared<S: MutEventSubscriber, J: Job<S>, N: Naming, T> {
+struct Shared<S: MutEventSubscriber, J: Job<S>, N: NamedCounter, T> {
     endpoint: RemoteEndpoint<S, J, N>,
     senders: Senders,
     // What the sender of each index gave.
     sent: Mutex<Vec<Option<T>>>,
 }
 
-impl<S: MutEventSubscriber, J: Job<S>, N: Naming, T: Drop> Shared<S, J, N, T> {
+impl<S: MutEventSubscriber, J: Job<S>, N: NamedCounter, T: Drop> Shared<S, J, N, T> {
     fn new(alloc: Global, endpoint: RemoteEndpoint<S, J, N>, senders: usize) -> Result<Self> {
         let mut sent = Vec::new(alloc);
         for _sender in 0..senders {
@@ -168,7 +169,7 @@ fn send_and_end<S, J, N, Q, T, R>(shared: &Shared<S, J, N, T>, index: usize, sen
 where
     S: MutEventSubscriber,
     J: Job<S>,
-    N: Naming,
+    N: NamedCounter,
     Q: Sender<S, J, T, R>,
     T: Drop,
     R: Wait + Clock,
@@ -189,7 +190,7 @@ fn run_and_close<S, J, N, P, B, Q, R>(
 where
     S: MutEventSubscriber + Drop,
     J: Job<S>,
-    N: Naming,
+    N: NamedCounter,
     P: EventPoller + Drop,
     B: LoopWithSenders<S, J, Q, R>,
     R: Wait + Clock,
@@ -220,7 +221,7 @@ where
     S: MutEventSubscriber + Send + Drop,
     J: Job<S> + Send,
     J::Reply: Send,
-    N: Naming + Send + Sync,
+    N: NamedCounter + Send + Sync,
     P: EventPoller + Drop,
     B: LoopWithSenders<S, J, Q, R>,
     Q: Sender<S, J, T, R> + Send + Drop,
@@ -258,11 +259,11 @@ fn take_all<T: Drop>(places: Vec<Option<T>>, given: &mut Vec<T>) -> Result<()> {
 }
 
 // As `with_senders`, with these ledgers.
-fn run_named<S, J, N, P, B, Q, T, R>(
+fn run_named<S, J, N, P, C, B, Q, T, R>(
     rt: &R,
     alloc: Global,
     poller: P,
-    event_fd: EventFd,
+    counter: C,
     body: &mut B,
     tickets: Blank,
     taken: Blank,
@@ -273,6 +274,7 @@ where
     J::Reply: Send,
     N: Naming + Send + Sync,
     P: EventPoller + Drop,
+    C: Counter + Send + Sync + Drop,
     B: LoopWithSenders<S, J, Q, R>,
     Q: Sender<S, J, T, R> + Send + Drop,
     T: Send + Drop,
@@ -280,10 +282,11 @@ where
     requires tickets { (tickets.name ≡ N.tickets) × (tickets.parts ≡ 9223372036854775808) }
     requires taken { (taken.name ≡ N.taken) × (taken.parts ≡ 1) }
 {
-    let ledgers = Ledgers::<N>::new(tickets, taken);
+    let ledgers = Ledgers::<Named<N, C>>::new(tickets, taken);
     let capacity = body.capacity();
-    let made = EventManager::<S, J, N, P>::new_with_capacity(
-        alloc, poller, event_fd, capacity, ledgers,
+    let counter = Named::new(counter);
+    let made = EventManager::<S, J, Named<N, C>, P>::new_with_capacity(
+        alloc, poller, counter, capacity, ledgers,
     );
     let mut manager = made?;
     let senders = body.begin(rt, alloc, &mut manager)?;
@@ -318,11 +321,11 @@ where
 /// begins; with `OutOfMemory` also where there is no room for what the senders give, or no thread for one of them: then the
 /// loop isn't run, and what the others send is refused. Once the manager was made its endpoint stays with the poller,
 /// whose copies see it still: a close asks for no Delete.
-pub fn with_senders<S, J, P, B, Q, T, R>(
+pub fn with_senders<S, J, P, C, B, Q, T, R>(
     rt: &R,
     alloc: Global,
     poller: P,
-    event_fd: EventFd,
+    counter: C,
     body: &mut B,
 ) -> Result<Ended<T, P>>
 where
@@ -330,11 +333,12 @@ where
     J: Job<S> + Send,
     J::Reply: Send,
     P: EventPoller + Drop,
+    C: Counter + Send + Sync + Drop,
     B: LoopWithSenders<S, J, Q, R>,
     Q: Sender<S, J, T, R> + Send + Drop,
     T: Send + Drop,
     R: Threads + Wait + Clock + Sync,
 {
     let (tickets, taken) = (Blank::new(9223372036854775808), Blank::new(1));
-    run_named::<S, J, Brand, P, B, Q, T, R>(rt, alloc, poller, event_fd, body, tickets, taken)
+    run_named::<S, J, Brand, P, C, B, Q, T, R>(rt, alloc, poller, counter, body, tickets, taken)
 }

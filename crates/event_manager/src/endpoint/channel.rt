@@ -8,34 +8,34 @@ use crate::endpoint::closed::Closed;
 use crate::endpoint::state::ChannelState;
 use crate::endpoint::taken_jobs::TakenJobs;
 use crate::jobs::Job;
+use crate::named_counter::NamedCounter;
 use event_loop::{Error, EventPoller, MutEventSubscriber, Registry, Result};
 use job_tickets::ledgers::Ledgers;
-use job_tickets::naming::Naming;
 use job_tickets::taken::TakenCount;
 use std::alloc::{AllocError, Global};
 use std::marker::Model;
 use std::sync::{Arc, Mutex, Wait};
 use std::time::Clock;
-use vmm_sys::eventfd::EventFd;
 
 /// What a manager and its endpoints share.
 #[derive(Drop)]
-pub(crate) struct Channel<S: MutEventSubscriber, J: Job<S>, N: Naming> {
+pub(crate) struct Channel<S: MutEventSubscriber, J: Job<S>, N: NamedCounter> {
     pub(crate) state: Mutex<ChannelState<S, J, N>>,
-    pub(crate) event_fd: EventFd,
+    // What wakes the manager's poller.
+    pub(crate) counter: N,
     // Of the slots.
     pub(crate) alloc: Global,
 }
 
 /// The manager's side of the channel: it alone takes jobs. Contracts see how many it took and ran.
 #[derive(Drop)]
-pub(crate) struct EventManagerChannel<S: MutEventSubscriber, J: Job<S>, N: Naming> {
+pub(crate) struct EventManagerChannel<S: MutEventSubscriber, J: Job<S>, N: NamedCounter> {
     channel: Arc<Channel<S, J, N>>,
     taken: TakenCount<N>,
     jobs: TakenJobs<S, J>,
 }
 
-impl<S: MutEventSubscriber, J: Job<S>, N: Naming> Model for EventManagerChannel<S, J, N> {
+impl<S: MutEventSubscriber, J: Job<S>, N: NamedCounter> Model for EventManagerChannel<S, J, N> {
     ghost use Rattle.std.specs.Prelude.{◌≡◌, ℕ, []};
 
     ghost Value = { ℕ };
@@ -45,11 +45,11 @@ impl<S: MutEventSubscriber, J: Job<S>, N: Naming> Model for EventManagerChannel<
     ghost invariant = { λ c. (c.jobs.entries ≡ []) × (c.taken ≡ c.jobs.ran) };
 }
 
-impl<S: MutEventSubscriber, J: Job<S>, N: Naming> EventManagerChannel<S, J, N> {
+impl<S: MutEventSubscriber, J: Job<S>, N: NamedCounter> EventManagerChannel<S, J, N> {
     /// An open channel in which no job waits.
     pub(crate) fn new(
         alloc: Global,
-        event_fd: EventFd,
+        counter: N,
         ledgers: Ledgers<N>,
     ) -> std::result::Result<Self, AllocError>
         ensures { IfOk result (λ c. c ≡ 0) }
@@ -58,7 +58,7 @@ impl<S: MutEventSubscriber, J: Job<S>, N: Naming> EventManagerChannel<S, J, N> {
         let state = ChannelState::new(alloc, register, book);
         let channel = Channel {
             state: Mutex::new(state),
-            event_fd,
+            counter,
             alloc,
         };
         Ok(EventManagerChannel {
@@ -80,7 +80,7 @@ impl<S: MutEventSubscriber, J: Job<S>, N: Naming> EventManagerChannel<S, J, N> {
         self.channel.state.lock(rt).waiting() > 0
     }
 
-    /// Reads the `EventFd`, takes all jobs that wait, and runs them in the order of their tickets. The lock of the queue
+    /// Clears the counter, takes all jobs that wait, and runs them in the order of their tickets. The lock of the queue
     /// is free while they run.
     pub(crate) fn run_jobs<P: EventPoller, R: Wait + Clock>(
         &mut self,
@@ -89,7 +89,7 @@ impl<S: MutEventSubscriber, J: Job<S>, N: Naming> EventManagerChannel<S, J, N> {
     )
         ensures { (taken : List (ℕ × J)) × JobsAreRun S.begins S.serves J.may P.controls P.waits (loop_state registry.old) self.old taken (loop_state registry.new) self.new }
     {
-        let _ = self.channel.event_fd.read(rt);
+        let _ = self.channel.counter.clear(rt);
         self.channel
             .state
             .lock(rt)

@@ -8,7 +8,7 @@ use crate::Error;
 use crate::endpoint::closed::Closed;
 use crate::endpoint::taken_jobs::TakenJobs;
 use crate::endpoint::waiting_job::WaitingJob;
-use crate::jobs::{Bell, Job, JobQueue, Refused};
+use crate::jobs::{Job, JobQueue, Refused};
 use event_loop::MutEventSubscriber;
 use job_tickets::naming::Naming;
 use job_tickets::taken::{TakenBook, TakenCount};
@@ -18,6 +18,7 @@ use std::marker::Model;
 use std::mem;
 use std::sync::Wait;
 use std::time::Clock;
+use vmm_sys::counter::Bell;
 
 /// The queue, with the books of what was issued and of what was taken. Contracts see it as the queue.
 #[derive(Drop)]

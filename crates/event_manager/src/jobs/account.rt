@@ -5,11 +5,12 @@ ghost use Rattle.event_manager.specs.Account.{answers_of, handed_out, IsReplayed
 ghost use Rattle.event_manager.specs.JobQueue.{tickets_and_jobs};
 ghost use Rattle.event_loop.specs.declared.error.Error.TheVariants.{OutOfMemory};
 
-use crate::jobs::queue::{Bell, Entry, JobQueue};
+use crate::jobs::queue::{Entry, JobQueue};
 use event_loop::{Error, Result};
 use std::alloc::{AllocError, Global};
 use std::sync::Wait;
 use std::time::Clock;
+use vmm_sys::counter::Bell;
 use vmm_sys::errno::Errno;
 
 /// A step of a replay.

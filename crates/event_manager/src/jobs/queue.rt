@@ -10,34 +10,7 @@ use std::marker::Model;
 use std::mem;
 use std::sync::Wait;
 use std::time::Clock;
-use vmm_sys::errno::Errno;
-use vmm_sys::eventfd::EventFd;
-
-/// What tells a loop that a job waits.
-pub trait Bell {
-    ghost use Rattle.std.specs.Prelude.{Result};
-    ghost use Rattle.vmm_sys.specs.declared.errno.Errno.{Errno};
-
-    /// Which answers a ring may give.
-    ghost rings: { Self → Result (Unit {0}) Errno → Type 0 };
-
-    /// Rings once.
-    fn ring<R: Wait + Clock>(&self, rt: &R) -> std::result::Result<(), Errno>
-        ensures { rings self.now result };
-}
-
-/// Rings by writing 1.
-impl Bell for EventFd {
-    ghost use Rattle.vmm_sys.specs.SharedTable.{AnswersOfSome};
-    ghost use Rattle.vmm_sys.specs.Table.{write_of};
-    ghost use Rattle.vmm_sys.specs.EventFd.{descriptor_of};
-
-    ghost rings = { λ event_fd answer. AnswersOfSome (λ t. write_of t (descriptor_of event_fd) 1) answer };
-
-    fn ring<R: Wait + Clock>(&self, rt: &R) -> std::result::Result<(), Errno> {
-        self.write(1, rt)
-    }
-}
+use vmm_sys::counter::Bell;
 
 /// A job that waits, with its ticket, and the slot for its reply where a caller waits for one.
 #[derive(Drop)]
