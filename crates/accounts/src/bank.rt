@@ -3,8 +3,8 @@
 use crate::account::Account;
 use crate::order::{Order, Told};
 use event_manager::{
-    Error, EventManager, EventPoller, LoopWithSenders, Naming, RemoteEndpoint, Result, Sender,
-    SubscriberId, SubscriberOps,
+    Error, EventManager, EventPoller, LoopWithSenders, NamedCounter, RemoteEndpoint, Result,
+    Sender, SubscriberId, SubscriberOps,
 };
 use std::alloc::Global;
 use std::sync::Wait;
@@ -19,7 +19,7 @@ pub struct Bank {
 }
 
 impl<R: Wait + Clock + Copy + Drop> LoopWithSenders<Account<R>, Order, Customer, R> for Bank {
-    fn begin<N: Naming, P: EventPoller>(
+    fn begin<N: NamedCounter, P: EventPoller>(
         &mut self,
         rt: &R,
         alloc: Global,
@@ -61,7 +61,7 @@ pub struct Answers {
 
 impl<R: Wait + Clock + Drop> Sender<Account<R>, Order, Result<Answers>, R> for Customer {
     /// Deposits three times without waiting, and then asks.
-    fn send<N: Naming>(
+    fn send<N: NamedCounter>(
         self,
         endpoint: &RemoteEndpoint<Account<R>, Order, N>,
         rt: &R,

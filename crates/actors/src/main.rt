@@ -7,8 +7,8 @@ pub mod mailbox;
 pub mod system;
 
 use event_manager::{
-    BoxedSubscriber, Error, EventManager, EventPoller, Ledgers, MutEventSubscriber, Naming, Result,
-    StepSubscriber, WithLedgers, with_ledgers,
+    BoxedSubscriber, Error, EventManager, EventPoller, Ledgers, MutEventSubscriber, NamedCounter,
+    Result, StepSubscriber, WithLedgers, with_ledgers,
 };
 use kinds::{Greeter, Tally};
 use mailbox::{Deliver, Mailbox};
@@ -22,11 +22,10 @@ use vmm_sys::eventfd::EventFd;
 /// What the program sends: each list, then a run.
 const ROUNDS: [[&str; 2]; 2] = [["Ada", "Grace"], ["Edsger", "Barbara"]];
 
-/// Actors that are ready to run: all that they need but the manager, which is made over ledgers.
+/// Actors that are ready to run: all that they need but the manager, which is made of a counter and ledgers.
 struct Program<'a, S, R> {
     rt: &'a R,
     epoll: Epoll<R>,
-    endpoint: EventFd,
     actors: Vec<S>,
     /// Where names are sent.
     greeter: &'a Mailbox,
@@ -40,15 +39,14 @@ where
     type Output = Result<()>;
 
     /// Makes the manager, takes the actors in, and sends the rounds.
-    fn run<N: Naming + Send + Sync>(self, ledgers: Ledgers<N>) -> Result<()> {
+    fn run<N: NamedCounter + Send + Sync>(self, counter: N, ledgers: Ledgers<N>) -> Result<()> {
         let Program {
             rt,
             epoll,
-            endpoint,
             actors,
             greeter,
         } = self;
-        let manager = EventManager::<S, Deliver, N, _>::new(rt.alloc(), epoll, endpoint, ledgers)?;
+        let manager = EventManager::<S, Deliver, N, _>::new(rt.alloc(), epoll, counter, ledgers)?;
         let mut system = ActorSystem::new(manager)?;
         play(&mut system, actors, greeter, rt)
     }
@@ -64,7 +62,7 @@ fn play<S, N, P, R>(
 ) -> Result<()>
 where
     S: MutEventSubscriber + Drop,
-    N: Naming,
+    N: NamedCounter,
     P: EventPoller,
     R: Wait + Clock + Print + AllocGlobal,
 {
@@ -105,16 +103,16 @@ fn make_actors<R: Wait + Clock + Copy + Send + Drop>(
 fn main(rt: HostRuntime) -> Result<()> {
     let alloc = rt.alloc();
     let epoll = Epoll::new(rt, alloc).map_err(Error::Epoll)?;
-    let endpoint = EventFd::new(&epoll, 0, &rt).map_err(Error::EventFd)?;
+    let counter = EventFd::new(&epoll, 0, &rt).map_err(Error::EventFd)?;
     let (first, second, greeter) = make_actors(&epoll, alloc, rt)?;
     let first: Box<dyn StepSubscriber + Send> = Box::new(alloc, first)?;
     let second: Box<dyn StepSubscriber + Send> = Box::new(alloc, second)?;
     let actors = vec![in alloc; BoxedSubscriber(first), BoxedSubscriber(second)]?;
-    with_ledgers(Program {
+    let program = Program {
         rt: &rt,
         epoll,
-        endpoint,
         actors,
         greeter: &greeter,
-    })
+    };
+    with_ledgers(counter, program)
 }

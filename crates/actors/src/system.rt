@@ -2,8 +2,8 @@
 
 use crate::mailbox::{Deliver, Mailbox};
 use event_manager::{
-    EventManager, EventPoller, MutEventSubscriber, Naming, RemoteEndpoint, Result, SubscriberId,
-    SubscriberOps, Ticket,
+    EventManager, EventPoller, MutEventSubscriber, NamedCounter, RemoteEndpoint, Result,
+    SubscriberId, SubscriberOps, Ticket,
 };
 use std::sync::Wait;
 use std::time::Clock;
@@ -15,13 +15,13 @@ const MOST_WAITS: usize = 100;
 ///
 /// It is generic over the actors' type, since a struct that names `BoxedSubscriber` there can't be stated.
 #[derive(Drop)]
-pub struct ActorSystem<S: MutEventSubscriber, N: Naming, P> {
+pub struct ActorSystem<S: MutEventSubscriber, N: NamedCounter, P> {
     manager: EventManager<S, Deliver, N, P>,
     endpoint: RemoteEndpoint<S, Deliver, N>,
     last: Option<Ticket<N>>,
 }
 
-impl<S: MutEventSubscriber + Drop, N: Naming, P: EventPoller> ActorSystem<S, N, P> {
+impl<S: MutEventSubscriber + Drop, N: NamedCounter, P: EventPoller> ActorSystem<S, N, P> {
     /// No actor, on this manager. `OutOfMemory`.
     pub fn new(manager: EventManager<S, Deliver, N, P>) -> Result<Self>
     where

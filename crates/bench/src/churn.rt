@@ -3,7 +3,7 @@
 use crate::over_fixed::{Host, Manager, ManagerMeasure, measure};
 use crate::subscribers::Counter;
 use anyhow::Result;
-use event_manager::{EventPoller, Naming, SubscriberOps};
+use event_manager::{EventPoller, NamedCounter, SubscriberOps};
 use measures::arguments::{Family, Share, Size};
 use measures::bench::{Bench, Measured, expect};
 use measures::fixed::{BATCH, FIRST, Fixed};
@@ -42,7 +42,7 @@ impl ManagerMeasure for JoinAndLeave {
         BATCH as usize
     }
 
-    fn take<N: Naming, P: EventPoller, R: Wait + Clock>(
+    fn take<N: NamedCounter, P: EventPoller, R: Wait + Clock>(
         &self,
         manager: &mut Manager<Counter, N, P>,
         _alloc: Global,
@@ -66,7 +66,7 @@ impl ManagerMeasure for JoinAndLeave {
 }
 
 // Adds how many left to the count; each must have counted nothing.
-fn join_and_leave<N: Naming, P: EventPoller>(
+fn join_and_leave<N: NamedCounter, P: EventPoller>(
     manager: &mut Manager<Counter, N, P>,
     descriptors: u16,
     rounds: u32,

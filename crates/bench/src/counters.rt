@@ -4,7 +4,7 @@ use crate::over_fixed::{Host, Manager};
 use crate::subscribers::Reader;
 use anyhow::Result;
 use event_manager::{
-    EventPoller, Ledgers, Naming, SubscriberId, SubscriberOps, WithLedgers, with_ledgers,
+    EventPoller, Ledgers, NamedCounter, SubscriberId, SubscriberOps, WithLedgers, with_ledgers,
 };
 use measures::arguments::{Family, Size};
 use measures::bench::{Bench, Measured, expect};
@@ -21,10 +21,9 @@ pub const COUNTERS: Family = Family("counters");
 /// How many writes a repeat makes.
 const WRITES: u32 = 4096;
 
-/// So many counters with a reader each: all that the measure needs but the manager, which is made over ledgers.
+/// So many counters with a reader each: all that the measure needs but the manager, which is made of a counter and ledgers.
 struct WrittenCounters<'a, R> {
     epoll: Epoll<R>,
-    endpoint: EventFd,
     counters: &'a [EventFd],
     rounds: u32,
     alloc: Global,
@@ -34,22 +33,25 @@ struct WrittenCounters<'a, R> {
 impl<R: Wait + Clock + Copy + Send + Drop> WithLedgers for WrittenCounters<'_, R> {
     type Output = Result<Measured>;
 
-    fn run<N: Naming + Send + Sync>(self, ledgers: Ledgers<N>) -> Result<Measured> {
+    fn run<N: NamedCounter + Send + Sync>(
+        self,
+        counter: N,
+        ledgers: Ledgers<N>,
+    ) -> Result<Measured> {
         let WrittenCounters {
             epoll,
-            endpoint,
             counters,
             rounds,
             alloc,
             rt,
         } = self;
-        let mut manager = Manager::<Reader<R>, N, _>::new(alloc, epoll, endpoint, ledgers)?;
+        let mut manager = Manager::<Reader<R>, N, _>::new(alloc, epoll, counter, ledgers)?;
         take(&mut manager, counters, rounds, alloc, rt)
     }
 }
 
 /// Takes the measure on a new manager. Refused where the readers have read another number than was written.
-fn take<N: Naming, P: EventPoller, R: Wait + Clock + Copy + Drop>(
+fn take<N: NamedCounter, P: EventPoller, R: Wait + Clock + Copy + Drop>(
     manager: &mut Manager<Reader<R>, N, P>,
     counters: &[EventFd],
     rounds: u32,
@@ -67,7 +69,7 @@ fn take<N: Naming, P: EventPoller, R: Wait + Clock + Copy + Drop>(
 }
 
 /// Lets a reader of each counter join, and answers the ids.
-fn join<N: Naming, P: EventPoller, R: Wait + Copy + Drop>(
+fn join<N: NamedCounter, P: EventPoller, R: Wait + Copy + Drop>(
     manager: &mut Manager<Reader<R>, N, P>,
     counters: &[EventFd],
     alloc: Global,
@@ -86,7 +88,7 @@ fn join<N: Naming, P: EventPoller, R: Wait + Copy + Drop>(
 }
 
 /// Lets the readers leave, and answers what they have read in all.
-fn leave<N: Naming, P: EventPoller, R: Wait + Drop>(
+fn leave<N: NamedCounter, P: EventPoller, R: Wait + Drop>(
     manager: &mut Manager<Reader<R>, N, P>,
     ids: &[SubscriberId],
 ) -> Result<u64> {
@@ -98,7 +100,7 @@ fn leave<N: Naming, P: EventPoller, R: Wait + Drop>(
 }
 
 // Writes 1 to one counter after the other, so often in all, and runs the manager each time.
-fn write_and_run<N: Naming, P: EventPoller, R: Wait + Clock>(
+fn write_and_run<N: NamedCounter, P: EventPoller, R: Wait + Clock>(
     manager: &mut Manager<Reader<R>, N, P>,
     counters: &[EventFd],
     rounds: u32,
@@ -132,14 +134,14 @@ fn take_over_table<R: Host>(bench: &Bench<R>, count: u32) -> Result<Measured> {
     let epoll = Epoll::new(*rt, alloc)?;
     let endpoint = EventFd::new(&epoll, 0, rt)?;
     let counters = open_counters(bench, &epoll, count)?;
-    with_ledgers(WrittenCounters {
+    let written = WrittenCounters {
         epoll,
-        endpoint,
         counters: counters.as_slice(),
         rounds: bench.rounds(WRITES),
         alloc,
         rt,
-    })
+    };
+    with_ledgers(endpoint, written)
 }
 
 fn measure<R: Host>(bench: &Bench<R>, count: u32) -> Result<()> {

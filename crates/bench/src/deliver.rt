@@ -5,7 +5,9 @@ ghost use Rattle.std.specs.Prelude.{◌≤ℤ◌, pos};
 use crate::over_fixed::{Host, Manager, ManagerMeasure, measure, run_rounds};
 use crate::subscribers::{Counter, descriptor};
 use anyhow::Result;
-use event_manager::{EventPoller, EventSet, Events, Naming, Priority, SubscriberId, SubscriberOps};
+use event_manager::{
+    EventPoller, EventSet, Events, NamedCounter, Priority, SubscriberId, SubscriberOps,
+};
 use measures::arguments::{Family, Size};
 use measures::bench::{Bench, Measured, expect};
 use measures::fixed::{BATCH, FIRST, Fixed};
@@ -62,7 +64,7 @@ impl ManagerMeasure for Deliver {
         BATCH as usize
     }
 
-    fn take<N: Naming, P: EventPoller, R: Wait + Clock>(
+    fn take<N: NamedCounter, P: EventPoller, R: Wait + Clock>(
         &self,
         manager: &mut Manager<Counter, N, P>,
         alloc: Global,
@@ -84,7 +86,7 @@ impl ManagerMeasure for Deliver {
 }
 
 /// Lets the subscribers leave, and answers what they have counted in all.
-fn leave<N: Naming, P: EventPoller>(
+fn leave<N: NamedCounter, P: EventPoller>(
     manager: &mut Manager<Counter, N, P>,
     ids: &[SubscriberId],
 ) -> Result<u64> {
@@ -97,7 +99,7 @@ fn leave<N: Naming, P: EventPoller>(
 
 impl Deliver {
     /// Lets the subscribers join, and notes their ids.
-    fn join<N: Naming, P: EventPoller>(
+    fn join<N: NamedCounter, P: EventPoller>(
         &self,
         manager: &mut Manager<Counter, N, P>,
         ids: &mut Vec<SubscriberId>,
@@ -112,7 +114,7 @@ impl Deliver {
     }
 
     /// Gives the subscriber's descriptor its priority.
-    fn give_priority<N: Naming, P: EventPoller>(
+    fn give_priority<N: NamedCounter, P: EventPoller>(
         &self,
         manager: &mut Manager<Counter, N, P>,
         id: SubscriberId,

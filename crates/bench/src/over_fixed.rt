@@ -2,7 +2,7 @@
 
 use anyhow::Result;
 use event_manager::{
-    BoxedPoller, EventManager, EventPoller, Ledgers, MutEventSubscriber, Naming, NoJob,
+    BoxedPoller, EventManager, EventPoller, Ledgers, MutEventSubscriber, NamedCounter, NoJob,
     WithLedgers, with_ledgers,
 };
 use measures::bench::{Bench, Measured, expect};
@@ -40,7 +40,7 @@ pub trait ManagerMeasure: Drop {
     fn capacity(&self) -> usize;
 
     /// Does the work on a new manager. Refused where it counts another number than it has.
-    fn take<N: Naming, P: EventPoller, R: Wait + Clock>(
+    fn take<N: NamedCounter, P: EventPoller, R: Wait + Clock>(
         &self,
         manager: &mut Manager<Self::Subscriber, N, P>,
         alloc: Global,
@@ -48,11 +48,10 @@ pub trait ManagerMeasure: Drop {
     ) -> Result<Measured>;
 }
 
-/// A measure that is ready: all that it needs but the manager, which is made over ledgers.
+/// A measure that is ready: all that it needs but the manager, which is made of a counter and ledgers.
 struct Ready<'a, M, P, R> {
     measure: &'a M,
     poller: P,
-    endpoint: EventFd,
     alloc: Global,
     rt: &'a R,
 }
@@ -60,18 +59,21 @@ struct Ready<'a, M, P, R> {
 impl<M: ManagerMeasure, P: EventPoller + Drop, R: Wait + Clock> WithLedgers for Ready<'_, M, P, R> {
     type Output = Result<Measured>;
 
-    fn run<N: Naming + Send + Sync>(self, ledgers: Ledgers<N>) -> Result<Measured> {
+    fn run<N: NamedCounter + Send + Sync>(
+        self,
+        counter: N,
+        ledgers: Ledgers<N>,
+    ) -> Result<Measured> {
         let Ready {
             measure,
             poller,
-            endpoint,
             alloc,
             rt,
         } = self;
         let mut manager = Manager::<M::Subscriber, N, P>::new_with_capacity(
             alloc,
             poller,
-            endpoint,
+            counter,
             measure.capacity(),
             ledgers,
         )?;
@@ -97,13 +99,13 @@ fn take_over<M: ManagerMeasure, P: EventPoller + Drop, R: Host>(
 ) -> Result<Measured> {
     let (alloc, rt) = (bench.alloc, &bench.rt);
     let endpoint = open_endpoint(*rt, alloc)?;
-    with_ledgers(Ready {
+    let ready = Ready {
         measure,
         poller,
-        endpoint,
         alloc,
         rt,
-    })
+    };
+    with_ledgers(endpoint, ready)
 }
 
 /// Takes a measure, with the poller in a box or as it is, and prints its line. Refused as the measure is.
@@ -128,7 +130,7 @@ pub fn run_rounds<S, N, P, R>(
 ) -> Result<()>
 where
     S: MutEventSubscriber,
-    N: Naming,
+    N: NamedCounter,
     P: EventPoller,
     R: Wait + Clock,
 {

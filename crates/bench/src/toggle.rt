@@ -3,7 +3,7 @@
 use crate::over_fixed::{Host, Manager, ManagerMeasure, measure, run_rounds};
 use crate::subscribers::Toggler;
 use anyhow::Result;
-use event_manager::{EventPoller, Naming, SubscriberOps};
+use event_manager::{EventPoller, NamedCounter, SubscriberOps};
 use measures::arguments::{Family, Size};
 use measures::bench::{Bench, Measured, expect};
 use measures::fixed::{BATCH, Fixed};
@@ -49,7 +49,7 @@ impl ManagerMeasure for Toggle {
         self.capacity
     }
 
-    fn take<N: Naming, P: EventPoller, R: Wait + Clock>(
+    fn take<N: NamedCounter, P: EventPoller, R: Wait + Clock>(
         &self,
         manager: &mut Manager<Toggler, N, P>,
         _alloc: Global,

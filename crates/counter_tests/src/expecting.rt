@@ -3,7 +3,7 @@
 use crate::reacting::Reacting;
 use event_manager::utilities::subscribers::CounterSubscriberWithData;
 use event_manager::{
-    EventManager, EventPoller, Events, MutEventSubscriber, Naming, NoJob, SubscriberId,
+    EventManager, EventPoller, Events, MutEventSubscriber, NamedCounter, NoJob, SubscriberId,
     SubscriberOps,
 };
 use std::fmt::Debug;
@@ -25,7 +25,7 @@ pub fn expect_ok<A, E: Debug + Drop, R: Abort>(rt: &R, answer: Result<A, E>) -> 
 pub fn expect_run<S, N, P, R>(rt: &R, manager: &mut EventManager<S, NoJob, N, P>, count: usize)
 where
     S: MutEventSubscriber,
-    N: Naming,
+    N: NamedCounter,
     P: EventPoller,
     R: Wait + Clock + Abort,
 {
@@ -41,7 +41,7 @@ pub fn expect_run_within<S, N, P, R>(
 )
 where
     S: MutEventSubscriber,
-    N: Naming,
+    N: NamedCounter,
     P: EventPoller,
     R: Wait + Clock + Abort,
 {
@@ -49,7 +49,7 @@ where
 }
 
 /// Whether these were the subscriber's events since it was last asked, in order.
-fn saw<N: Naming, P: EventPoller>(
+fn saw<N: NamedCounter, P: EventPoller>(
     manager: &mut EventManager<Reacting, NoJob, N, P>,
     id: SubscriberId,
     expected: &[Events],
@@ -58,7 +58,7 @@ fn saw<N: Naming, P: EventPoller>(
 }
 
 /// Expects that these were the subscriber's events since it was last asked, in order.
-pub fn expect_saw<N: Naming, P: EventPoller, R: Abort>(
+pub fn expect_saw<N: NamedCounter, P: EventPoller, R: Abort>(
     rt: &R,
     manager: &mut EventManager<Reacting, NoJob, N, P>,
     id: SubscriberId,

@@ -3,7 +3,7 @@
 use crate::expecting::{expect_ok, expect_run, expect_same};
 use crate::making::Host;
 use event_manager::{
-    EventManager, EventOps, EventPoller, Events, MutEventSubscriber, Naming, NoJob, Result,
+    EventManager, EventOps, EventPoller, Events, MutEventSubscriber, NamedCounter, NoJob, Result,
     SubscriberId, SubscriberOps,
 };
 use fixtures::making::{WithManager, with_manager};
@@ -58,7 +58,7 @@ fn make_keeping<R: Host>(rt: &R, parts: &OnTable<R>, is_removing: bool) -> Keepi
 }
 
 /// How many hang-ups, and how many other events, were delivered to the subscriber.
-fn counts_of<N: Naming, P: EventPoller>(
+fn counts_of<N: NamedCounter, P: EventPoller>(
     manager: &EventManager<Keeping, NoJob, N, P>,
     id: SubscriberId,
 ) -> Result<(u64, u64)> {
@@ -81,7 +81,7 @@ impl<R: Wait + Clock + Abort> WithManager for HangingUp<'_, R> {
 
     type Output = ();
 
-    fn run<N: Naming, P: EventPoller>(
+    fn run<N: NamedCounter, P: EventPoller>(
         self,
         manager: &mut EventManager<Keeping, NoJob, N, P>,
     ) -> Result<()> {

@@ -4,7 +4,7 @@ ghost use Rattle.std.specs.Prelude.{◌≡◌, [], ◌∷◌, MatchOption};
 
 use crate::expecting::expect_ok;
 use event_manager::{
-    EventManager, EventOps, EventPoller, Events, MutEventSubscriber, Naming, NoJob, Request,
+    EventManager, EventOps, EventPoller, Events, MutEventSubscriber, NamedCounter, NoJob, Request,
     SubscriberId, SubscriberOps,
 };
 use std::alloc::Global;
@@ -55,7 +55,7 @@ impl MutEventSubscriber for Reacting {
 }
 
 /// Takes in a subscriber of this descriptor, with this reaction: its id.
-pub fn add<N: Naming, P: EventPoller, R: Abort>(
+pub fn add<N: NamedCounter, P: EventPoller, R: Abort>(
     rt: &R,
     alloc: Global,
     manager: &mut EventManager<Reacting, NoJob, N, P>,

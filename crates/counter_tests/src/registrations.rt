@@ -5,7 +5,8 @@ use crate::making::{Host, counter_of};
 use crate::reacting::{Reacting, add};
 use event_manager::utilities::subscribers::CounterSubscriber;
 use event_manager::{
-    Error, EventManager, EventPoller, Events, Naming, NoJob, Request, SubscriberId, SubscriberOps,
+    Error, EventManager, EventPoller, Events, NamedCounter, NoJob, Request, SubscriberId,
+    SubscriberOps,
 };
 use fixtures::making::{WithManager, with_manager};
 use fixtures::parts::{OnTable, on_table};
@@ -34,7 +35,7 @@ impl<R: Wait + Clock + Abort> WithManager for Runs<'_, R> {
 
     type Output = ();
 
-    fn run<N: Naming, P: EventPoller>(
+    fn run<N: NamedCounter, P: EventPoller>(
         self,
         manager: &mut EventManager<Reacting, NoJob, N, P>,
     ) -> event_manager::Result<()> {
@@ -97,7 +98,7 @@ impl<R: Wait + Clock + Abort> WithManager for Modifying<'_, R> {
 
     type Output = ();
 
-    fn run<N: Naming, P: EventPoller>(
+    fn run<N: NamedCounter, P: EventPoller>(
         self,
         manager: &mut EventManager<Reacting, NoJob, N, P>,
     ) -> event_manager::Result<()> {
@@ -134,7 +135,7 @@ struct Removing<'a, R> {
 }
 
 /// Lets the subscriber leave: it must have had these events.
-fn expect_leave<N: Naming, P: EventPoller, R: Abort>(
+fn expect_leave<N: NamedCounter, P: EventPoller, R: Abort>(
     rt: &R,
     manager: &mut EventManager<Reacting, NoJob, N, P>,
     id: SubscriberId,
@@ -149,7 +150,7 @@ impl<R: Wait + Clock + Abort> WithManager for Removing<'_, R> {
 
     type Output = ();
 
-    fn run<N: Naming, P: EventPoller>(
+    fn run<N: NamedCounter, P: EventPoller>(
         self,
         manager: &mut EventManager<Reacting, NoJob, N, P>,
     ) -> event_manager::Result<()> {
@@ -175,7 +176,7 @@ fn test_remove_subscriber(rt: HostRuntime) {
 }
 
 /// The subscriber's fault.
-fn fault_of<N: Naming, P: EventPoller>(
+fn fault_of<N: NamedCounter, P: EventPoller>(
     manager: &mut EventManager<CounterSubscriber, NoJob, N, P>,
     id: SubscriberId,
 ) -> event_manager::Result<Option<Error>> {
@@ -183,7 +184,7 @@ fn fault_of<N: Naming, P: EventPoller>(
 }
 
 /// Takes in a subscriber of this counter, which must then have this fault.
-fn expect_joined<N: Naming, P: EventPoller, R: Abort>(
+fn expect_joined<N: NamedCounter, P: EventPoller, R: Abort>(
     rt: &R,
     manager: &mut EventManager<CounterSubscriber, NoJob, N, P>,
     event_fd: &EventFd,
@@ -207,7 +208,7 @@ impl<R: Abort> WithManager for JoiningTwice<'_, R> {
 
     type Output = ();
 
-    fn run<N: Naming, P: EventPoller>(
+    fn run<N: NamedCounter, P: EventPoller>(
         self,
         manager: &mut EventManager<CounterSubscriber, NoJob, N, P>,
     ) -> event_manager::Result<()> {
@@ -239,7 +240,7 @@ impl WithManager for Nothing {
 
     type Output = ();
 
-    fn run<N: Naming, P: EventPoller>(
+    fn run<N: NamedCounter, P: EventPoller>(
         self,
         _manager: &mut EventManager<CounterSubscriber, NoJob, N, P>,
     ) -> event_manager::Result<()> {

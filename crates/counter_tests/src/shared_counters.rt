@@ -3,7 +3,7 @@
 use crate::expecting::{expect_ok, expect_run, expect_same};
 use crate::making::Host;
 use event_manager::utilities::subscribers::CounterInnerMutSubscriber;
-use event_manager::{Error, EventManager, EventPoller, Events, Naming, NoJob, SubscriberOps};
+use event_manager::{Error, EventManager, EventPoller, Events, NamedCounter, NoJob, SubscriberOps};
 use fixtures::making::{WithManager, with_manager};
 use fixtures::parts::Parts;
 use std::alloc::Global;
@@ -66,7 +66,7 @@ impl<R: Wait + Clock + Abort> WithManager for Serving<'_, R> {
 
     type Output = ();
 
-    fn run<N: Naming, P: EventPoller>(
+    fn run<N: NamedCounter, P: EventPoller>(
         self,
         manager: &mut EventManager<Arc<CounterInnerMutSubscriber>, NoJob, N, P>,
     ) -> event_manager::Result<()> {

@@ -6,7 +6,7 @@ use event_manager::utilities::subscribers::{
     CounterInnerMutSubscriber, CounterSubscriber, CounterSubscriberWithData,
 };
 use event_manager::{
-    EventManager, EventPoller, Naming, NoJob, Result, SubscriberId, SubscriberOps,
+    EventManager, EventPoller, NamedCounter, NoJob, Result, SubscriberId, SubscriberOps,
 };
 use fixtures::making::{WithManager, with_manager};
 use fixtures::parts::{OnTable, on_table};
@@ -17,7 +17,7 @@ use std::time::Clock;
 use vmm_sys::eventfd::EventFd;
 
 /// Takes in a subscriber of this counter: its id.
-fn join<N: Naming, P: EventPoller, R: Abort>(
+fn join<N: NamedCounter, P: EventPoller, R: Abort>(
     rt: &R,
     manager: &mut EventManager<CounterSubscriber, NoJob, N, P>,
     event_fd: &EventFd,
@@ -27,7 +27,7 @@ fn join<N: Naming, P: EventPoller, R: Abort>(
 }
 
 /// Triggers the subscriber's counter, or clears it.
-fn set_ready<N: Naming, P: EventPoller, R: Wait>(
+fn set_ready<N: NamedCounter, P: EventPoller, R: Wait>(
     rt: &R,
     manager: &mut EventManager<CounterSubscriber, NoJob, N, P>,
     id: SubscriberId,
@@ -45,7 +45,7 @@ fn set_ready<N: Naming, P: EventPoller, R: Wait>(
 const TRIGGERED: [usize; 4] = [1, 3, 50, 97];
 
 /// Takes in a subscriber of each counter: their ids, in order.
-fn join_all<N: Naming, P: EventPoller, R: Abort>(
+fn join_all<N: NamedCounter, P: EventPoller, R: Abort>(
     rt: &R,
     alloc: Global,
     manager: &mut EventManager<CounterSubscriber, NoJob, N, P>,
@@ -59,7 +59,7 @@ fn join_all<N: Naming, P: EventPoller, R: Abort>(
 }
 
 /// Makes those ready that are triggered, or no longer.
-fn set_some_ready<N: Naming, P: EventPoller, R: Wait + Abort>(
+fn set_some_ready<N: NamedCounter, P: EventPoller, R: Wait + Abort>(
     rt: &R,
     manager: &mut EventManager<CounterSubscriber, NoJob, N, P>,
     ids: &[SubscriberId],
@@ -73,7 +73,7 @@ fn set_some_ready<N: Naming, P: EventPoller, R: Wait + Abort>(
 }
 
 /// How many events the subscriber has counted.
-fn counted_by<N: Naming, P: EventPoller>(
+fn counted_by<N: NamedCounter, P: EventPoller>(
     manager: &mut EventManager<CounterSubscriber, NoJob, N, P>,
     id: SubscriberId,
 ) -> Result<u64> {
@@ -81,7 +81,7 @@ fn counted_by<N: Naming, P: EventPoller>(
 }
 
 /// Expects that a run has so many events, and that those that were triggered have then counted one, and the others none.
-fn expect_counts<N: Naming, P: EventPoller, R: Wait + Clock + Abort>(
+fn expect_counts<N: NamedCounter, P: EventPoller, R: Wait + Clock + Abort>(
     rt: &R,
     manager: &mut EventManager<CounterSubscriber, NoJob, N, P>,
     ids: &[SubscriberId],
@@ -107,7 +107,7 @@ impl<R: Wait + Clock + Abort> WithManager for Hundred<'_, R> {
 
     type Output = ();
 
-    fn run<N: Naming, P: EventPoller>(
+    fn run<N: NamedCounter, P: EventPoller>(
         self,
         manager: &mut EventManager<CounterSubscriber, NoJob, N, P>,
     ) -> Result<()> {
@@ -153,7 +153,7 @@ impl<R: Wait + Clock + Abort> WithManager for Triggered<'_, R> {
 
     type Output = ();
 
-    fn run<N: Naming, P: EventPoller>(
+    fn run<N: NamedCounter, P: EventPoller>(
         self,
         manager: &mut EventManager<CounterSubscriber, NoJob, N, P>,
     ) -> Result<()> {
@@ -190,7 +190,7 @@ impl<R: Wait + Clock + Abort> WithManager for SharedTriggered<'_, R> {
 
     type Output = ();
 
-    fn run<N: Naming, P: EventPoller>(
+    fn run<N: NamedCounter, P: EventPoller>(
         self,
         manager: &mut EventManager<Arc<CounterInnerMutSubscriber>, NoJob, N, P>,
     ) -> Result<()> {
@@ -246,7 +246,7 @@ impl<R: Wait + Clock + Abort> AllReady<'_, R> {
 }
 
 /// Triggers all counters of the subscriber.
-fn trigger_all<N: Naming, P: EventPoller, R: Wait>(
+fn trigger_all<N: NamedCounter, P: EventPoller, R: Wait>(
     rt: &R,
     manager: &mut EventManager<CounterSubscriberWithData, NoJob, N, P>,
     id: SubscriberId,
@@ -256,7 +256,7 @@ fn trigger_all<N: Naming, P: EventPoller, R: Wait>(
 }
 
 /// Expects these values of the subscriber's counters.
-fn expect_values_of<N: Naming, P: EventPoller, R: Abort>(
+fn expect_values_of<N: NamedCounter, P: EventPoller, R: Abort>(
     rt: &R,
     manager: &mut EventManager<CounterSubscriberWithData, NoJob, N, P>,
     id: SubscriberId,
@@ -271,7 +271,7 @@ impl<R: Wait + Clock + Abort> WithManager for AllReady<'_, R> {
 
     type Output = ();
 
-    fn run<N: Naming, P: EventPoller>(
+    fn run<N: NamedCounter, P: EventPoller>(
         self,
         manager: &mut EventManager<CounterSubscriberWithData, NoJob, N, P>,
     ) -> Result<()> {

@@ -8,7 +8,8 @@ use event_manager::utilities::subscribers::{
     CounterInnerMutSubscriber, CounterSubscriber, CounterSubscriberWithData,
 };
 use event_manager::{
-    Either, EventManager, Ledgers, MutEventSubscriber, Naming, NoJob, SubscriberId, SubscriberOps,
+    Either, EventManager, Ledgers, MutEventSubscriber, NamedCounter, NoJob, SubscriberId,
+    SubscriberOps,
 };
 use fixtures::making::make;
 use fixtures::parts::{OnTable, on_table};
@@ -22,7 +23,7 @@ use vmm_sys::epoll::Epoll;
 type Loop<S, N, R> = EventManager<S, NoJob, N, Epoll<R>>;
 
 /// Makes a hundred runs, each of which must report so many events.
-fn run_hundred<S: MutEventSubscriber, N: Naming, R: Host>(
+fn run_hundred<S: MutEventSubscriber, N: NamedCounter, R: Host>(
     rt: R,
     manager: Loop<S, N, R>,
     count: usize,
@@ -35,7 +36,7 @@ fn run_hundred<S: MutEventSubscriber, N: Naming, R: Host>(
 }
 
 /// Takes the subscribers in: their ids, in order.
-fn add_all<S: MutEventSubscriber + Drop, N: Naming, R: Host>(
+fn add_all<S: MutEventSubscriber + Drop, N: NamedCounter, R: Host>(
     rt: &R,
     alloc: Global,
     manager: &mut Loop<S, N, R>,
@@ -50,7 +51,7 @@ fn add_all<S: MutEventSubscriber + Drop, N: Naming, R: Host>(
 }
 
 /// Lets them leave: the subscribers.
-fn remove_all<S: MutEventSubscriber + Drop, N: Naming, R: Host>(
+fn remove_all<S: MutEventSubscriber + Drop, N: NamedCounter, R: Host>(
     rt: &R,
     alloc: Global,
     manager: &mut Loop<S, N, R>,
@@ -68,7 +69,7 @@ fn remove_all<S: MutEventSubscriber + Drop, N: Naming, R: Host>(
 fn moved<S, N, R>(rt: R, manager: Loop<S, N, R>, count: usize) -> Loop<S, N, R>
 where
     S: MutEventSubscriber + Send + Drop + 'static,
-    N: Naming + Send + Sync + 'static,
+    N: NamedCounter + Send + Sync + 'static,
     R: Host,
 {
     let runner = thread::spawn(&rt, move || run_hundred(rt, manager, count));
@@ -86,7 +87,7 @@ fn run_moved<S, N, R>(
 ) -> Vec<S>
 where
     S: MutEventSubscriber + Send + Drop + 'static,
-    N: Naming + Send + Sync + 'static,
+    N: NamedCounter + Send + Sync + 'static,
     R: Host,
     requires tickets { (tickets.name ≡ N.tickets) × (tickets.parts ≡ 9223372036854775808) }
     requires taken { (taken.name ≡ N.taken) × (taken.parts ≡ 1) }

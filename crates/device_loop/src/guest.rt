@@ -4,7 +4,7 @@ use crate::devices::Device;
 use crate::fault::Fault;
 use crate::machine::Descriptors;
 use crate::statistics::ReadStatistics;
-use event_manager::{EventSet, Naming, RemoteEndpoint, Sender, SubscriberId};
+use event_manager::{EventSet, NamedCounter, RemoteEndpoint, Sender, SubscriberId};
 use std::sync::Wait;
 use std::time::Clock;
 
@@ -25,7 +25,7 @@ impl<R: Wait + Clock + Print + Drop> Sender<Device<R>, ReadStatistics, Result<()
     ///
     /// No contract says that the reply counts what was done before. It does, since the job's event is reported with the
     /// device's or after it, and the jobs of a report are run once all of it is handed out.
-    fn send<N: Naming>(
+    fn send<N: NamedCounter>(
         self,
         endpoint: &RemoteEndpoint<Device<R>, ReadStatistics, N>,
         rt: &R,

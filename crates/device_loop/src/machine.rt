@@ -4,7 +4,7 @@ use crate::devices::{Console, Device, QueueDevice};
 use crate::guest::Guest;
 use crate::statistics::ReadStatistics;
 use event_manager::{
-    Error, EventManager, EventPoller, LoopWithSenders, Naming, Result, SubscriberOps,
+    Error, EventManager, EventPoller, LoopWithSenders, NamedCounter, Result, SubscriberOps,
 };
 use std::alloc::Global;
 use std::sync::Wait;
@@ -57,7 +57,7 @@ pub struct Machine {
 
 impl<R: Wait + Clock + Print + Copy + Drop> LoopWithSenders<Device<R>, ReadStatistics, Guest, R>
     for Machine {
-    fn begin<N: Naming, P: EventPoller>(
+    fn begin<N: NamedCounter, P: EventPoller>(
         &mut self,
         rt: &R,
         alloc: Global,

@@ -3,7 +3,7 @@
 use crate::expecting::{expect_ok, expect_same};
 use crate::subscribers::Quiet;
 use event_manager::{
-    Call, EventManager, EventPoller, MutEventSubscriber, Naming, NoJob, Reply, Result,
+    Call, EventManager, EventPoller, MutEventSubscriber, NamedCounter, NoJob, Reply, Result,
     SubscriberId, drive,
 };
 use fixtures::making::{WithManager, with_manager};
@@ -28,7 +28,7 @@ impl<R: Wait + Clock + Abort, S: MutEventSubscriber + Drop> WithManager for Driv
 
     type Output = Vec<Reply<S>>;
 
-    fn run<N: Naming, P: EventPoller>(
+    fn run<N: NamedCounter, P: EventPoller>(
         self,
         manager: &mut EventManager<S, NoJob, N, P>,
     ) -> Result<Vec<Reply<S>>> {

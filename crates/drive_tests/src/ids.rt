@@ -5,8 +5,8 @@ use crate::expecting::{expect_ok, expect_same};
 use crate::leaving::{remove_then_ask, replace_then_ask};
 use crate::subscribers::{Quiet, wanted};
 use event_manager::{
-    Call, EventManager, EventOps, EventPoller, Events, MutEventSubscriber, Naming, NoJob, Reply,
-    Request, Result, SubscriberId, SubscriberOps, drive,
+    Call, EventManager, EventOps, EventPoller, Events, MutEventSubscriber, NamedCounter, NoJob,
+    Reply, Request, Result, SubscriberId, SubscriberOps, drive,
 };
 use fixtures::making::{WithManager, with_manager};
 use fixtures::parts::silent_parts;
@@ -129,7 +129,7 @@ struct JoiningAndLeaving<'a, R> {
 }
 
 /// Joins one and makes a request for it in one list.
-fn join_and_ask<N: Naming, P: EventPoller, R: Wait + Clock + Abort>(
+fn join_and_ask<N: NamedCounter, P: EventPoller, R: Wait + Clock + Abort>(
     rt: &R,
     alloc: Global,
     manager: &mut EventManager<Quiet, NoJob, N, P>,
@@ -142,7 +142,7 @@ fn join_and_ask<N: Naming, P: EventPoller, R: Wait + Clock + Abort>(
 }
 
 /// Lets the one leave where another joins, and then that one.
-fn replace_and_remove<N: Naming, P: EventPoller, R: Wait + Clock + Abort>(
+fn replace_and_remove<N: NamedCounter, P: EventPoller, R: Wait + Clock + Abort>(
     rt: &R,
     alloc: Global,
     manager: &mut EventManager<Quiet, NoJob, N, P>,
@@ -163,7 +163,7 @@ impl<R: Wait + Clock + Abort> WithManager for JoiningAndLeaving<'_, R> {
 
     type Output = Vec<Reply<Quiet>>;
 
-    fn run<N: Naming, P: EventPoller>(
+    fn run<N: NamedCounter, P: EventPoller>(
         self,
         manager: &mut EventManager<Quiet, NoJob, N, P>,
     ) -> Result<Vec<Reply<Quiet>>> {

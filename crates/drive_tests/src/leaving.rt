@@ -7,7 +7,7 @@ ghost use Rattle.event_manager.specs.declared.calls.Reply.{Reply};
 ghost use Rattle.event_manager.specs.declared.calls.Reply.TheVariants.{Removed, Asked};
 
 use event_manager::{
-    Call, EventManager, EventPoller, Job, MutEventSubscriber, Naming, Reply, Request, Result,
+    Call, EventManager, EventPoller, Job, MutEventSubscriber, NamedCounter, Reply, Request, Result,
     SubscriberId, drive,
 };
 use std::alloc::Global;
@@ -26,7 +26,7 @@ pub fn remove_then_ask<S, J, N, P, R>(
 where
     S: MutEventSubscriber + Drop,
     J: Job<S>,
-    N: Naming,
+    N: NamedCounter,
     P: EventPoller,
     R: Wait + Clock,
     ensures { OnOk result ((removed : Result S Error) × (replies.new.items ≡ replies.old.items ++ Removed removed ∷ Asked (Err InvalidId) ∷ [])) }
@@ -51,7 +51,7 @@ pub fn replace_then_ask<S, J, N, P, R>(
 where
     S: MutEventSubscriber + Drop,
     J: Job<S>,
-    N: Naming,
+    N: NamedCounter,
     P: EventPoller,
     R: Wait + Clock,
     ensures { OnOk result ((first second third fourth : Reply S)

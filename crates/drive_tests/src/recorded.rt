@@ -4,7 +4,7 @@ use crate::driving::expect_replies;
 use crate::expecting::{expect_ok, expect_same};
 use crate::subscribers::{Noting, make_noting};
 use event_manager::{
-    Call, EventManager, EventPoller, Ledgers, Naming, NoJob, Reply, WithLedgers, drive,
+    Call, EventManager, EventPoller, Ledgers, NamedCounter, NoJob, Reply, WithLedgers, drive,
     with_ledgers,
 };
 use fixtures::making::make;
@@ -20,16 +20,16 @@ use vmm_sys::recording_poller::RecordingPoller;
 use vmm_sys::replay_poller::ReplayPoller;
 use vmm_sys::script_poller::ScriptPoller;
 
-/// A list of calls for a new manager of these parts.
+/// A list of calls for a new manager of these parts and of a counter.
 #[derive(Drop)]
 struct Listed<'a, R, P> {
     rt: &'a R,
-    parts: Parts<P>,
+    parts: Parts<P, ()>,
     calls: Vec<Call<Noting>>,
 }
 
 /// The replies of the manager to the calls.
-fn driven<N: Naming, P: EventPoller, R: Wait + Clock + Abort>(
+fn driven<N: NamedCounter, P: EventPoller, R: Wait + Clock + Abort>(
     rt: &R,
     alloc: Global,
     manager: &mut EventManager<Noting, NoJob, N, P>,
@@ -53,10 +53,10 @@ fn copied<R: Abort>(rt: &R, alloc: Global, entries: &[RecordEntry]) -> Vec<Recor
 impl<R: Wait + Clock + Abort> WithLedgers for Listed<'_, R, RecordingPoller<ScriptPoller>> {
     type Output = Recorded;
 
-    fn run<N: Naming + Send + Sync>(self, ledgers: Ledgers<N>) -> Recorded {
+    fn run<N: NamedCounter + Send + Sync>(self, counter: N, ledgers: Ledgers<N>) -> Recorded {
         let Listed { rt, parts, calls } = self;
         let alloc = parts.alloc;
-        let mut manager = expect_ok(rt, make::<Noting, NoJob, N, _>(parts, ledgers));
+        let mut manager = expect_ok(rt, make::<Noting, NoJob, N, _>(parts, counter, ledgers));
         let replies = driven(rt, alloc, &mut manager, calls);
         (replies, copied(rt, alloc, manager.poller().record()))
     }
@@ -68,10 +68,10 @@ type Replayed = (Vec<Reply<Noting>>, Option<usize>);
 impl<R: Wait + Clock + Abort> WithLedgers for Listed<'_, R, ReplayPoller> {
     type Output = Replayed;
 
-    fn run<N: Naming + Send + Sync>(self, ledgers: Ledgers<N>) -> Replayed {
+    fn run<N: NamedCounter + Send + Sync>(self, counter: N, ledgers: Ledgers<N>) -> Replayed {
         let Listed { rt, parts, calls } = self;
         let alloc = parts.alloc;
-        let mut manager = expect_ok(rt, make::<Noting, NoJob, N, _>(parts, ledgers));
+        let mut manager = expect_ok(rt, make::<Noting, NoJob, N, _>(parts, counter, ledgers));
         let replies = driven(rt, alloc, &mut manager, calls);
         (replies, manager.poller().diverged())
     }
@@ -98,12 +98,13 @@ fn join_and_run<R: Abort>(rt: &R, alloc: Global, second: u8) -> Vec<Call<Noting>
 fn record<R: Wait + Clock + Abort + Copy + Send + Drop>(rt: R, alloc: Global) -> Recorded {
     let poller = RecordingPoller::new(make_script(&rt, alloc), alloc, 16);
     let parts = silent_parts(rt, alloc, expect_ok(&rt, poller));
+    let (counter, parts) = expect_ok(&rt, parts).split();
     let listed = Listed {
         rt: &rt,
-        parts: expect_ok(&rt, parts),
+        parts,
         calls: join_and_run(&rt, alloc, 4),
     };
-    with_ledgers(listed)
+    with_ledgers(counter, listed)
 }
 
 /// What a manager over the record replies whose subscriber adds this second descriptor, and where it diverged.
@@ -114,12 +115,13 @@ fn replay<R: Wait + Clock + Abort + Copy + Send + Drop>(
     second: u8,
 ) -> Replayed {
     let parts = silent_parts(rt, alloc, ReplayPoller::new(record));
+    let (counter, parts) = expect_ok(&rt, parts).split();
     let listed = Listed {
         rt: &rt,
-        parts: expect_ok(&rt, parts),
+        parts,
         calls: join_and_run(&rt, alloc, second),
     };
-    with_ledgers(listed)
+    with_ledgers(counter, listed)
 }
 
 // What is recorded, and what is replayed.

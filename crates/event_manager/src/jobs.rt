@@ -8,4 +8,3 @@ pub use account::{Outcome, Step, replay};
 pub use job::{Job, NoJob};
 pub(crate) use queue::Refused;
 pub use queue::{Entry, JobQueue};
-pub use vmm_sys::counter::Bell;

@@ -8,7 +8,7 @@ ghost use Rattle.event_manager.specs.declared.calls.Reply.TheVariants as reply;
 ghost use Rattle.evloop.specs.Replies.{IsReplyTo};
 
 use event_manager::{
-    Call, Error, EventManager, EventPoller, Job, MutEventSubscriber, Naming, Reply, Request,
+    Call, Error, EventManager, EventPoller, Job, MutEventSubscriber, NamedCounter, Reply, Request,
     SubscriberId, drive,
 };
 use evloop_script::fault::Fault;
@@ -26,7 +26,7 @@ fn make_one<S, J, N, P, R>(
 where
     S: MutEventSubscriber + Drop,
     J: Job<S>,
-    N: Naming,
+    N: NamedCounter,
     P: EventPoller,
     R: Wait + Clock,
     ensures driven { IfOk result (λ reply. IsDriven S.begins S.serves J.may P.controls P.waits (state_of manager.old) (call ∷ []) (reply ∷ []) (state_of manager.new)) }
@@ -60,7 +60,7 @@ pub fn join<S, J, N, P, R>(
 where
     S: MutEventSubscriber + Drop,
     J: Job<S>,
-    N: Naming,
+    N: NamedCounter,
     P: EventPoller,
     R: Wait + Clock,
     ensures driven { IfOk result (λ answer. IsDriven S.begins S.serves J.may P.controls P.waits (state_of manager.old)
@@ -89,7 +89,7 @@ pub fn ask<S, J, N, P, R>(
 where
     S: MutEventSubscriber + Drop,
     J: Job<S>,
-    N: Naming,
+    N: NamedCounter,
     P: EventPoller,
     R: Wait + Clock,
     ensures driven { IfOk result (λ answer. IsDriven S.begins S.serves J.may P.controls P.waits (state_of manager.old)
@@ -117,7 +117,7 @@ pub fn leave<S, J, N, P, R>(
 where
     S: MutEventSubscriber + Drop,
     J: Job<S>,
-    N: Naming,
+    N: NamedCounter,
     P: EventPoller,
     R: Wait + Clock,
     ensures driven { IfOk result (λ answer. IsDriven S.begins S.serves J.may P.controls P.waits (state_of manager.old)
@@ -144,7 +144,7 @@ pub fn run_once<S, J, N, P, R>(
 where
     S: MutEventSubscriber + Drop,
     J: Job<S>,
-    N: Naming,
+    N: NamedCounter,
     P: EventPoller,
     R: Wait + Clock,
     ensures driven { IfOk result (λ answer. IsDriven S.begins S.serves J.may P.controls P.waits (state_of manager.old)

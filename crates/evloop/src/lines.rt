@@ -9,7 +9,9 @@ ghost use Rattle.evloop_script.specs.Printed.{written_by};
 
 use crate::calls::{ask, join, leave, run_once};
 use event_manager::laws::driven_lists_join;
-use event_manager::{Error, EventManager, EventPoller, Job, Naming, SubscriberId, SubscriberOps};
+use event_manager::{
+    Error, EventManager, EventPoller, Job, NamedCounter, SubscriberId, SubscriberOps,
+};
 use evloop_script::fault::Fault;
 use evloop_script::output::{Out, OutputLine, Printer};
 use evloop_script::reactions::Reactions;
@@ -62,7 +64,7 @@ where
     R: Wait + Clock,
     O: Out + Drop,
     J: Job<Subscriber<'a, O>>,
-    N: Naming,
+    N: NamedCounter,
     P: EventPoller,
     ensures { IsLineRun J.may P.controls P.waits
         (record { ids = ids.old.items; reactions = into_iter_items reactions.old; written = written_by O.contents printer.old }) line.entry result
@@ -139,7 +141,7 @@ where
     R: Wait + Clock,
     O: Out + Drop,
     J: Job<Subscriber<'a, O>>,
-    N: Naming,
+    N: NamedCounter,
     P: EventPoller,
     ensures { IsRun J.may P.controls P.waits (record { ids = []; reactions = reactions.items; written = written_by O.contents printer.old })
         lines.entry.items result (written_by O.contents printer.new) (state_of manager.old) (state_of manager.new) }

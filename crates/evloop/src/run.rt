@@ -5,7 +5,9 @@ ghost use Rattle.evloop.specs.ScriptedPoller.{empty, answer_of, with_waits, with
 ghost use Rattle.vmm_sys.specs.ScriptPoller.{with_answer};
 
 use crate::lines::make_lines;
-use event_manager::{BoxedPoller, EventManager, Ledgers, Naming, NoJob, WithLedgers, with_ledgers};
+use event_manager::{
+    BoxedPoller, EventManager, Ledgers, NamedCounter, NoJob, WithLedgers, with_ledgers,
+};
 use evloop_script::fault::Fault;
 use evloop_script::input::read_text;
 use evloop_script::output::{Out, Printer};
@@ -51,23 +53,22 @@ where
     let Ok(endpoint) = open_endpoint(rt, alloc) else {
         return Err(Fault::OutOfMemory);
     };
-    with_ledgers(ScriptRun {
+    let run = ScriptRun {
         rt,
         alloc,
         poller: BoxedPoller(poller),
-        endpoint,
         calls: script.calls,
         reactions: script.reactions,
         printer,
-    })
+    };
+    with_ledgers(endpoint, run)
 }
 
-/// A script that is ready to run: all that it needs but the manager, which is made over ledgers.
+/// A script that is ready to run: all that it needs but the manager, which is made of a counter and ledgers.
 struct ScriptRun<'a, R, O> {
     rt: &'a R,
     alloc: Global,
     poller: BoxedPoller,
-    endpoint: EventFd,
     calls: Vec<Call<'a>>,
     reactions: Vec<Reactions>,
     printer: Printer<O>,
@@ -76,18 +77,21 @@ struct ScriptRun<'a, R, O> {
 impl<R: Wait + Clock, O: Out + Drop> WithLedgers for ScriptRun<'_, R, O> {
     type Output = Result<(), Fault>;
 
-    fn run<N: Naming + Send + Sync>(self, ledgers: Ledgers<N>) -> Result<(), Fault> {
+    fn run<N: NamedCounter + Send + Sync>(
+        self,
+        counter: N,
+        ledgers: Ledgers<N>,
+    ) -> Result<(), Fault> {
         let ScriptRun {
             rt,
             alloc,
             poller,
-            endpoint,
             calls,
             reactions,
             mut printer,
         } = self;
         let mut manager = EventManager::<Subscriber<O>, NoJob, N>::new(
-            alloc, poller, endpoint, ledgers,
+            alloc, poller, counter, ledgers,
         )?;
         make_lines(rt, alloc, &mut manager, calls, reactions, &mut printer)
     }

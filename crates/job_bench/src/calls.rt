@@ -7,7 +7,7 @@ use crate::jobs::{CountOne, Counter};
 use crate::progress::Progress;
 use anyhow::{Result, bail};
 use event_manager::{
-    Error, EventManager, EventPoller, LoopWithSenders, Naming, RemoteEndpoint, Sender,
+    Error, EventManager, EventPoller, LoopWithSenders, NamedCounter, RemoteEndpoint, Sender,
     SubscriberId, SubscriberOps, with_senders,
 };
 use measures::arguments::Family;
@@ -48,7 +48,7 @@ struct Caller<'a> {
 }
 
 impl<'a, R: Wait + Clock> LoopWithSenders<Counter, CountOne, Caller<'a>, R> for CalledLoop<'a> {
-    fn begin<N: Naming, P: EventPoller>(
+    fn begin<N: NamedCounter, P: EventPoller>(
         &mut self,
         _rt: &R,
         alloc: Global,
@@ -69,7 +69,7 @@ impl<'a, R: Wait + Clock> LoopWithSenders<Counter, CountOne, Caller<'a>, R> for 
 
 impl<R: Wait + Clock> Sender<Counter, CountOne, Result<Times>, R> for Caller<'_> {
     /// Sends the jobs of all repeats.
-    fn send<N: Naming>(
+    fn send<N: NamedCounter>(
         self,
         endpoint: &RemoteEndpoint<Counter, CountOne, N>,
         rt: &R,
@@ -84,7 +84,7 @@ impl<R: Wait + Clock> Sender<Counter, CountOne, Result<Times>, R> for Caller<'_>
 }
 
 /// Sends so many jobs, and waits for the reply of each.
-fn call_often<N: Naming, R: Wait + Clock>(
+fn call_often<N: NamedCounter, R: Wait + Clock>(
     endpoint: &RemoteEndpoint<Counter, CountOne, N>,
     id: SubscriberId,
     rounds: u32,

@@ -3,7 +3,7 @@
 use crate::jobs::{CountOne, Counter};
 use anyhow::Result;
 use event_manager::{
-    EventManager, EventPoller, Ledgers, Naming, RemoteEndpoint, SubscriberId, SubscriberOps,
+    EventManager, EventPoller, Ledgers, NamedCounter, RemoteEndpoint, SubscriberId, SubscriberOps,
     WithLedgers, with_ledgers,
 };
 use measures::arguments::Family;
@@ -24,10 +24,9 @@ const JOBS: u32 = 20000;
 /// A manager of the measure.
 type Manager<N, P> = EventManager<Counter, CountOne, N, P>;
 
-/// A loop over the in-process table: all that it needs but the manager, which is made over ledgers.
+/// A loop over the in-process table: all that it needs but the manager, which is made of a counter and ledgers.
 struct FiredJobs<'a, R> {
     epoll: Epoll<R>,
-    endpoint: EventFd,
     rounds: u32,
     alloc: Global,
     rt: &'a R,
@@ -36,21 +35,24 @@ struct FiredJobs<'a, R> {
 impl<R: Wait + Clock + Copy + Send + Drop> WithLedgers for FiredJobs<'_, R> {
     type Output = Result<Measured>;
 
-    fn run<N: Naming + Send + Sync>(self, ledgers: Ledgers<N>) -> Result<Measured> {
+    fn run<N: NamedCounter + Send + Sync>(
+        self,
+        counter: N,
+        ledgers: Ledgers<N>,
+    ) -> Result<Measured> {
         let FiredJobs {
             epoll,
-            endpoint,
             rounds,
             alloc,
             rt,
         } = self;
-        let mut manager = Manager::<N, _>::new(alloc, epoll, endpoint, ledgers)?;
+        let mut manager = Manager::<N, _>::new(alloc, epoll, counter, ledgers)?;
         take(&mut manager, rounds, rt)
     }
 }
 
 /// Takes the measure on a new manager, by an endpoint of it.
-fn take<N: Naming, P: EventPoller + Drop, R: Wait + Clock>(
+fn take<N: NamedCounter, P: EventPoller + Drop, R: Wait + Clock>(
     manager: &mut Manager<N, P>,
     rounds: u32,
     rt: &R,
@@ -60,7 +62,7 @@ fn take<N: Naming, P: EventPoller + Drop, R: Wait + Clock>(
 }
 
 /// Lets a counter join, and sends the jobs of all repeats to it. Refused where it has counted another number.
-fn fire_often<N: Naming, P: EventPoller, R: Wait + Clock>(
+fn fire_often<N: NamedCounter, P: EventPoller, R: Wait + Clock>(
     manager: &mut Manager<N, P>,
     endpoint: &RemoteEndpoint<Counter, CountOne, N>,
     rounds: u32,
@@ -77,7 +79,7 @@ fn fire_often<N: Naming, P: EventPoller, R: Wait + Clock>(
 }
 
 // Sends a job and runs the manager, so often.
-fn fire_and_run<N: Naming, P: EventPoller, R: Wait + Clock>(
+fn fire_and_run<N: NamedCounter, P: EventPoller, R: Wait + Clock>(
     manager: &mut Manager<N, P>,
     endpoint: &RemoteEndpoint<Counter, CountOne, N>,
     id: SubscriberId,
@@ -99,12 +101,12 @@ pub fn measure_fires<R: Wait + Clock + Print + Copy + Send + Drop>(bench: &Bench
     let (alloc, rt) = (bench.alloc, &bench.rt);
     let epoll = Epoll::new(*rt, alloc)?;
     let endpoint = EventFd::new(&epoll, 0, rt)?;
-    let measured = with_ledgers(FiredJobs {
+    let fired = FiredJobs {
         epoll,
-        endpoint,
         rounds: bench.rounds(JOBS),
         alloc,
         rt,
-    })?;
+    };
+    let measured = with_ledgers(endpoint, fired)?;
     bench.print("fire, and the run that does the job", measured)
 }

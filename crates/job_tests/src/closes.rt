@@ -4,7 +4,7 @@ use crate::courses::{Course, Endpoint, expect_course, expect_let_go, expect_over
 use crate::expecting::{expect_ok, expect_same};
 use crate::host::Host;
 use crate::refusals::{expect_after, expect_refusals};
-use event_manager::{Error, Naming, Ticket};
+use event_manager::{Error, NamedCounter, Ticket};
 use fixtures::parts::on_table;
 use fixtures::work::{Notes, fire_note};
 use std::sync::Arc;
@@ -12,14 +12,14 @@ use vmm_sys::epoll::{AsRawFd, ControlOperation, EpollEvent, EventSet};
 use vmm_sys::poller::Poller;
 
 /// Sends two jobs that hold the notes.
-pub fn waiting<N: Naming, R: Host>(rt: &R, endpoint: &Endpoint<N>, notes: &Notes) {
+pub fn waiting<N: NamedCounter, R: Host>(rt: &R, endpoint: &Endpoint<N>, notes: &Notes) {
     expect_ok(rt, fire_note(rt, endpoint, notes, 1));
     expect_ok(rt, fire_note(rt, endpoint, notes, 2));
     expect_same(rt, &Arc::strong_count(notes), &3);
 }
 
 /// Expects of endpoints of a closed manager that each send is refused and a kick agreed, and that no job is left.
-pub fn expect_closed<N: Naming, R: Host>(
+pub fn expect_closed<N: NamedCounter, R: Host>(
     rt: &R,
     endpoints: &[Endpoint<N>; 2],
     notes: &Notes,
@@ -44,7 +44,7 @@ fn a_close_drops_the_jobs_that_wait(rt: HostRuntime) {
 #[test]
 fn a_kick_after_a_close_is_agreed_and_read_by_nobody(rt: HostRuntime) {
     let parts = expect_ok(&rt, on_table(rt, rt.alloc(), 0));
-    let counter = expect_ok(&rt, parts.event_fd.try_clone());
+    let counter = expect_ok(&rt, parts.counter.try_clone());
     expect_over(&rt, parts, &Course::Nothing, (0, 0));
     expect_same(&rt, &counter.read(&rt), &Ok(1));
 }
@@ -53,7 +53,7 @@ fn a_kick_after_a_close_is_agreed_and_read_by_nobody(rt: HostRuntime) {
 fn a_close_asks_the_poller_for_nothing(rt: HostRuntime) {
     let parts = expect_ok(&rt, on_table(rt, rt.alloc(), 0));
     let mut epoll = expect_ok(&rt, parts.poller.try_clone());
-    let fd = parts.event_fd.as_raw_fd();
+    let fd = parts.counter.as_raw_fd();
     expect_over(&rt, parts, &Course::Nothing, (0, 0));
     let nothing = EpollEvent::new(EventSet::empty(), 0);
     let deleted = epoll.ctl(ControlOperation::Delete, fd, nothing);

@@ -4,7 +4,8 @@ use crate::expecting::{expect_ok, expect_same};
 use crate::host::Host;
 use crate::{closes, queue, refusals, reports, sends};
 use event_manager::{
-    EventManager, EventPoller, Ledgers, Naming, RemoteEndpoint, Ticket, WithLedgers, with_ledgers,
+    EventManager, EventPoller, Ledgers, NamedCounter, RemoteEndpoint, Ticket, WithLedgers,
+    with_ledgers,
 };
 use fixtures::making::make;
 use fixtures::parts::{Idle, Parts, on_table};
@@ -46,7 +47,7 @@ pub enum Course<'a> {
 }
 
 /// Follows the course.
-fn follow<N: Naming, P: EventPoller, R: Host>(
+fn follow<N: NamedCounter, P: EventPoller, R: Host>(
     rt: &R,
     manager: &mut Loop<N, P>,
     endpoint: &Endpoint<N>,
@@ -68,7 +69,7 @@ fn follow<N: Naming, P: EventPoller, R: Host>(
 }
 
 /// Sends one job more where jobs wait.
-fn send_more<N: Naming, R: Host>(
+fn send_more<N: NamedCounter, R: Host>(
     rt: &R,
     endpoint: &Endpoint<N>,
     course: &Course<'_>,
@@ -80,7 +81,7 @@ fn send_more<N: Naming, R: Host>(
 }
 
 /// Closes the manager, of which so many tickets were issued and so many jobs taken.
-fn expect_close<N: Naming, P: EventPoller + Drop, R: Host>(
+fn expect_close<N: NamedCounter, P: EventPoller + Drop, R: Host>(
     rt: &R,
     manager: Loop<N, P>,
     counts: (u64, u64),
@@ -90,7 +91,7 @@ fn expect_close<N: Naming, P: EventPoller + Drop, R: Host>(
 }
 
 /// Two endpoints of the manager.
-fn endpoints_of<N: Naming, P: EventPoller, R: Abort>(
+fn endpoints_of<N: NamedCounter, P: EventPoller, R: Abort>(
     rt: &R,
     manager: &Loop<N, P>,
 ) -> [Endpoint<N>; 2] {
@@ -101,7 +102,7 @@ fn endpoints_of<N: Naming, P: EventPoller, R: Abort>(
 }
 
 /// Follows the course by the first endpoint: the last ticket, if it may be shown.
-fn follow_and_send<N: Naming, P: EventPoller, R: Host>(
+fn follow_and_send<N: NamedCounter, P: EventPoller, R: Host>(
     rt: &R,
     manager: &mut Loop<N, P>,
     endpoints: &[Endpoint<N>; 2],
@@ -113,10 +114,10 @@ fn follow_and_send<N: Naming, P: EventPoller, R: Host>(
     send_more(rt, endpoint, course)
 }
 
-/// A course, and the parts of its manager.
+/// A course, and the parts of its manager but for the counter.
 struct Run<'a, R, P> {
     rt: &'a R,
-    parts: Parts<P>,
+    parts: Parts<P, ()>,
     notes: &'a Notes,
     course: &'a Course<'a>,
     counts: (u64, u64),
@@ -125,7 +126,7 @@ struct Run<'a, R, P> {
 impl<R: Host, P: EventPoller + Drop> WithLedgers for Run<'_, R, P> {
     type Output = ();
 
-    fn run<N: Naming + Send + Sync>(self, ledgers: Ledgers<N>) {
+    fn run<N: NamedCounter + Send + Sync>(self, counter: N, ledgers: Ledgers<N>) {
         let Run {
             rt,
             parts,
@@ -133,7 +134,7 @@ impl<R: Host, P: EventPoller + Drop> WithLedgers for Run<'_, R, P> {
             course,
             counts,
         } = self;
-        let mut manager = expect_ok(rt, make::<Idle, Work, N, P>(parts, ledgers));
+        let mut manager = expect_ok(rt, make::<Idle, Work, N, P>(parts, counter, ledgers));
         let endpoints = endpoints_of(rt, &manager);
         let shown = follow_and_send(rt, &mut manager, &endpoints, notes, course);
         expect_close(rt, manager, counts);
@@ -150,6 +151,7 @@ pub fn expect_over<R: Host, P: EventPoller + Drop>(
     counts: (u64, u64),
 ) {
     let notes = expect_ok(rt, new_notes(parts.alloc));
+    let (counter, parts) = parts.split();
     let run = Run {
         rt,
         parts,
@@ -157,7 +159,7 @@ pub fn expect_over<R: Host, P: EventPoller + Drop>(
         course,
         counts,
     };
-    with_ledgers(run);
+    with_ledgers(counter, run);
 }
 
 /// The same over a new table, where the endpoint's counter has this value.

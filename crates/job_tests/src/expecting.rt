@@ -1,7 +1,7 @@
 //! What the bodies of tests do again and again, each time with a word on what must come of it.
 
 use event_manager::{
-    EventManager, EventPoller, Job, MutEventSubscriber, Naming, RemoteEndpoint, Result,
+    EventManager, EventPoller, Job, MutEventSubscriber, NamedCounter, RemoteEndpoint, Result,
 };
 use fixtures::work::Notes;
 use std::fmt::Debug;
@@ -28,7 +28,7 @@ pub fn expect_run<S, J, N, P, R>(
 where
     S: MutEventSubscriber,
     J: Job<S>,
-    N: Naming,
+    N: NamedCounter,
     P: EventPoller,
     R: Wait + Clock + Abort,
 {
@@ -45,7 +45,7 @@ pub fn expect_run_within<S, J, N, P, R>(
 where
     S: MutEventSubscriber,
     J: Job<S>,
-    N: Naming,
+    N: NamedCounter,
     P: EventPoller,
     R: Wait + Clock + Abort,
 {
@@ -53,7 +53,7 @@ where
 }
 
 /// Expects that so many jobs wait.
-pub fn expect_pending<S: MutEventSubscriber, J: Job<S>, N: Naming, R: Abort>(
+pub fn expect_pending<S: MutEventSubscriber, J: Job<S>, N: NamedCounter, R: Abort>(
     rt: &R,
     endpoint: &RemoteEndpoint<S, J, N>,
     count: usize,

@@ -1,8 +1,8 @@
 //! The queue of jobs, and the account of a list of sends, takes and closes.
 
 use crate::expecting::{expect_ok, expect_same};
-use event_manager::Error;
-use event_manager::jobs::{Bell, JobQueue, Step, replay};
+use event_manager::jobs::{JobQueue, Step, replay};
+use event_manager::{Bell, Error};
 use std::alloc::Global;
 use std::process::Abort;
 use std::sync::Wait;

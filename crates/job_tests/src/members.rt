@@ -3,8 +3,8 @@
 use crate::expecting::{expect_noted, expect_ok, expect_run, expect_run_within};
 use crate::host::Host;
 use event_manager::{
-    EventManager, EventPoller, EventSet, Events, Job, Naming, Registry, RemoteEndpoint, Result,
-    SubscriberId, SubscriberOps,
+    EventManager, EventPoller, EventSet, Events, Job, NamedCounter, Registry, RemoteEndpoint,
+    Result, SubscriberId, SubscriberOps,
 };
 use fixtures::making::{WithEndpoint, with_endpoint};
 use fixtures::noting::{Noting, add_noting, make_noting};
@@ -123,7 +123,7 @@ impl<R: Host> WithEndpoint for Joining<'_, R> {
 
     type Output = ();
 
-    fn run<N: Naming, P: EventPoller>(
+    fn run<N: NamedCounter, P: EventPoller>(
         self,
         manager: &mut EventManager<Noting<R>, Join<R>, N, P>,
         endpoint: &RemoteEndpoint<Noting<R>, Join<R>, N>,
@@ -169,7 +169,7 @@ impl<R: Host> WithEndpoint for Leaving<'_, R> {
 
     type Output = ();
 
-    fn run<N: Naming, P: EventPoller>(
+    fn run<N: NamedCounter, P: EventPoller>(
         self,
         manager: &mut EventManager<Noting<R>, Leave, N, P>,
         endpoint: &RemoteEndpoint<Noting<R>, Leave, N>,
@@ -214,7 +214,7 @@ impl<R: Host> WithEndpoint for Renumbering<'_, R> {
 
     type Output = ();
 
-    fn run<N: Naming, P: EventPoller>(
+    fn run<N: NamedCounter, P: EventPoller>(
         self,
         manager: &mut EventManager<Noting<R>, Renumber, N, P>,
         endpoint: &RemoteEndpoint<Noting<R>, Renumber, N>,

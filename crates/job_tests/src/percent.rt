@@ -3,7 +3,7 @@
 ghost use Rattle.std.specs.Prelude.{◌≤◌, IfOk};
 
 use event_manager::{
-    EventPoller, Job, MutEventSubscriber, Naming, Registry, RemoteEndpoint, Result,
+    EventPoller, Job, MutEventSubscriber, NamedCounter, Registry, RemoteEndpoint, Result,
 };
 use std::sync::Wait;
 use std::time::Clock;
@@ -30,7 +30,7 @@ impl<S: MutEventSubscriber> Job<S> for Percent {
 }
 
 /// What the loop replies: the caller knows that it is at most 100.
-pub fn ask_percent<S: MutEventSubscriber, N: Naming, R: Wait + Clock>(
+pub fn ask_percent<S: MutEventSubscriber, N: NamedCounter, R: Wait + Clock>(
     endpoint: &RemoteEndpoint<S, Percent, N>,
     part: u64,
     rt: &R,

@@ -5,20 +5,26 @@ use crate::expecting::{
     expect_noted, expect_ok, expect_pending, expect_run, expect_run_within, expect_same,
 };
 use crate::host::Host;
-use event_manager::{EventPoller, Ledgers, Naming, WithLedgers, with_ledgers};
+use event_manager::{EventPoller, Ledgers, NamedCounter, WithLedgers, with_ledgers};
 use fixtures::making::make;
-use fixtures::parts::{Idle, OnTable, on_table};
+use fixtures::parts::{Idle, Parts, on_table};
 use fixtures::work::{Notes, Work, count_of, fire_note, new_notes};
+use vmm_sys::epoll::Epoll;
 
 /// Sends jobs that note 1, 2, 3 and so on, so many: each must have the ticket of its number.
-fn fire_counting<N: Naming, R: Host>(rt: &R, endpoint: &Endpoint<N>, notes: &Notes, count: u64) {
+fn fire_counting<N: NamedCounter, R: Host>(
+    rt: &R,
+    endpoint: &Endpoint<N>,
+    notes: &Notes,
+    count: u64,
+) {
     for number in 1..=count {
         expect_same(rt, &fire_note(rt, endpoint, notes, number), &Ok(number));
     }
 }
 
 /// Sends five thousand jobs, and runs twice.
-pub fn thousands<N: Naming, P: EventPoller, R: Host>(
+pub fn thousands<N: NamedCounter, P: EventPoller, R: Host>(
     rt: &R,
     manager: &mut Loop<N, P>,
     endpoint: &Endpoint<N>,
@@ -36,13 +42,17 @@ fn five_thousand_jobs_wait_and_are_run(rt: HostRuntime) {
 }
 
 /// Sends two jobs by an endpoint that is then dropped.
-fn fire_and_drop<N: Naming, P: EventPoller, R: Host>(rt: &R, manager: &Loop<N, P>, notes: &Notes) {
+fn fire_and_drop<N: NamedCounter, P: EventPoller, R: Host>(
+    rt: &R,
+    manager: &Loop<N, P>,
+    notes: &Notes,
+) {
     let endpoint = expect_ok(rt, manager.remote_endpoint());
     fire_counting(rt, &endpoint, notes, 2);
 }
 
 /// Drops an endpoint while its jobs wait.
-pub fn dropped_endpoint<N: Naming, P: EventPoller, R: Host>(
+pub fn dropped_endpoint<N: NamedCounter, P: EventPoller, R: Host>(
     rt: &R,
     manager: &mut Loop<N, P>,
     notes: &Notes,
@@ -58,7 +68,7 @@ fn jobs_outlive_their_endpoint(rt: HostRuntime) {
 }
 
 /// Expects of two endpoints how many jobs wait.
-fn expect_both_pending<N: Naming, M: Naming, R: Host>(
+fn expect_both_pending<N: NamedCounter, M: NamedCounter, R: Host>(
     rt: &R,
     endpoints: (&Endpoint<N>, &Endpoint<M>),
     counts: (usize, usize),
@@ -68,7 +78,7 @@ fn expect_both_pending<N: Naming, M: Naming, R: Host>(
 }
 
 /// Sends by the two in turn, three jobs.
-fn fire_in_turn<N: Naming, R: Host>(
+fn fire_in_turn<N: NamedCounter, R: Host>(
     rt: &R,
     first: &Endpoint<N>,
     second: &Endpoint<N>,
@@ -80,7 +90,7 @@ fn fire_in_turn<N: Naming, R: Host>(
 }
 
 /// Sends by two endpoints of one manager.
-pub fn two_endpoints<N: Naming, P: EventPoller, R: Host>(
+pub fn two_endpoints<N: NamedCounter, P: EventPoller, R: Host>(
     rt: &R,
     manager: &mut Loop<N, P>,
     endpoint: &Endpoint<N>,
@@ -100,7 +110,7 @@ fn an_endpoint_is_of_its_manager(rt: HostRuntime) {
 }
 
 /// Sends to a manager beside an endpoint of another, for which two jobs wait.
-fn run_beside<N: Naming, P: EventPoller, M: Naming, R: Host>(
+fn run_beside<N: NamedCounter, P: EventPoller, M: NamedCounter, R: Host>(
     rt: &R,
     manager: &mut Loop<N, P>,
     other: &Endpoint<M>,
@@ -115,30 +125,30 @@ fn run_beside<N: Naming, P: EventPoller, M: Naming, R: Host>(
 }
 
 /// A manager beside an endpoint of another.
-struct Beside<'a, R, M: Naming> {
+struct Beside<'a, R, M: NamedCounter> {
     rt: &'a R,
-    parts: OnTable<R>,
+    parts: Parts<Epoll<R>, ()>,
     other: &'a Endpoint<M>,
     notes: &'a Notes,
 }
 
-impl<R: Host + Send, M: Naming> WithLedgers for Beside<'_, R, M> {
+impl<R: Host + Send, M: NamedCounter> WithLedgers for Beside<'_, R, M> {
     type Output = ();
 
-    fn run<N: Naming + Send + Sync>(self, ledgers: Ledgers<N>) {
+    fn run<N: NamedCounter + Send + Sync>(self, counter: N, ledgers: Ledgers<N>) {
         let Beside {
             rt,
             parts,
             other,
             notes,
         } = self;
-        let mut manager = expect_ok(rt, make::<Idle, Work, N, _>(parts, ledgers));
+        let mut manager = expect_ok(rt, make::<Idle, Work, N, _>(parts, counter, ledgers));
         run_beside(rt, &mut manager, other, notes);
     }
 }
 
 /// Runs for the two jobs that wait.
-fn expect_two_run<N: Naming, P: EventPoller, R: Host>(
+fn expect_two_run<N: NamedCounter, P: EventPoller, R: Host>(
     rt: &R,
     manager: &mut Loop<N, P>,
     notes: &Notes,
@@ -150,16 +160,16 @@ fn expect_two_run<N: Naming, P: EventPoller, R: Host>(
 /// Two managers.
 struct TwoManagers<'a, R> {
     rt: &'a R,
-    parts: OnTable<R>,
+    parts: Parts<Epoll<R>, ()>,
     notes: &'a Notes,
-    others: OnTable<R>,
+    others: Parts<Epoll<R>>,
     other_notes: &'a Notes,
 }
 
 impl<R: Host + Send> WithLedgers for TwoManagers<'_, R> {
     type Output = ();
 
-    fn run<N: Naming + Send + Sync>(self, ledgers: Ledgers<N>) {
+    fn run<N: NamedCounter + Send + Sync>(self, counter: N, ledgers: Ledgers<N>) {
         let TwoManagers {
             rt,
             parts,
@@ -167,15 +177,17 @@ impl<R: Host + Send> WithLedgers for TwoManagers<'_, R> {
             others,
             other_notes,
         } = self;
-        let mut manager = expect_ok(rt, make::<Idle, Work, N, _>(parts, ledgers));
+        let mut manager = expect_ok(rt, make::<Idle, Work, N, _>(parts, counter, ledgers));
         let endpoint = expect_ok(rt, manager.remote_endpoint());
         fire_counting(rt, &endpoint, notes, 2);
-        with_ledgers(Beside {
+        let (counter, parts) = others.split();
+        let beside = Beside {
             rt,
-            parts: others,
+            parts,
             other: &endpoint,
             notes: other_notes,
-        });
+        };
+        with_ledgers(counter, beside);
         expect_two_run(rt, &mut manager, notes);
     }
 }
@@ -187,11 +199,13 @@ fn endpoints_of_two_managers_are_apart(rt: HostRuntime) {
         expect_ok(&rt, new_notes(alloc)),
         expect_ok(&rt, new_notes(alloc)),
     );
-    with_ledgers(TwoManagers {
+    let (counter, parts) = expect_ok(&rt, on_table(rt, alloc, 0)).split();
+    let managers = TwoManagers {
         rt: &rt,
-        parts: expect_ok(&rt, on_table(rt, alloc, 0)),
+        parts,
         notes: &notes,
         others: expect_ok(&rt, on_table(rt, alloc, 0)),
         other_notes: &other_notes,
-    });
+    };
+    with_ledgers(counter, managers);
 }

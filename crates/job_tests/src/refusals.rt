@@ -3,7 +3,7 @@
 use crate::courses::{Course, Endpoint, Loop, expect_course};
 use crate::expecting::{expect_ok, expect_pending, expect_run, expect_same};
 use crate::host::Host;
-use event_manager::{Error, EventPoller, Naming, Result, Ticket};
+use event_manager::{Error, EventPoller, NamedCounter, Result, Ticket};
 use fixtures::work::Work;
 use vmm_sys::errno::Errno;
 
@@ -11,13 +11,13 @@ use vmm_sys::errno::Errno;
 const FULL: u64 = 18446744073709551614;
 
 /// Expects this answer of a job: the number of its ticket.
-fn expect_fire<N: Naming, R: Host>(rt: &R, endpoint: &Endpoint<N>, answer: Result<u64>) {
+fn expect_fire<N: NamedCounter, R: Host>(rt: &R, endpoint: &Endpoint<N>, answer: Result<u64>) {
     let number = endpoint.fire(Work::Own(1), rt).map(|t| t.number());
     expect_same(rt, &number, &answer);
 }
 
 /// Expects that a job and a call are refused with this, and that so many jobs wait then.
-pub fn expect_refusals<N: Naming, R: Host>(
+pub fn expect_refusals<N: NamedCounter, R: Host>(
     rt: &R,
     endpoint: &Endpoint<N>,
     refusal: Error,
@@ -29,7 +29,7 @@ pub fn expect_refusals<N: Naming, R: Host>(
 }
 
 /// Expects this answer of a job after the shown ticket, and that so many jobs wait then.
-pub fn expect_after<N: Naming, R: Host>(
+pub fn expect_after<N: NamedCounter, R: Host>(
     rt: &R,
     endpoint: &Endpoint<N>,
     shown: &Ticket<N>,
@@ -44,7 +44,7 @@ pub fn expect_after<N: Naming, R: Host>(
 }
 
 /// Expects that each call is refused while the counter is full, and that a job is taken after the next run.
-pub fn full<N: Naming, P: EventPoller, R: Host>(
+pub fn full<N: NamedCounter, P: EventPoller, R: Host>(
     rt: &R,
     manager: &mut Loop<N, P>,
     endpoint: &Endpoint<N>,
@@ -62,7 +62,7 @@ fn a_full_counter_refuses_the_send(rt: HostRuntime) {
 }
 
 /// Expects that a job after another is refused while the counter is full, and taken after the next run.
-pub fn nearly_full<N: Naming, P: EventPoller, R: Host>(
+pub fn nearly_full<N: NamedCounter, P: EventPoller, R: Host>(
     rt: &R,
     manager: &mut Loop<N, P>,
     endpoint: &Endpoint<N>,

@@ -5,7 +5,9 @@ use crate::expecting::{
     expect_noted, expect_ok, expect_pending, expect_run, expect_run_within, expect_same,
 };
 use crate::host::Host;
-use event_manager::{EventManager, EventPoller, EventSet, Events, Naming, RemoteEndpoint, Result};
+use event_manager::{
+    EventManager, EventPoller, EventSet, Events, NamedCounter, RemoteEndpoint, Result,
+};
 use fixtures::making::{WithEndpoint, with_endpoint};
 use fixtures::noting::{Noting, add_noting};
 use fixtures::parts::{Parts, on_table};
@@ -38,7 +40,7 @@ impl<R: Host> WithEndpoint for OneRun<'_, R> {
 
     type Output = ();
 
-    fn run<N: Naming, P: EventPoller>(
+    fn run<N: NamedCounter, P: EventPoller>(
         self,
         manager: &mut EventManager<Noting<R>, Work, N, P>,
         endpoint: &RemoteEndpoint<Noting<R>, Work, N>,
@@ -74,8 +76,8 @@ fn on_script<R: Host + Send>(
     script: ScriptPoller,
     value: u64,
 ) -> Parts<ScriptPoller> {
-    let Parts { event_fd, .. } = expect_ok(&rt, on_table(rt, alloc, value));
-    Parts::new(alloc, script, event_fd)
+    let Parts { counter, .. } = expect_ok(&rt, on_table(rt, alloc, value));
+    Parts::new(alloc, script, counter)
 }
 
 /// Expects that this was noted in a run over this report. The endpoint has descriptor 0, and the subscriber 3.
@@ -117,7 +119,7 @@ fn reports_of_an_endpoint_event_of_any_set(rt: HostRuntime) {
 }
 
 /// Fires a job, lets somebody else read the endpoint's counter, and runs once over a script.
-pub fn behind_read<N: Naming, P: EventPoller, R: Host>(
+pub fn behind_read<N: NamedCounter, P: EventPoller, R: Host>(
     rt: &R,
     manager: &mut Loop<N, P>,
     endpoint: &Endpoint<N>,
@@ -134,12 +136,12 @@ pub fn behind_read<N: Naming, P: EventPoller, R: Host>(
 fn jobs_are_run_where_the_counter_has_nothing(rt: HostRuntime) {
     let script = script_of(&rt, rt.alloc(), &[(0, EventSet::IN)]);
     let parts = on_script(rt, rt.alloc(), script, 0);
-    let counter = expect_ok(&rt, parts.event_fd.try_clone());
+    let counter = expect_ok(&rt, parts.counter.try_clone());
     expect_over(&rt, parts, &Course::BehindRead(&counter), (1, 1));
 }
 
 /// Runs over a script, kicks, and runs again: the first run has an event of the endpoint, and the second none.
-pub fn behind_kick<N: Naming, P: EventPoller, R: Host>(
+pub fn behind_kick<N: NamedCounter, P: EventPoller, R: Host>(
     rt: &R,
     manager: &mut Loop<N, P>,
     endpoint: &Endpoint<N>,
@@ -157,7 +159,7 @@ fn endpoint_event_is_answered_by_its_own_run_alone(rt: HostRuntime) {
     let others = vec![in rt.alloc(); EpollEvent::new(EventSet::IN, 7)];
     expect_ok(&rt, script.push_report(expect_ok(&rt, others)));
     let parts = on_script(rt, rt.alloc(), script, 3);
-    let counter = expect_ok(&rt, parts.event_fd.try_clone());
+    let counter = expect_ok(&rt, parts.counter.try_clone());
     expect_over(&rt, parts, &Course::BehindKick(&counter), (0, 0));
 }
 
@@ -176,7 +178,7 @@ impl<R: Host> WithEndpoint for Kicked<'_, R> {
 
     type Output = ();
 
-    fn run<N: Naming, P: EventPoller>(
+    fn run<N: NamedCounter, P: EventPoller>(
         self,
         manager: &mut EventManager<Noting<R>, Work, N, P>,
         endpoint: &RemoteEndpoint<Noting<R>, Work, N>,

@@ -3,11 +3,11 @@
 use crate::courses::{Course, Endpoint, Loop, expect_course};
 use crate::expecting::{expect_noted, expect_pending, expect_run, expect_run_within, expect_same};
 use crate::host::Host;
-use event_manager::{EventPoller, Naming};
+use event_manager::{EventPoller, NamedCounter};
 use fixtures::work::{Notes, fire_note};
 
 /// Fires two jobs, and runs twice.
-pub fn two_jobs<N: Naming, P: EventPoller, R: Host>(
+pub fn two_jobs<N: NamedCounter, P: EventPoller, R: Host>(
     rt: &R,
     manager: &mut Loop<N, P>,
     endpoint: &Endpoint<N>,

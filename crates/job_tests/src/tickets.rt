@@ -1,9 +1,8 @@
 //! Tickets over ledgers that a body is given.
 
-use crate::expecting::expect_same;
-use job_tickets::ledgers::{Ledgers, WithLedgers, with_ledgers};
-use job_tickets::naming::Naming;
-use job_tickets::tickets::Ticket;
+use crate::expecting::{expect_ok, expect_same};
+use event_manager::{Ledgers, NamedCounter, Naming, Ticket, WithLedgers, with_ledgers};
+use fixtures::parts::silent_endpoint;
 use std::alloc::Global;
 
 /// Issues three tickets and gathers two of them, then all.
@@ -25,7 +24,11 @@ fn numbers_of<N: Naming>(tickets: &[Ticket<N>]) -> [u64; 3] {
 impl WithLedgers for Gathering {
     type Output = Option<Gathered>;
 
-    fn run<N: Naming + Send + Sync>(self, ledgers: Ledgers<N>) -> Option<Gathered> {
+    fn run<N: NamedCounter + Send + Sync>(
+        self,
+        _counter: N,
+        ledgers: Ledgers<N>,
+    ) -> Option<Gathered> {
         let (mut register, _, _) = ledgers.open();
         let (first, second, third) = (register.issue(), register.issue(), register.issue());
         let mut gathered = Vec::new(self.alloc);
@@ -40,6 +43,8 @@ impl WithLedgers for Gathering {
 
 #[test]
 fn all_tickets_are_gathered_and_sorted(rt: HostRuntime) {
-    let gathered = with_ledgers(Gathering { alloc: rt.alloc() });
+    let alloc = rt.alloc();
+    let counter = expect_ok(&rt, silent_endpoint(rt, alloc));
+    let gathered = with_ledgers(counter, Gathering { alloc });
     expect_same(&rt, &gathered, &Some((false, true, [1, 2, 3])));
 }

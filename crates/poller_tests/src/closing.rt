@@ -2,7 +2,7 @@
 
 use crate::expecting::{expect, expect_ok, expect_same};
 use event_manager::{
-    EventManager, EventOps, EventPoller, Events, Job, Ledgers, MutEventSubscriber, Naming,
+    EventManager, EventOps, EventPoller, Events, Job, Ledgers, MutEventSubscriber, NamedCounter,
     Registry, Result, SubscriberOps, WithLedgers, with_ledgers,
 };
 use fixtures::parts::{Parts, silent_parts};
@@ -94,7 +94,7 @@ impl EventPoller for Silent<'_> {
 /// Makes a manager over the parts, which the guest joins, and closes it while the job waits.
 struct Closing<'a, R> {
     rt: &'a R,
-    parts: Parts<Silent<'a>>,
+    parts: Parts<Silent<'a>, ()>,
     guest: Guest<'a>,
     job: Waiting<'a>,
 }
@@ -102,7 +102,7 @@ struct Closing<'a, R> {
 impl<'a, R: Wait + Clock> WithLedgers for Closing<'a, R> {
     type Output = Result<()>;
 
-    fn run<N: Naming + Send + Sync>(self, ledgers: Ledgers<N>) -> Result<()> {
+    fn run<N: NamedCounter + Send + Sync>(self, counter: N, ledgers: Ledgers<N>) -> Result<()> {
         let Closing {
             rt,
             parts,
@@ -112,7 +112,7 @@ impl<'a, R: Wait + Clock> WithLedgers for Closing<'a, R> {
         let mut manager = EventManager::<Guest<'a>, Waiting<'a>, N, _>::new(
             parts.alloc,
             parts.poller,
-            parts.event_fd,
+            counter,
             ledgers,
         )?;
         manager.add_subscriber(guest)?;
@@ -134,9 +134,10 @@ fn a_close_drops_the_jobs_and_then_subscribers_and_poller(rt: HostRuntime) {
     let poller = Silent {
         noting: noting(of_poller),
     };
+    let (counter, parts) = expect_ok(&rt, silent_parts(rt, rt.alloc(), poller)).split();
     let closing = Closing {
         rt: &rt,
-        parts: expect_ok(&rt, silent_parts(rt, rt.alloc(), poller)),
+        parts,
         guest: Guest {
             noting: noting(of_guest),
         },
@@ -144,7 +145,7 @@ fn a_close_drops_the_jobs_and_then_subscribers_and_poller(rt: HostRuntime) {
             noting: noting(of_job),
         },
     };
-    expect_ok(&rt, with_ledgers(closing));
+    expect_ok(&rt, with_ledgers(counter, closing));
     expect_same(&rt, &dropped.load(Ordering::SeqCst), &3);
     expect_same(&rt, &of_job.load(Ordering::SeqCst), &1);
     expect(&rt, of_guest.load(Ordering::SeqCst) > 1);

@@ -2,8 +2,8 @@
 
 use crate::expecting::{expect_ok, expect_same};
 use event_manager::{
-    Error, EventManager, EventOps, EventPoller, Events, MutEventSubscriber, Naming, NoJob, Request,
-    SubscriberOps,
+    Error, EventManager, EventOps, EventPoller, Events, MutEventSubscriber, NamedCounter, NoJob,
+    Request, SubscriberOps,
 };
 use fixtures::making::{WithManager, with_manager};
 use fixtures::parts::{Parts, silent_parts};
@@ -94,7 +94,7 @@ impl<R: Wait + Clock> WithManager for JoinRunAndLeave<'_, R> {
 
     type Output = Seen;
 
-    fn run<N: Naming, P: EventPoller>(
+    fn run<N: NamedCounter, P: EventPoller>(
         self,
         manager: &mut EventManager<Asking, NoJob, N, P>,
     ) -> event_manager::Result<Seen> {

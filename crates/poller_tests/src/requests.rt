@@ -7,8 +7,8 @@ ghost use Rattle.event_manager.specs.LoopState.{HasStepped, IsRequest};
 use crate::expecting::{expect, expect_ok, expect_same};
 use crate::parts::{Control, Recorder};
 use event_manager::{
-    Error, EventManager, EventOps, EventPoller, Events, MutEventSubscriber, Naming, NoJob, Request,
-    Result, SubscriberId, SubscriberOps,
+    Error, EventManager, EventOps, EventPoller, Events, MutEventSubscriber, NamedCounter, NoJob,
+    Request, Result, SubscriberId, SubscriberOps,
 };
 use fixtures::making::{WithManager, with_manager};
 use fixtures::parts::{Parts, silent_parts};
@@ -89,7 +89,7 @@ impl<R: Wait + Clock + Abort, S: MutEventSubscriber + Drop> WithManager for Requ
 
     type Output = ();
 
-    fn run<N: Naming, P: EventPoller>(
+    fn run<N: NamedCounter, P: EventPoller>(
         self,
         manager: &mut EventManager<S, NoJob, N, P>,
     ) -> Result<()> {

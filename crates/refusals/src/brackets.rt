@@ -1,6 +1,8 @@
 //! Calls of a manager that take no memory, each between two looks at the clock.
 
-use event_manager::{EventOps, EventPoller, EventSet, Events, Naming, SubscriberId, SubscriberOps};
+use event_manager::{
+    EventOps, EventPoller, EventSet, Events, NamedCounter, SubscriberId, SubscriberOps,
+};
 use refused_calls::call_name::CallName;
 use refused_calls::descriptors::open_counter;
 use refused_calls::fault::{Fault, Refusal, expect, named};
@@ -22,7 +24,7 @@ struct Bracketing<'a, R> {
 
 impl<R: Loop> Bracketing<'_, R> {
     /// Runs: one event is reported, and the subscriber has then been given so many.
-    fn run_one<N: Naming, P: EventPoller>(
+    fn run_one<N: NamedCounter, P: EventPoller>(
         &self,
         manager: &mut Manager<N, P>,
         id: SubscriberId,
@@ -35,7 +37,7 @@ impl<R: Loop> Bracketing<'_, R> {
     }
 
     /// Lends the subscriber.
-    fn lend<N: Naming, P: EventPoller>(
+    fn lend<N: NamedCounter, P: EventPoller>(
         &self,
         manager: &mut Manager<N, P>,
         id: SubscriberId,
@@ -63,7 +65,7 @@ impl<R: Loop> Bracketing<'_, R> {
     }
 
     /// Lends the subscriber's requests, and makes two.
-    fn request<N: Naming, P: EventPoller>(
+    fn request<N: NamedCounter, P: EventPoller>(
         &self,
         manager: &mut Manager<N, P>,
         id: SubscriberId,
@@ -82,7 +84,7 @@ impl<R: Loop> Bracketing<'_, R> {
     }
 
     /// Adds the descriptor at a priority, runs, and removes it.
-    fn run_with_priority<N: Naming, P: EventPoller>(
+    fn run_with_priority<N: NamedCounter, P: EventPoller>(
         &self,
         manager: &mut Manager<N, P>,
         id: SubscriberId,
@@ -99,7 +101,7 @@ impl<R: Loop> Bracketing<'_, R> {
     }
 
     /// Lets the subscriber leave.
-    fn leave<N: Naming, P: EventPoller>(
+    fn leave<N: NamedCounter, P: EventPoller>(
         &self,
         manager: &mut Manager<N, P>,
         id: SubscriberId,
@@ -113,7 +115,7 @@ impl<R: Loop> Bracketing<'_, R> {
     }
 
     /// Lets another join in the place of one that left.
-    fn join_again<N: Naming, P: EventPoller>(
+    fn join_again<N: NamedCounter, P: EventPoller>(
         &self,
         manager: &mut Manager<N, P>,
         own: Events,
@@ -131,7 +133,7 @@ impl<R: Loop> Bracketing<'_, R> {
     }
 
     /// Makes the calls.
-    fn call_all<N: Naming, P: EventPoller>(
+    fn call_all<N: NamedCounter, P: EventPoller>(
         &self,
         manager: &mut Manager<N, P>,
     ) -> Result<(), Fault> {
@@ -149,7 +151,7 @@ impl<R: Loop> Bracketing<'_, R> {
 }
 
 impl<R: Loop> Body for Bracketing<'_, R> {
-    fn run<N: Naming + Send + Sync, P: EventPoller + Drop>(
+    fn run<N: NamedCounter + Send + Sync, P: EventPoller + Drop>(
         &self,
         manager: Manager<N, P>,
     ) -> Result<(), Fault> {

@@ -1,7 +1,7 @@
 //! Jobs that the loop's own thread sends and runs.
 
-use event_manager::jobs::{Bell, JobQueue};
-use event_manager::{Closed, EventPoller, Naming, RemoteEndpoint, Ticket};
+use event_manager::jobs::JobQueue;
+use event_manager::{Bell, Closed, EventPoller, NamedCounter, RemoteEndpoint, Ticket};
 use refused_calls::again;
 use refused_calls::call_name::CallName;
 use refused_calls::echo::Echo;
@@ -44,12 +44,12 @@ impl<R: Loop> Sending<'_, R> {
     }
 
     /// Whether so many jobs wait, and the bell was rung as often.
-    fn are_waiting<N: Naming>(&self, endpoint: &Endpoint<N>, count: u64) -> bool {
+    fn are_waiting<N: NamedCounter>(&self, endpoint: &Endpoint<N>, count: u64) -> bool {
         endpoint.pending() == usize::try_from(count).ok() && self.rings() == Some(count)
     }
 
     /// Sends a job by `fire`, where so many wait: its ticket is the next one.
-    fn fire<N: Naming>(&self, endpoint: &Endpoint<N>, sent: u64) -> Result<Ticket<N>, Fault> {
+    fn fire<N: NamedCounter>(&self, endpoint: &Endpoint<N>, sent: u64) -> Result<Ticket<N>, Fault> {
         let name = CallName::Fire;
         let ticket = again!(
             name,
@@ -65,7 +65,7 @@ impl<R: Loop> Sending<'_, R> {
     }
 
     /// As `fire`, by `fire_after`.
-    fn fire_after<N: Naming>(
+    fn fire_after<N: NamedCounter>(
         &self,
         endpoint: &Endpoint<N>,
         shown: &Ticket<N>,
@@ -86,7 +86,7 @@ impl<R: Loop> Sending<'_, R> {
     }
 
     /// Sends two jobs more, the second by `fire_after` the first, where so many were sent.
-    fn send_two<N: Naming>(
+    fn send_two<N: NamedCounter>(
         &self,
         endpoint: &Endpoint<N>,
         sent: u64,
@@ -100,7 +100,7 @@ impl<R: Loop> Sending<'_, R> {
 
     /// Sends a job, and then the others by `fire` and by `fire_after` in turn; answers their tickets. So each of the two
     /// comes where the queue is full, and requests memory.
-    fn send<N: Naming>(&self, endpoint: &Endpoint<N>) -> Result<Vec<Ticket<N>>, Fault> {
+    fn send<N: NamedCounter>(&self, endpoint: &Endpoint<N>) -> Result<Vec<Ticket<N>>, Fault> {
         let name = CallName::ListTickets;
         let mut tickets = again!(name, Vec::with_capacity(self.alloc, 21))?;
         named(name, tickets.push(self.fire(endpoint, 0)?))?;
@@ -113,7 +113,7 @@ impl<R: Loop> Sending<'_, R> {
     }
 
     /// Runs the jobs.
-    fn run_jobs<N: Naming, P: EventPoller>(
+    fn run_jobs<N: NamedCounter, P: EventPoller>(
         &self,
         manager: &mut Manager<N, P>,
         endpoint: &Endpoint<N>,
@@ -132,7 +132,7 @@ impl<R: Loop> Sending<'_, R> {
     }
 
     /// Kicks the loop, and runs it once more.
-    fn kick<N: Naming, P: EventPoller>(
+    fn kick<N: NamedCounter, P: EventPoller>(
         &self,
         manager: &mut Manager<N, P>,
         endpoint: &Endpoint<N>,
@@ -149,14 +149,14 @@ impl<R: Loop> Sending<'_, R> {
     }
 
     /// Another endpoint of the first one's manager.
-    fn copy_endpoint<N: Naming>(&self, first: &Endpoint<N>) -> Result<Endpoint<N>, Fault> {
+    fn copy_endpoint<N: NamedCounter>(&self, first: &Endpoint<N>) -> Result<Endpoint<N>, Fault> {
         let endpoint = again!(CallName::RemoteEndpointTryClone, first.try_clone())?;
         tell(self.rt, "RemoteEndpoint::try_clone: ok")?;
         Ok(endpoint)
     }
 
     /// Sends jobs by a copy of the first endpoint and runs them, and sends another one; answers the tickets.
-    fn send_and_run<N: Naming, P: EventPoller>(
+    fn send_and_run<N: NamedCounter, P: EventPoller>(
         &self,
         manager: &mut Manager<N, P>,
         first: &Endpoint<N>,
@@ -173,7 +173,7 @@ impl<R: Loop> Sending<'_, R> {
     }
 
     /// Sends a job behind two runs, which have left the room of the jobs before.
-    fn fire_last<N: Naming>(&self, endpoint: &Endpoint<N>) -> Result<Ticket<N>, Fault> {
+    fn fire_last<N: NamedCounter>(&self, endpoint: &Endpoint<N>) -> Result<Ticket<N>, Fault> {
         mark(self.rt)?;
         let fired = endpoint.fire(Echo(0), self.rt);
         mark(self.rt)?;
@@ -183,7 +183,7 @@ impl<R: Loop> Sending<'_, R> {
     }
 
     /// Gathers the tickets of the closed manager.
-    fn gather<N: Naming>(
+    fn gather<N: NamedCounter>(
         &self,
         closed: &mut Closed<N>,
         tickets: &mut Vec<Ticket<N>>,
@@ -199,7 +199,7 @@ impl<R: Loop> Sending<'_, R> {
 }
 
 impl<R: Loop> Body for Sending<'_, R> {
-    fn run<N: Naming + Send + Sync, P: EventPoller + Drop>(
+    fn run<N: NamedCounter + Send + Sync, P: EventPoller + Drop>(
         &self,
         manager: Manager<N, P>,
     ) -> Result<(), Fault> {

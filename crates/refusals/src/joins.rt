@@ -1,6 +1,6 @@
 //! Subscribers that join, and their requests.
 
-use event_manager::{EventPoller, EventSet, Events, Naming, SubscriberId};
+use event_manager::{EventPoller, EventSet, Events, NamedCounter, SubscriberId};
 use refused_calls::again;
 use refused_calls::call_name::CallName;
 use refused_calls::descriptors::open_counter;
@@ -28,7 +28,7 @@ struct Joining<'a, R> {
 
 impl<R: Loop> Joining<'_, R> {
     /// Takes a subscriber in for each of the own counters, and answers the ids.
-    fn join_all<N: Naming, P: EventPoller>(
+    fn join_all<N: NamedCounter, P: EventPoller>(
         &self,
         manager: &mut Manager<N, P>,
     ) -> Result<Vec<SubscriberId>, Fault> {
@@ -47,7 +47,7 @@ impl<R: Loop> Joining<'_, R> {
     }
 
     /// Adds the descriptor of each other counter for the subscriber.
-    fn ask_for_others<N: Naming, P: EventPoller>(
+    fn ask_for_others<N: NamedCounter, P: EventPoller>(
         &self,
         manager: &mut Manager<N, P>,
         id: SubscriberId,
@@ -70,7 +70,7 @@ impl<R: Loop> Joining<'_, R> {
     }
 
     /// Takes the subscribers in, and answers the ids of the first and the last.
-    fn join_first_to_last<N: Naming, P: EventPoller>(
+    fn join_first_to_last<N: NamedCounter, P: EventPoller>(
         &self,
         manager: &mut Manager<N, P>,
     ) -> Result<(SubscriberId, SubscriberId), Fault> {
@@ -82,7 +82,7 @@ impl<R: Loop> Joining<'_, R> {
     }
 
     /// Takes the subscribers in, and delivers an event of each descriptor.
-    fn join_and_run<N: Naming, P: EventPoller>(
+    fn join_and_run<N: NamedCounter, P: EventPoller>(
         &self,
         manager: &mut Manager<N, P>,
     ) -> Result<(), Fault> {
@@ -100,7 +100,7 @@ impl<R: Loop> Joining<'_, R> {
 }
 
 impl<R: Loop> Body for Joining<'_, R> {
-    fn run<N: Naming + Send + Sync, P: EventPoller + Drop>(
+    fn run<N: NamedCounter + Send + Sync, P: EventPoller + Drop>(
         &self,
         manager: Manager<N, P>,
     ) -> Result<(), Fault> {

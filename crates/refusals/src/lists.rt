@@ -2,7 +2,7 @@
 
 use event_manager::jobs::{Outcome, Step, replay};
 use event_manager::{
-    Call, Error, EventPoller, EventSet, Events, Naming, Reply, SubscriberId, drive,
+    Call, Error, EventPoller, EventSet, Events, NamedCounter, Reply, SubscriberId, drive,
 };
 use refused_calls::again;
 use refused_calls::call_name::CallName;
@@ -54,7 +54,7 @@ fn are_replies(replies: &[Reply<Watcher>]) -> bool {
 
 impl<R: Loop> Driving<'_, R> {
     /// Makes the calls once.
-    fn drive_once<N: Naming, P: EventPoller>(
+    fn drive_once<N: NamedCounter, P: EventPoller>(
         &self,
         manager: &mut Manager<N, P>,
         first: SubscriberId,
@@ -66,7 +66,7 @@ impl<R: Loop> Driving<'_, R> {
     }
 
     /// Makes the calls, and looks at their replies.
-    fn drive_again<N: Naming, P: EventPoller>(
+    fn drive_again<N: NamedCounter, P: EventPoller>(
         &self,
         manager: &mut Manager<N, P>,
         first: SubscriberId,
@@ -85,7 +85,7 @@ impl<R: Loop> Driving<'_, R> {
     }
 
     /// Takes two subscribers in, and makes the calls.
-    fn join_and_drive<N: Naming, P: EventPoller>(
+    fn join_and_drive<N: NamedCounter, P: EventPoller>(
         &self,
         manager: &mut Manager<N, P>,
     ) -> Result<(), Fault> {
@@ -100,7 +100,7 @@ impl<R: Loop> Driving<'_, R> {
 }
 
 impl<R: Loop> Body for Driving<'_, R> {
-    fn run<N: Naming + Send + Sync, P: EventPoller + Drop>(
+    fn run<N: NamedCounter + Send + Sync, P: EventPoller + Drop>(
         &self,
         manager: Manager<N, P>,
     ) -> Result<(), Fault> {

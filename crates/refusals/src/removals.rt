@@ -2,7 +2,9 @@
 
 ghost use Rattle.std.specs.Prelude.{◌≤ℤ◌, pos};
 
-use event_manager::{EventPoller, EventSet, Events, Naming, Request, SubscriberId, SubscriberOps};
+use event_manager::{
+    EventPoller, EventSet, Events, NamedCounter, Request, SubscriberId, SubscriberOps,
+};
 use refused_calls::again;
 use refused_calls::call_name::CallName;
 use refused_calls::fault::{Fault, Refusal, named};
@@ -50,7 +52,7 @@ impl<R: Loop> Removing<'_, R> {
     }
 
     /// Takes in the subscriber that owns the first descriptor and the 200, and removes those at an event.
-    fn join_remover<N: Naming, P: EventPoller>(
+    fn join_remover<N: NamedCounter, P: EventPoller>(
         &self,
         manager: &mut Manager<N, P>,
     ) -> Result<SubscriberId, Fault> {
@@ -71,7 +73,7 @@ impl<R: Loop> Removing<'_, R> {
     }
 
     /// Runs one of the batches.
-    fn run_batch<N: Naming, P: EventPoller>(
+    fn run_batch<N: NamedCounter, P: EventPoller>(
         &self,
         manager: &mut Manager<N, P>,
         batch: &str,
@@ -91,7 +93,7 @@ impl<R: Loop> Removing<'_, R> {
     }
 
     /// Runs both batches.
-    fn run_both<N: Naming, P: EventPoller>(
+    fn run_both<N: NamedCounter, P: EventPoller>(
         &self,
         manager: &mut Manager<N, P>,
     ) -> Result<(), Fault> {
@@ -104,7 +106,7 @@ impl<R: Loop> Removing<'_, R> {
 }
 
 impl<R: Loop> Body for Removing<'_, R> {
-    fn run<N: Naming + Send + Sync, P: EventPoller + Drop>(
+    fn run<N: NamedCounter + Send + Sync, P: EventPoller + Drop>(
         &self,
         manager: Manager<N, P>,
     ) -> Result<(), Fault> {

@@ -1,7 +1,7 @@
 //! Jobs that threads call beside a loop, all of it by one call.
 
 use crate::jobs::Endpoint;
-use event_manager::{Ended, EventPoller, LoopWithSenders, Naming, Sender, with_senders};
+use event_manager::{Ended, EventPoller, LoopWithSenders, NamedCounter, Sender, with_senders};
 use refused_calls::again;
 use refused_calls::call_name::CallName;
 use refused_calls::descriptors::{copy_epoll, is_taken_out};
@@ -36,7 +36,7 @@ struct Caller<'a> {
 }
 
 impl<'a, R: Host> LoopWithSenders<Watcher, Echo, Caller<'a>, R> for Callers<'a> {
-    fn begin<N: Naming, P: EventPoller>(
+    fn begin<N: NamedCounter, P: EventPoller>(
         &mut self,
         _rt: &R,
         alloc: Global,
@@ -56,7 +56,7 @@ impl<'a, R: Host> LoopWithSenders<Watcher, Echo, Caller<'a>, R> for Callers<'a> 
 
 impl<R: Host> Sender<Watcher, Echo, Result<u64, Fault>, R> for Caller<'_> {
     /// Answers how many replies there were, each of them its job's number.
-    fn send<N: Naming>(self, endpoint: &Endpoint<N>, rt: &R) -> Result<u64, Fault> {
+    fn send<N: NamedCounter>(self, endpoint: &Endpoint<N>, rt: &R) -> Result<u64, Fault> {
         let name = CallName::CallBlocking;
         for k in 0..CALLS {
             let number = self.first.saturating_add(k);

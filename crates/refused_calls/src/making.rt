@@ -8,7 +8,7 @@ use crate::fault::Fault;
 use crate::host::Host;
 use crate::reports::push_report;
 use crate::watcher::Watcher;
-use event_manager::{EventManager, EventPoller, Ledgers, Naming, WithLedgers, with_ledgers};
+use event_manager::{EventManager, EventPoller, Ledgers, NamedCounter, WithLedgers, with_ledgers};
 use std::alloc::Global;
 use vmm_sys::epoll::{Epoll, EpollEvent};
 use vmm_sys::eventfd::EventFd;
@@ -20,17 +20,16 @@ pub type Manager<N, P> = EventManager<Watcher, Echo, N, P>;
 /// What is done with a new manager.
 pub trait Body {
     /// Does it.
-    fn run<N: Naming + Send + Sync, P: EventPoller + Drop>(
+    fn run<N: NamedCounter + Send + Sync, P: EventPoller + Drop>(
         &self,
         manager: Manager<N, P>,
     ) -> Result<(), Fault>;
 }
 
-/// What a manager is made of, but for its ledgers, and what is then done with it.
+/// What a manager is made of, but for its counter and its ledgers, and what is then done with it.
 struct Making<'a, P, B> {
     alloc: Global,
     poller: P,
-    endpoint: EventFd,
     // 256 where none is said.
     capacity: Option<usize>,
     body: &'a B,
@@ -40,21 +39,21 @@ impl<P: EventPoller + Drop, B: Body> WithLedgers for Making<'_, P, B> {
     // The refusal of the manager, or what came of the body.
     type Output = event_manager::Result<Result<(), Fault>>;
 
-    fn run<N: Naming + Send + Sync>(
+    fn run<N: NamedCounter + Send + Sync>(
         self,
+        counter: N,
         ledgers: Ledgers<N>,
     ) -> event_manager::Result<Result<(), Fault>> {
         let Making {
             alloc,
             poller,
-            endpoint,
             capacity,
             body,
         } = self;
         let manager = match capacity {
-            None => Manager::<N, P>::new(alloc, poller, endpoint, ledgers)?,
+            None => Manager::<N, P>::new(alloc, poller, counter, ledgers)?,
             Some(count) => Manager::<N, P>::new_with_capacity(
-                alloc, poller, endpoint, count, ledgers,
+                alloc, poller, counter, count, ledgers,
             )?,
         };
         Ok(body.run(manager))
@@ -89,13 +88,13 @@ fn make_over_table<R: Host, B: Body>(
     capacity: Option<usize>,
     body: &B,
 ) -> Result<event_manager::Result<Result<(), Fault>>, Fault> {
-    Ok(with_ledgers(Making {
+    let making = Making {
         alloc,
         poller: copy_epoll(&on_table.epoll)?,
-        endpoint: copy_counter(&on_table.endpoint)?,
         capacity,
         body,
-    }))
+    };
+    Ok(with_ledgers(copy_counter(&on_table.endpoint)?, making))
 }
 
 /// Makes a manager over the table, of this capacity or of the usual one, and does with it what is to be done. A refused
@@ -134,13 +133,13 @@ fn make_over_script<B: Body>(
     endpoint: &EventFd,
     body: &B,
 ) -> Result<event_manager::Result<Result<(), Fault>>, Fault> {
-    Ok(with_ledgers(Making {
+    let making = Making {
         alloc,
         poller: script_of(entries, reports, alloc)?,
-        endpoint: copy_counter(endpoint)?,
         capacity: None,
         body,
-    }))
+    };
+    Ok(with_ledgers(copy_counter(endpoint)?, making))
 }
 
 /// Makes a manager over a script of so many reports, each of these entries, and does with it what is to be done. Its

@@ -5,11 +5,13 @@ use crate::call_name::CallName;
 use crate::fault::{Fault, Refusal, expect_unchanged, named};
 use crate::making::Manager;
 use crate::watcher::Watcher;
-use event_manager::{Error, EventPoller, Events, Naming, Priority, SubscriberId, SubscriberOps};
+use event_manager::{
+    Error, EventPoller, Events, NamedCounter, Priority, SubscriberId, SubscriberOps,
+};
 use std::alloc::Global;
 use vmm_sys::errno::Errno;
 
-fn add_watcher<N: Naming, P: EventPoller>(
+fn add_watcher<N: NamedCounter, P: EventPoller>(
     manager: &mut Manager<N, P>,
     own: Events,
     alloc: Global,
@@ -18,7 +20,7 @@ fn add_watcher<N: Naming, P: EventPoller>(
 }
 
 /// `Memory` where the request of its `init` was refused twice, and `Changed` where the first refusal changed something.
-fn expect_joined<N: Naming, P: EventPoller>(
+fn expect_joined<N: NamedCounter, P: EventPoller>(
     manager: &mut Manager<N, P>,
     id: SubscriberId,
 ) -> Result<(), Fault> {
@@ -32,7 +34,7 @@ fn expect_joined<N: Naming, P: EventPoller>(
     }
 }
 
-fn add_again<N: Naming, P: EventPoller>(
+fn add_again<N: NamedCounter, P: EventPoller>(
     manager: &mut Manager<N, P>,
     own: Events,
     alloc: Global,
@@ -42,7 +44,7 @@ fn add_again<N: Naming, P: EventPoller>(
 
 /// Takes a subscriber of this descriptor in. Had a refused join asked for the descriptor, the second one's request would
 /// be refused.
-pub fn join<N: Naming, P: EventPoller>(
+pub fn join<N: NamedCounter, P: EventPoller>(
     manager: &mut Manager<N, P>,
     own: Events,
     alloc: Global,
@@ -52,7 +54,7 @@ pub fn join<N: Naming, P: EventPoller>(
     Ok(id)
 }
 
-fn add<N: Naming, P: EventPoller>(
+fn add<N: NamedCounter, P: EventPoller>(
     manager: &mut Manager<N, P>,
     id: SubscriberId,
     events: Events,
@@ -61,7 +63,7 @@ fn add<N: Naming, P: EventPoller>(
 }
 
 /// Whether the id doesn't own the descriptor.
-fn is_not_own<N: Naming, P: EventPoller>(
+fn is_not_own<N: NamedCounter, P: EventPoller>(
     manager: &mut Manager<N, P>,
     id: SubscriberId,
     events: Events,
@@ -73,7 +75,7 @@ fn is_not_own<N: Naming, P: EventPoller>(
 }
 
 /// Adds the descriptor for the subscriber, from outside a batch.
-pub fn ask<N: Naming, P: EventPoller>(
+pub fn ask<N: NamedCounter, P: EventPoller>(
     manager: &mut Manager<N, P>,
     id: SubscriberId,
     events: Events,
@@ -85,7 +87,7 @@ pub fn ask<N: Naming, P: EventPoller>(
     )
 }
 
-fn add_with_priority<N: Naming, P: EventPoller>(
+fn add_with_priority<N: NamedCounter, P: EventPoller>(
     manager: &mut Manager<N, P>,
     id: SubscriberId,
     events: Events,
@@ -96,7 +98,7 @@ fn add_with_priority<N: Naming, P: EventPoller>(
 }
 
 /// Adds the descriptor for the subscriber at a priority, from outside a batch.
-pub fn ask_with_priority<N: Naming, P: EventPoller>(
+pub fn ask_with_priority<N: NamedCounter, P: EventPoller>(
     manager: &mut Manager<N, P>,
     id: SubscriberId,
     events: Events,
@@ -109,7 +111,7 @@ pub fn ask_with_priority<N: Naming, P: EventPoller>(
 }
 
 /// How many events the subscriber was given.
-pub fn heard<N: Naming, P: EventPoller>(
+pub fn heard<N: NamedCounter, P: EventPoller>(
     manager: &mut Manager<N, P>,
     id: SubscriberId,
 ) -> Result<u64, Fault> {

@@ -5,8 +5,8 @@ use crate::ending::beside_senders;
 use crate::expecting::{expect_noted, expect_ok, expect_same};
 use crate::threads::{Host, Looping};
 use event_manager::{
-    Error, EventManager, EventPoller, LoopWithSenders, Naming, RemoteEndpoint, Result, Sender,
-    Senders,
+    Error, EventManager, EventPoller, LoopWithSenders, NamedCounter, RemoteEndpoint, Result,
+    Sender, Senders,
 };
 use fixtures::parts::{Idle, on_table};
 use fixtures::waits::wait_until_pending;
@@ -40,7 +40,7 @@ struct Caller<'a> {
 }
 
 impl<R: Looping> Sender<Idle, Work, Option<Result<u64>>, R> for Caller<'_> {
-    fn send<N: Naming>(
+    fn send<N: NamedCounter>(
         self,
         endpoint: &RemoteEndpoint<Idle, Work, N>,
         rt: &R,
@@ -63,7 +63,7 @@ struct Lined<'a> {
 }
 
 impl<'a, R: Looping> LoopWithSenders<Idle, Work, Caller<'a>, R> for Lined<'a> {
-    fn begin<N: Naming, P: EventPoller>(
+    fn begin<N: NamedCounter, P: EventPoller>(
         &mut self,
         _rt: &R,
         alloc: Global,
@@ -84,7 +84,7 @@ impl<'a, R: Looping> LoopWithSenders<Idle, Work, Caller<'a>, R> for Lined<'a> {
         Ok(callers)
     }
 
-    fn run<N: Naming, P: EventPoller>(
+    fn run<N: NamedCounter, P: EventPoller>(
         &mut self,
         rt: &R,
         manager: &mut EventManager<Idle, Work, N, P>,

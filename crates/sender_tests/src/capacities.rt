@@ -4,7 +4,7 @@ use crate::ending::beside_senders;
 use crate::expecting::{expect_ok, expect_same};
 use crate::threads::Looping;
 use event_manager::{
-    Error, EventManager, EventPoller, LoopWithSenders, Naming, NoJob, RemoteEndpoint, Result,
+    Error, EventManager, EventPoller, LoopWithSenders, NamedCounter, NoJob, RemoteEndpoint, Result,
     Sender,
 };
 use fixtures::parts::{Idle, Parts};
@@ -19,7 +19,7 @@ use vmm_sys::poller::Poller;
 struct Nobody;
 
 impl<R: Looping> Sender<Idle, NoJob, (), R> for Nobody {
-    fn send<N: Naming>(self, _endpoint: &RemoteEndpoint<Idle, NoJob, N>, _rt: &R) {}
+    fn send<N: NamedCounter>(self, _endpoint: &RemoteEndpoint<Idle, NoJob, N>, _rt: &R) {}
 }
 
 /// A loop without senders, whose batches have no room.
@@ -31,7 +31,7 @@ impl<R: Looping> LoopWithSenders<Idle, NoJob, Nobody, R> for WithoutRoom {
         0
     }
 
-    fn begin<N: Naming, P: EventPoller>(
+    fn begin<N: NamedCounter, P: EventPoller>(
         &mut self,
         _rt: &R,
         alloc: Global,

@@ -3,7 +3,7 @@
 use crate::expecting::{expect_ok, expect_same};
 use crate::meetings::{Endpoint, Kind, Shared, meet};
 use crate::threads::Looping;
-use event_manager::Naming;
+use event_manager::NamedCounter;
 use fixtures::work::Work;
 use std::sync::atomic::Ordering;
 
@@ -11,12 +11,12 @@ use std::sync::atomic::Ordering;
 const MOST: u32 = 50_000_000;
 
 /// Sends a job, behind which the counter is full.
-pub fn fill<N: Naming, R: Looping>(rt: &R, endpoint: &Endpoint<N>) {
+pub fn fill<N: NamedCounter, R: Looping>(rt: &R, endpoint: &Endpoint<N>) {
     expect_ok(rt, endpoint.fire(Work::Own(0), rt));
 }
 
 /// Sends until it is told to stop, and expects that each send is refused.
-pub fn send_in_vain<N: Naming, R: Looping>(rt: &R, endpoint: &Endpoint<N>, shared: &Shared) {
+pub fn send_in_vain<N: NamedCounter, R: Looping>(rt: &R, endpoint: &Endpoint<N>, shared: &Shared) {
     for _send in 0..MOST {
         if shared.is_over.load(Ordering::SeqCst) {
             break;
@@ -26,7 +26,7 @@ pub fn send_in_vain<N: Naming, R: Looping>(rt: &R, endpoint: &Endpoint<N>, share
 }
 
 /// How many jobs wait, once that isn't 1.
-fn look_for_another<N: Naming>(endpoint: &Endpoint<N>) -> Option<usize> {
+fn look_for_another<N: NamedCounter>(endpoint: &Endpoint<N>) -> Option<usize> {
     for _look in 0..MOST {
         let seen = endpoint.pending();
         if seen != Some(1) {
@@ -37,7 +37,7 @@ fn look_for_another<N: Naming>(endpoint: &Endpoint<N>) -> Option<usize> {
 }
 
 /// Looks until the answer isn't that one job waits, expects that it isn't known, and tells the other thread to stop.
-pub fn look<N: Naming, R: Looping>(rt: &R, endpoint: &Endpoint<N>, shared: &Shared) {
+pub fn look<N: NamedCounter, R: Looping>(rt: &R, endpoint: &Endpoint<N>, shared: &Shared) {
     let seen = look_for_another(endpoint);
     shared.is_over.store(true, Ordering::SeqCst);
     expect_same(rt, &seen, &None);

@@ -4,7 +4,7 @@ use crate::ending::beside_senders;
 use crate::expecting::{expect_noted, expect_ok, expect_same};
 use crate::threads::{Host, Looping};
 use event_manager::{
-    Error, EventManager, EventPoller, EventSet, Events, LoopWithSenders, Naming, NoJob,
+    Error, EventManager, EventPoller, EventSet, Events, LoopWithSenders, NamedCounter, NoJob,
     RemoteEndpoint, Result, Sender, Senders, SubscriberOps,
 };
 use fixtures::noting::{Noting, add_noting};
@@ -106,7 +106,7 @@ const MEETING: u64 = 3;
 const QUIET: u32 = 100;
 
 impl<R: Looping> Sender<Idle, NoJob, u64, R> for Meeting<'_> {
-    fn send<N: Naming>(self, _endpoint: &RemoteEndpoint<Idle, NoJob, N>, rt: &R) -> u64 {
+    fn send<N: NamedCounter>(self, _endpoint: &RemoteEndpoint<Idle, NoJob, N>, rt: &R) -> u64 {
         let Meeting { course, number } = self;
         course.begun.fetch_add(1, Ordering::SeqCst);
         let all_begun = wait_until_counted(rt, &course.begun, MEETING);
@@ -140,7 +140,7 @@ impl<'a> Meet<'a> {
 }
 
 impl<'a, R: Looping> LoopWithSenders<Idle, NoJob, Meeting<'a>, R> for Meet<'a> {
-    fn begin<N: Naming, P: EventPoller>(
+    fn begin<N: NamedCounter, P: EventPoller>(
         &mut self,
         rt: &R,
         alloc: Global,
@@ -202,7 +202,7 @@ struct Causing<'a> {
 }
 
 impl<R: Looping> Sender<Noting<R>, NoJob, (), R> for Causing<'_> {
-    fn send<N: Naming>(self, _endpoint: &RemoteEndpoint<Noting<R>, NoJob, N>, rt: &R) {
+    fn send<N: NamedCounter>(self, _endpoint: &RemoteEndpoint<Noting<R>, NoJob, N>, rt: &R) {
         expect_ok(rt, self.counter.write(1, rt));
         expect_same(rt, &wait_until_noted(rt, self.notes, 3), &true);
     }
@@ -217,7 +217,7 @@ struct Joining<'a> {
 }
 
 impl<'a, R: Looping> LoopWithSenders<Noting<R>, NoJob, Causing<'a>, R> for Joining<'a> {
-    fn begin<N: Naming, P: EventPoller>(
+    fn begin<N: NamedCounter, P: EventPoller>(
         &mut self,
         rt: &R,
         alloc: Global,
@@ -257,7 +257,7 @@ struct Staying<'a> {
 }
 
 impl<R: Looping> Sender<Idle, Work, (Result<u64>, Result<u64>), R> for Staying<'_> {
-    fn send<N: Naming>(
+    fn send<N: NamedCounter>(
         self,
         endpoint: &RemoteEndpoint<Idle, Work, N>,
         rt: &R,
@@ -279,7 +279,7 @@ struct Leaving<'a> {
 }
 
 impl<'a, R: Looping> LoopWithSenders<Idle, Work, Staying<'a>, R> for Leaving<'a> {
-    fn begin<N: Naming, P: EventPoller>(
+    fn begin<N: NamedCounter, P: EventPoller>(
         &mut self,
         rt: &R,
         alloc: Global,
@@ -289,7 +289,7 @@ impl<'a, R: Looping> LoopWithSenders<Idle, Work, Staying<'a>, R> for Leaving<'a>
         Ok(expect_ok(rt, Vec::from_array(alloc, [sender])))
     }
 
-    fn run<N: Naming, P: EventPoller>(
+    fn run<N: NamedCounter, P: EventPoller>(
         &mut self,
         rt: &R,
         manager: &mut EventManager<Idle, Work, N, P>,
@@ -360,7 +360,11 @@ struct Firing<'a> {
 }
 
 impl<R: Looping> Sender<Idle, Work, Result<u64>, R> for Firing<'_> {
-    fn send<N: Naming>(self, endpoint: &RemoteEndpoint<Idle, Work, N>, rt: &R) -> Result<u64> {
+    fn send<N: NamedCounter>(
+        self,
+        endpoint: &RemoteEndpoint<Idle, Work, N>,
+        rt: &R,
+    ) -> Result<u64> {
         fire_note(rt, endpoint, self.notes, 1)
     }
 }
@@ -372,7 +376,7 @@ struct Late<'a> {
 }
 
 impl<'a, R: Looping> LoopWithSenders<Idle, Work, Firing<'a>, R> for Late<'a> {
-    fn begin<N: Naming, P: EventPoller>(
+    fn begin<N: NamedCounter, P: EventPoller>(
         &mut self,
         rt: &R,
         alloc: Global,
@@ -382,7 +386,7 @@ impl<'a, R: Looping> LoopWithSenders<Idle, Work, Firing<'a>, R> for Late<'a> {
         Ok(expect_ok(rt, Vec::from_array(alloc, [sender])))
     }
 
-    fn run<N: Naming, P: EventPoller>(
+    fn run<N: NamedCounter, P: EventPoller>(
         &mut self,
         rt: &R,
         manager: &mut EventManager<Idle, Work, N, P>,
@@ -425,7 +429,7 @@ struct Crowded<'a> {
 }
 
 impl<'a, R: Looping> LoopWithSenders<Idle, Work, Firing<'a>, R> for Crowded<'a> {
-    fn begin<N: Naming, P: EventPoller>(
+    fn begin<N: NamedCounter, P: EventPoller>(
         &mut self,
         rt: &R,
         alloc: Global,
@@ -444,7 +448,7 @@ impl<'a, R: Looping> LoopWithSenders<Idle, Work, Firing<'a>, R> for Crowded<'a> 
         Ok(expect_ok(rt, Vec::from_array(alloc, [sender])))
     }
 
-    fn run<N: Naming, P: EventPoller>(
+    fn run<N: NamedCounter, P: EventPoller>(
         &mut self,
         rt: &R,
         manager: &mut EventManager<Idle, Work, N, P>,

@@ -5,7 +5,8 @@ use crate::expecting::{expect_ok, expect_same};
 use crate::threads::{Host, Looping};
 use crate::{closed, gated, looks};
 use event_manager::{
-    EventManager, EventPoller, LoopWithSenders, Naming, RemoteEndpoint, Result, Sender, Senders,
+    EventManager, EventPoller, LoopWithSenders, NamedCounter, RemoteEndpoint, Result, Sender,
+    Senders,
 };
 use fixtures::parts::{Idle, on_table};
 use fixtures::waits::wait_until_ended;
@@ -45,7 +46,7 @@ struct Meeting<'a> {
 }
 
 impl<R: Looping> Sender<Idle, Work, (), R> for Meeting<'_> {
-    fn send<N: Naming>(self, endpoint: &Endpoint<N>, rt: &R) {
+    fn send<N: NamedCounter>(self, endpoint: &Endpoint<N>, rt: &R) {
         let Meeting { shared, kind } = self;
         match kind {
             Kind::AtGate => gated::send_meanwhile(rt, endpoint, shared),
@@ -56,7 +57,7 @@ impl<R: Looping> Sender<Idle, Work, (), R> for Meeting<'_> {
 }
 
 /// Expects that so many jobs wait once the sender has ended.
-fn expect_behind<N: Naming, R: Looping>(
+fn expect_behind<N: NamedCounter, R: Looping>(
     rt: &R,
     endpoint: &Endpoint<N>,
     senders: &Senders,
@@ -67,7 +68,7 @@ fn expect_behind<N: Naming, R: Looping>(
 }
 
 impl<'a, R: Looping> LoopWithSenders<Idle, Work, Meeting<'a>, R> for Meeting<'a> {
-    fn begin<N: Naming, P: EventPoller>(
+    fn begin<N: NamedCounter, P: EventPoller>(
         &mut self,
         rt: &R,
         alloc: Global,
@@ -82,7 +83,7 @@ impl<'a, R: Looping> LoopWithSenders<Idle, Work, Meeting<'a>, R> for Meeting<'a>
         Ok(expect_ok(rt, Vec::from_array(alloc, [*self])))
     }
 
-    fn run<N: Naming, P: EventPoller>(
+    fn run<N: NamedCounter, P: EventPoller>(
         &mut self,
         rt: &R,
         manager: &mut Loop<N, P>,

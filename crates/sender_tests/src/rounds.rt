@@ -5,8 +5,8 @@ use crate::ending::beside_senders;
 use crate::expecting::{expect_ok, expect_same};
 use crate::threads::{Host, Looping};
 use event_manager::{
-    EventManager, EventPoller, Events, LoopWithSenders, Naming, NoJob, RemoteEndpoint, Result,
-    Sender,
+    EventManager, EventPoller, Events, LoopWithSenders, NamedCounter, NoJob, RemoteEndpoint,
+    Result, Sender,
 };
 use fixtures::parts::{Idle, Parts};
 use std::alloc::Global;
@@ -65,7 +65,7 @@ struct Brief {
 }
 
 impl<R: Looping> Sender<Idle, NoJob, u64, R> for Brief {
-    fn send<N: Naming>(self, _endpoint: &RemoteEndpoint<Idle, NoJob, N>, _rt: &R) -> u64 {
+    fn send<N: NamedCounter>(self, _endpoint: &RemoteEndpoint<Idle, NoJob, N>, _rt: &R) -> u64 {
         for _turn in 0..self.turns {
             thread::yield_now();
         }
@@ -80,7 +80,7 @@ struct Round {
 }
 
 impl<R: Looping> LoopWithSenders<Idle, NoJob, Brief, R> for Round {
-    fn begin<N: Naming, P: EventPoller>(
+    fn begin<N: NamedCounter, P: EventPoller>(
         &mut self,
         rt: &R,
         alloc: Global,

@@ -7,7 +7,7 @@ use crate::expecting::{expect_ok, expect_same};
 use crate::threads::Looping;
 use event_manager::{
     Error, EventManager, EventOps, EventPoller, Events, Job, LoopWithSenders, MutEventSubscriber,
-    Naming, Registry, RemoteEndpoint, Result, Sender, Senders, SubscriberId, SubscriberOps,
+    NamedCounter, Registry, RemoteEndpoint, Result, Sender, Senders, SubscriberId, SubscriberOps,
 };
 use fixtures::parts::on_table;
 use fixtures::waits::wait_until_pending;
@@ -98,7 +98,7 @@ const CHANGES: [(Change, u64); 3] = [(Change::Set(7), 0), (Change::Read, 7), (Ch
 struct Caller(SubscriberId);
 
 impl<R: Looping> Sender<Stoppable, Order, (), R> for Caller {
-    fn send<N: Naming>(self, endpoint: &RemoteEndpoint<Stoppable, Order, N>, rt: &R) {
+    fn send<N: NamedCounter>(self, endpoint: &RemoteEndpoint<Stoppable, Order, N>, rt: &R) {
         let Caller(id) = self;
         let endpoint = expect_ok(rt, endpoint.try_clone());
         for (change, value) in CHANGES {
@@ -115,7 +115,7 @@ struct Called {
 }
 
 /// Whether the subscriber is stopped.
-fn is_stopped<N: Naming, P: EventPoller>(
+fn is_stopped<N: NamedCounter, P: EventPoller>(
     manager: &EventManager<Stoppable, Order, N, P>,
     id: SubscriberId,
 ) -> Result<bool> {
@@ -126,7 +126,7 @@ fn is_stopped<N: Naming, P: EventPoller>(
 }
 
 impl<R: Looping> LoopWithSenders<Stoppable, Order, Caller, R> for Called {
-    fn begin<N: Naming, P: EventPoller>(
+    fn begin<N: NamedCounter, P: EventPoller>(
         &mut self,
         rt: &R,
         alloc: Global,
@@ -141,7 +141,7 @@ impl<R: Looping> LoopWithSenders<Stoppable, Order, Caller, R> for Called {
         Ok(expect_ok(rt, Vec::from_array(alloc, [Caller(id)])))
     }
 
-    fn run<N: Naming, P: EventPoller>(
+    fn run<N: NamedCounter, P: EventPoller>(
         &mut self,
         rt: &R,
         manager: &mut EventManager<Stoppable, Order, N, P>,

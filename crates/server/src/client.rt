@@ -3,7 +3,7 @@
 use crate::acceptor::{Peer, ReadStatistics, Statistics};
 use crate::connection::Wire;
 use crate::fault::Fault;
-use event_manager::{EventSet, Naming, RemoteEndpoint, Sender, SubscriberId};
+use event_manager::{EventSet, NamedCounter, RemoteEndpoint, Sender, SubscriberId};
 use std::sync::Wait;
 use std::time::Clock;
 use vmm_sys::eventfd::EventFd;
@@ -26,7 +26,7 @@ impl Client {
     ///
     /// What was done before the first call is served in the batch of its job, or before; whoever joins or leaves by that does so
     /// after that batch, and so before the job of the second call.
-    fn print<N: Naming, R: Wait + Clock + Print + Drop>(
+    fn print<N: NamedCounter, R: Wait + Clock + Print + Drop>(
         &self,
         done: &str,
         endpoint: &RemoteEndpoint<Peer<R>, ReadStatistics, N>,
@@ -44,7 +44,7 @@ impl Client {
 
 impl<R: Wait + Clock + Print + Drop> Sender<Peer<R>, ReadStatistics, Result<(), Fault>, R>
     for Client {
-    fn send<N: Naming>(
+    fn send<N: NamedCounter>(
         self,
         endpoint: &RemoteEndpoint<Peer<R>, ReadStatistics, N>,
         rt: &R,

@@ -5,7 +5,7 @@ use crate::client::Client;
 use crate::connection::{Connection, Wire};
 use crate::fault::Fault;
 use event_manager::{
-    Either, Error, EventManager, EventPoller, LoopWithSenders, Naming, Result, Senders,
+    Either, Error, EventManager, EventPoller, LoopWithSenders, NamedCounter, Result, Senders,
     SubscriberId, SubscriberOps,
 };
 use std::alloc::Global;
@@ -45,7 +45,7 @@ impl Server {
 type Loop<N, R, P> = EventManager<Peer<R>, ReadStatistics, N, P>;
 
 /// Who was accepted, if any, joins.
-fn let_join<N: Naming, R: Wait + Drop, P: EventPoller>(
+fn let_join<N: NamedCounter, R: Wait + Drop, P: EventPoller>(
     manager: &mut Loop<N, R, P>,
     acceptor: SubscriberId,
     members: &mut Vec<SubscriberId>,
@@ -61,7 +61,7 @@ fn let_join<N: Naming, R: Wait + Drop, P: EventPoller>(
 }
 
 /// A member that is over leaves.
-fn let_leave<N: Naming, R: Wait + Drop, P: EventPoller>(
+fn let_leave<N: NamedCounter, R: Wait + Drop, P: EventPoller>(
     manager: &mut Loop<N, R, P>,
     acceptor: SubscriberId,
     member: SubscriberId,
@@ -85,7 +85,7 @@ fn let_leave<N: Naming, R: Wait + Drop, P: EventPoller>(
 
 impl<R: Wait + Clock + Print + Copy + Drop> LoopWithSenders<Peer<R>, ReadStatistics, Client, R>
     for Server {
-    fn begin<N: Naming, P: EventPoller>(
+    fn begin<N: NamedCounter, P: EventPoller>(
         &mut self,
         rt: &R,
         alloc: Global,
@@ -107,7 +107,7 @@ impl<R: Wait + Clock + Print + Copy + Drop> LoopWithSenders<Peer<R>, ReadStatist
         Ok(vec![in alloc; client]?)
     }
 
-    fn run<N: Naming, P: EventPoller>(
+    fn run<N: NamedCounter, P: EventPoller>(
         &mut self,
         rt: &R,
         manager: &mut Loop<N, R, P>,

@@ -5,7 +5,7 @@ use crate::fault::{Fault, expect};
 use crate::parts::{Pair, Parts};
 use crate::progress::Progress;
 use crate::work::{Reply, Work};
-use event_manager::{Naming, RemoteEndpoint, Sender, SubscriberId};
+use event_manager::{NamedCounter, RemoteEndpoint, Sender, SubscriberId};
 use std::sync::Wait;
 use std::thread;
 use std::time::{Clock, Duration};
@@ -39,7 +39,7 @@ pub struct Loader<'a> {
 
 impl<R: Wait + Clock + Copy + Drop> Sender<Device<R>, Work<R>, Result<(), Fault>, R>
     for Loader<'_> {
-    fn send<N: Naming>(self, endpoint: &Endpoint<N, R>, rt: &R) -> Result<(), Fault> {
+    fn send<N: NamedCounter>(self, endpoint: &Endpoint<N, R>, rt: &R) -> Result<(), Fault> {
         let parts = self.parts;
         for _ in 0..parts.rounds {
             match &self.load {
@@ -62,7 +62,7 @@ fn write_all<R: Wait>(pairs: &[Pair], rt: &R) -> Result<(), Fault> {
 }
 
 // Sends a job to each device.
-fn fire_all<N: Naming, R: Wait + Clock + Drop>(
+fn fire_all<N: NamedCounter, R: Wait + Clock + Drop>(
     endpoint: &Endpoint<N, R>,
     ids: &[SubscriberId],
     rt: &R,
@@ -75,7 +75,7 @@ fn fire_all<N: Naming, R: Wait + Clock + Drop>(
 
 // Sends a job to the device of the id, and right behind it one whose reply is waited for: so a loop that the first has
 // woken, and that misses the second, sleeps on while its caller waits.
-fn fire_and_call<N: Naming, R: Wait + Clock + Drop>(
+fn fire_and_call<N: NamedCounter, R: Wait + Clock + Drop>(
     endpoint: &Endpoint<N, R>,
     id: SubscriberId,
     work: Work<R>,
@@ -90,7 +90,7 @@ fn fire_and_call<N: Naming, R: Wait + Clock + Drop>(
 }
 
 // Sends a job to the device of the id, and waits until no job waits: one that the loop missed waits on.
-fn fire_and_settle<N: Naming, R: Wait + Clock + Drop>(
+fn fire_and_settle<N: NamedCounter, R: Wait + Clock + Drop>(
     endpoint: &Endpoint<N, R>,
     id: SubscriberId,
     rt: &R,
@@ -106,7 +106,7 @@ fn fire_and_settle<N: Naming, R: Wait + Clock + Drop>(
 }
 
 // A guest joins, is written to, and leaves: it has read what it didn't leave unread.
-fn receive_guest<N: Naming, R: Wait + Clock + Copy + Drop>(
+fn receive_guest<N: NamedCounter, R: Wait + Clock + Copy + Drop>(
     endpoint: &Endpoint<N, R>,
     id: SubscriberId,
     pair: &Pair,
@@ -128,7 +128,7 @@ fn receive_guest<N: Naming, R: Wait + Clock + Copy + Drop>(
 }
 
 // Receives a guest, and sends a job to the device; each has its reply. Then another job is sent, and none waits any more.
-fn call_all<N: Naming, R: Wait + Clock + Copy + Drop>(
+fn call_all<N: NamedCounter, R: Wait + Clock + Copy + Drop>(
     endpoint: &Endpoint<N, R>,
     device: SubscriberId,
     parts: &Parts,

@@ -5,7 +5,7 @@ use crate::parts::Parts;
 use crate::senders::{Load, Loader};
 use crate::work::Work;
 use event_manager::{
-    Error, EventManager, EventPoller, LoopWithSenders, Naming, Result, Senders, SubscriberId,
+    Error, EventManager, EventPoller, LoopWithSenders, NamedCounter, Result, Senders, SubscriberId,
     SubscriberOps,
 };
 use std::alloc::Global;
@@ -54,7 +54,7 @@ impl<'a> Served<'a> {
     }
 
     // Lets the devices leave, and adds up what they have counted.
-    fn gather<N: Naming, P: EventPoller, R: Wait + Drop>(
+    fn gather<N: NamedCounter, P: EventPoller, R: Wait + Drop>(
         &mut self,
         manager: &mut EventManager<Device<R>, Work<R>, N, P>,
     ) -> Result<()> {
@@ -72,7 +72,7 @@ impl<'a> Served<'a> {
 
 impl<'a, R: Wait + Clock + Copy + Drop> LoopWithSenders<Device<R>, Work<R>, Loader<'a>, R>
     for Served<'a> {
-    fn begin<N: Naming, P: EventPoller>(
+    fn begin<N: NamedCounter, P: EventPoller>(
         &mut self,
         rt: &R,
         alloc: Global,
@@ -97,7 +97,7 @@ impl<'a, R: Wait + Clock + Copy + Drop> LoopWithSenders<Device<R>, Work<R>, Load
         Ok(loaders)
     }
 
-    fn run<N: Naming, P: EventPoller>(
+    fn run<N: NamedCounter, P: EventPoller>(
         &mut self,
         rt: &R,
         manager: &mut EventManager<Device<R>, Work<R>, N, P>,

@@ -3,7 +3,7 @@
 use crate::counting::{SharedCounting, shared_counting};
 use crate::expecting::{expect, expect_ok, expect_same};
 use crate::served::{served, two_reports};
-use event_manager::{EventManager, EventPoller, Locked, Naming, NoJob, SubscriberOps};
+use event_manager::{EventManager, EventPoller, Locked, NamedCounter, NoJob, SubscriberOps};
 use fixtures::counting::{Counting, counting_on};
 use fixtures::making::{WithManager, with_manager};
 use fixtures::parts::{Parts, silent_parts};
@@ -49,7 +49,7 @@ impl<R: Wait + Clock + Abort> WithManager for BusyThenFree<'_, R> {
 
     type Output = ();
 
-    fn run<N: Naming, P: EventPoller>(
+    fn run<N: NamedCounter, P: EventPoller>(
         self,
         manager: &mut EventManager<Rc<RefCell<Counting>>, NoJob, N, P>,
     ) -> event_manager::Result<()> {
@@ -104,7 +104,7 @@ impl<R: Wait + Clock + Abort + Drop> WithManager for Turns<'_, R> {
 
     type Output = ();
 
-    fn run<N: Naming, P: EventPoller>(
+    fn run<N: NamedCounter, P: EventPoller>(
         self,
         manager: &mut EventManager<Arc<Locked<Counting, R>>, NoJob, N, P>,
     ) -> event_manager::Result<()> {

@@ -2,7 +2,7 @@
 
 use crate::expecting::{expect, expect_ok, expect_same};
 use event_manager::{
-    Error, EventManager, EventPoller, Naming, NoJob, Result, SubscriberId, SubscriberOps,
+    Error, EventManager, EventPoller, NamedCounter, NoJob, Result, SubscriberId, SubscriberOps,
 };
 use fixtures::counting::{Counting, counting_on};
 use fixtures::making::{WithManager, with_manager};
@@ -52,7 +52,7 @@ impl<R: Abort> WithManager for Comings<'_, R> {
 
     type Output = Vec<SubscriberId>;
 
-    fn run<N: Naming, P: EventPoller>(
+    fn run<N: NamedCounter, P: EventPoller>(
         self,
         manager: &mut EventManager<Counting, NoJob, N, P>,
     ) -> Result<Vec<SubscriberId>> {
@@ -105,7 +105,7 @@ impl<R: Wait + Clock + Abort> WithManager for Replacing<'_, R> {
 
     type Output = (u64, u64, u64);
 
-    fn run<N: Naming, P: EventPoller>(
+    fn run<N: NamedCounter, P: EventPoller>(
         self,
         manager: &mut EventManager<Counting, NoJob, N, P>,
     ) -> Result<(u64, u64, u64)> {

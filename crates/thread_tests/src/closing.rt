@@ -4,7 +4,7 @@ use crate::expecting::{expect_ok, expect_same};
 use crate::fixture::{Endpoint, Progress, Task, spin};
 use crate::host::{Host, Looping, Rounds};
 use event_manager::{
-    Error, EventManager, EventPoller, LoopWithSenders, Naming, Result, Sender, Senders,
+    Error, EventManager, EventPoller, LoopWithSenders, NamedCounter, Result, Sender, Senders,
     with_senders,
 };
 use fixtures::parts::{Idle, Parts, on_table};
@@ -30,7 +30,7 @@ struct Caller<'a> {
 }
 
 impl<R: Looping> Sender<Idle, Task, Result<u64>, R> for Caller<'_> {
-    fn send<N: Naming>(self, endpoint: &Endpoint<N>, rt: &R) -> Result<u64> {
+    fn send<N: NamedCounter>(self, endpoint: &Endpoint<N>, rt: &R) -> Result<u64> {
         self.started.store(true, Ordering::SeqCst);
         endpoint.call_blocking(self.job, rt)
     }
@@ -45,7 +45,7 @@ struct Closing<'a> {
 }
 
 impl<'a, R: Looping> LoopWithSenders<Idle, Task, Caller<'a>, R> for Closing<'a> {
-    fn begin<N: Naming, P: EventPoller>(
+    fn begin<N: NamedCounter, P: EventPoller>(
         &mut self,
         rt: &R,
         alloc: Global,
@@ -60,7 +60,7 @@ impl<'a, R: Looping> LoopWithSenders<Idle, Task, Caller<'a>, R> for Closing<'a> 
         Ok(Vec::from_array(alloc, [caller])?)
     }
 
-    fn run<N: Naming, P: EventPoller>(
+    fn run<N: NamedCounter, P: EventPoller>(
         &mut self,
         _rt: &R,
         _manager: &mut EventManager<Idle, Task, N, P>,

@@ -8,7 +8,9 @@ ghost use Rattle.std.specs.Prelude.{◌≡◌};
 
 use crate::expecting::{expect_ok, expect_same};
 use crate::host::Host;
-use event_manager::{Closed, EventManager, Ledgers, Naming, RemoteEndpoint, Result, Ticket};
+use event_manager::{
+    Closed, EventManager, Ledgers, Named, NamedCounter, Naming, RemoteEndpoint, Result, Ticket,
+};
 use fixtures::making::make;
 use fixtures::parts::{Idle, OnTable, on_table};
 use fixtures::waits::wait_until_pending;
@@ -20,6 +22,7 @@ use std::sync::atomic::{AtomicU64, Ordering};
 use std::sync::ledger::Blank;
 use std::thread;
 use vmm_sys::epoll::Epoll;
+use vmm_sys::eventfd::EventFd;
 
 type Loop<N, R> = EventManager<Idle, Work, N, Epoll<R>>;
 
@@ -35,14 +38,14 @@ struct Plan {
 
 /// What the senders share: where each notes its own numbers, all their tickets, and how many have ended.
 #[derive(Drop)]
-struct Sending<'a, N: Naming> {
+struct Sending<'a, N: NamedCounter> {
     notes: &'a [Notes],
     tickets: Mutex<Vec<Ticket<N>>>,
     ended: AtomicU64,
 }
 
 /// Sends a job that notes this after the shown ticket, if any: its ticket.
-fn send_after<N: Naming, R: Host>(
+fn send_after<N: NamedCounter, R: Host>(
     rt: &R,
     endpoint: &Sender<N>,
     shown: &Option<Ticket<N>>,
@@ -57,14 +60,14 @@ fn send_after<N: Naming, R: Host>(
 }
 
 /// Keeps a ticket among all.
-fn keep<N: Naming, R: Host>(rt: &R, sending: &Sending<'_, N>, ticket: Option<Ticket<N>>) {
+fn keep<N: NamedCounter, R: Host>(rt: &R, sending: &Sending<'_, N>, ticket: Option<Ticket<N>>) {
     if let Some(ticket) = ticket {
         let _ = sending.tickets.lock(rt).push(ticket);
     }
 }
 
 /// Sends so many jobs, each after the one before, and keeps their tickets.
-fn send_many<N: Naming, R: Host>(
+fn send_many<N: NamedCounter, R: Host>(
     rt: &R,
     endpoint: &Sender<N>,
     sending: &Sending<'_, N>,
@@ -81,7 +84,7 @@ fn send_many<N: Naming, R: Host>(
 }
 
 /// Sends as the sender of this index, and counts it as ended.
-fn send_as<N: Naming, R: Host>(
+fn send_as<N: NamedCounter, R: Host>(
     rt: &R,
     endpoint: &Sender<N>,
     sending: &Sending<'_, N>,
@@ -95,7 +98,7 @@ fn send_as<N: Naming, R: Host>(
 }
 
 /// Sends by so many threads at once.
-fn send_all<N: Naming + Send + Sync, R: Host>(
+fn send_all<N: NamedCounter + Send + Sync, R: Host>(
     rt: &R,
     alloc: Global,
     endpoint: &Sender<N>,
@@ -112,7 +115,7 @@ fn send_all<N: Naming + Send + Sync, R: Host>(
 }
 
 /// Runs once when so many jobs wait.
-fn run_behind<N: Naming, R: Host>(
+fn run_behind<N: NamedCounter, R: Host>(
     rt: &R,
     manager: &mut Loop<N, R>,
     endpoint: &Sender<N>,
@@ -123,7 +126,7 @@ fn run_behind<N: Naming, R: Host>(
 }
 
 /// Runs until so many senders have ended and no job waits.
-fn run_beside<N: Naming, R: Host>(
+fn run_beside<N: NamedCounter, R: Host>(
     rt: &R,
     manager: &mut Loop<N, R>,
     endpoint: &Sender<N>,
@@ -139,7 +142,7 @@ fn run_beside<N: Naming, R: Host>(
 }
 
 /// Runs as planned.
-fn run_planned<N: Naming, R: Host>(
+fn run_planned<N: NamedCounter, R: Host>(
     rt: &R,
     manager: &mut Loop<N, R>,
     endpoint: &Sender<N>,
@@ -153,12 +156,12 @@ fn run_planned<N: Naming, R: Host>(
 }
 
 /// How many jobs are sent.
-fn total_of<N: Naming>(sending: &Sending<'_, N>, plan: Plan) -> usize {
+fn total_of<N: NamedCounter>(sending: &Sending<'_, N>, plan: Plan) -> usize {
     sending.notes.len().saturating_mul(plan.count as usize)
 }
 
 /// The senders, and the loop.
-fn send_beside_loop<N: Naming + Send + Sync, R: Host>(
+fn send_beside_loop<N: NamedCounter + Send + Sync, R: Host>(
     rt: &R,
     alloc: Global,
     manager: &mut Loop<N, R>,
@@ -175,7 +178,7 @@ fn send_beside_loop<N: Naming + Send + Sync, R: Host>(
 }
 
 /// Expects that these are all the tickets, or that they aren't.
-fn expect_gathered<N: Naming, R: Host>(
+fn expect_gathered<N: NamedCounter, R: Host>(
     rt: &R,
     closed: &mut Closed<N>,
     tickets: &mut Vec<Ticket<N>>,
@@ -185,7 +188,7 @@ fn expect_gathered<N: Naming, R: Host>(
 }
 
 /// Expects that so many tickets were issued and jobs taken, that these are all, and not so without the last of them.
-fn expect_all<N: Naming, R: Host>(
+fn expect_all<N: NamedCounter, R: Host>(
     rt: &R,
     closed: &mut Closed<N>,
     tickets: &mut Vec<Ticket<N>>,
@@ -213,14 +216,18 @@ fn send_on<N: Naming + Send + Sync, R: Host>(
     requires tickets { (tickets.name ≡ N.tickets) × (tickets.parts ≡ 9223372036854775808) }
     requires taken { (taken.name ≡ N.taken) × (taken.parts ≡ 1) }
 {
-    let ledgers = Ledgers::<N>::new(tickets, taken);
+    let ledgers = Ledgers::<Named<N, EventFd>>::new(tickets, taken);
+    let (counter, parts) = parts.split();
     let alloc = parts.alloc;
-    let sending: Sending<'_, N> = Sending {
+    let sending: Sending<'_, Named<N, EventFd>> = Sending {
         notes,
         tickets: Mutex::new(Vec::new(alloc)),
         ended: AtomicU64::new(0),
     };
-    let mut manager = expect_ok(rt, make::<_, _, N, _>(parts, ledgers));
+    let mut manager = expect_ok(
+        rt,
+        make::<_, _, Named<N, EventFd>, _>(parts, Named::new(counter), ledgers),
+    );
     let endpoint = expect_ok(rt, manager.remote_endpoint());
     send_beside_loop(rt, alloc, &mut manager, &endpoint, &sending, plan);
     let mut closed = manager.close(rt);

@@ -4,7 +4,7 @@ use crate::expecting::{expect_ok, expect_same};
 use crate::fixture::{Endpoint, Progress, Task};
 use crate::host::{Host, Looping, Rounds};
 use event_manager::{
-    EventManager, EventPoller, LoopWithSenders, Naming, Result, Sender, Senders, with_senders,
+    EventManager, EventPoller, LoopWithSenders, NamedCounter, Result, Sender, Senders, with_senders,
 };
 use fixtures::parts::{Idle, OnTable, Parts, on_table};
 use std::alloc::Global;
@@ -27,7 +27,7 @@ const LOOKS: u32 = 100_000;
 type Shared = Arc<Progress, Global>;
 
 /// Sends a job, and goes on once it runs; while it does, sends another one, and calls for the reply of a third.
-fn call_beside_job<N: Naming, R: Looping>(
+fn call_beside_job<N: NamedCounter, R: Looping>(
     rt: &R,
     endpoint: &Endpoint<N>,
     progress: &Shared,
@@ -46,7 +46,7 @@ fn call_beside_job<N: Naming, R: Looping>(
 }
 
 /// Sends a job, and another one as soon as the first is taken: by `fire`, or by `fire_after`. Goes on once both were run.
-fn fire_behind_take<N: Naming, R: Looping>(
+fn fire_behind_take<N: NamedCounter, R: Looping>(
     rt: &R,
     endpoint: &Endpoint<N>,
     progress: &Shared,
@@ -72,7 +72,7 @@ fn fire_behind_take<N: Naming, R: Looping>(
 }
 
 /// Sends two or three jobs, the last while the loop is on its way round.
-fn send_round<N: Naming, R: Looping>(
+fn send_round<N: NamedCounter, R: Looping>(
     rt: &R,
     endpoint: &Endpoint<N>,
     progress: &Shared,
@@ -86,7 +86,7 @@ fn send_round<N: Naming, R: Looping>(
 }
 
 /// Sends in each round, and then lets the loop end.
-fn send_all<N: Naming, R: Looping>(
+fn send_all<N: NamedCounter, R: Looping>(
     rt: &R,
     endpoint: &Endpoint<N>,
     progress: &Shared,
@@ -104,7 +104,7 @@ fn send_all<N: Naming, R: Looping>(
 }
 
 /// Runs without a limit until all was sent. What it then leaves to be read ends the wait beside it.
-fn run_all<N: Naming, P: EventPoller, R: Looping>(
+fn run_all<N: NamedCounter, P: EventPoller, R: Looping>(
     rt: &R,
     manager: &mut EventManager<Idle, Task, N, P>,
     endpoint: &Endpoint<N>,
@@ -144,13 +144,13 @@ struct Sending<'a> {
 }
 
 impl<R: Looping> Sender<Idle, Task, (), R> for Sending<'_> {
-    fn send<N: Naming>(self, endpoint: &Endpoint<N>, rt: &R) {
+    fn send<N: NamedCounter>(self, endpoint: &Endpoint<N>, rt: &R) {
         send_all(rt, endpoint, self.progress, self.rounds);
     }
 }
 
 impl<'a, R: Looping> LoopWithSenders<Idle, Task, Sending<'a>, R> for Sending<'a> {
-    fn begin<N: Naming, P: EventPoller>(
+    fn begin<N: NamedCounter, P: EventPoller>(
         &mut self,
         _rt: &R,
         alloc: Global,
@@ -159,7 +159,7 @@ impl<'a, R: Looping> LoopWithSenders<Idle, Task, Sending<'a>, R> for Sending<'a>
         Ok(Vec::from_array(alloc, [*self])?)
     }
 
-    fn run<N: Naming, P: EventPoller>(
+    fn run<N: NamedCounter, P: EventPoller>(
         &mut self,
         rt: &R,
         manager: &mut EventManager<Idle, Task, N, P>,

@@ -4,8 +4,8 @@ use crate::expecting::{expect_ok, expect_same};
 use crate::host::{Host, Looping, Rounds};
 use crate::watched::{Drops, Guest, Reporter, Task, Watched};
 use event_manager::{
-    Error, EventManager, EventPoller, LoopWithSenders, Naming, RemoteEndpoint, Result, Sender,
-    Senders, SubscriberOps, Ticket, with_senders,
+    Error, EventManager, EventPoller, LoopWithSenders, NamedCounter, RemoteEndpoint, Result,
+    Sender, Senders, SubscriberOps, Ticket, with_senders,
 };
 use fixtures::parts::{Parts, on_table};
 use fixtures::waits::{wait_until_ended, wait_until_pending};
@@ -76,7 +76,12 @@ impl<R: Clock + Drop> Holders<R> {
 }
 
 /// Looks on while the value is dropped. A send is made only where it won't wait for the drop.
-fn look_on<N: Naming, R: Looping>(rt: &R, endpoint: &Endpoint<N, R>, act: Act, drops: &Drops) {
+fn look_on<N: NamedCounter, R: Looping>(
+    rt: &R,
+    endpoint: &Endpoint<N, R>,
+    act: Act,
+    drops: &Drops,
+) {
     let began = drops.wait_for_one(rt);
     let pending = endpoint.pending();
     let sent = match pending {
@@ -90,7 +95,7 @@ fn look_on<N: Naming, R: Looping>(rt: &R, endpoint: &Endpoint<N, R>, act: Act, d
 }
 
 /// Sends the job in this way: how it is refused, if it is.
-fn send<N: Naming, R: Wait + Clock + Drop>(
+fn send<N: NamedCounter, R: Wait + Clock + Drop>(
     rt: &R,
     endpoint: &Endpoint<N, R>,
     shown: &Ticket<N>,
@@ -105,7 +110,7 @@ fn send<N: Naming, R: Wait + Clock + Drop>(
 }
 
 /// Sends a job, by which the endpoint's counter is full, and then the second: at once, or when the first waits no more.
-fn send_both<N: Naming, R: Looping>(
+fn send_both<N: NamedCounter, R: Looping>(
     rt: &R,
     endpoint: &Endpoint<N, R>,
     second: &Second<R>,
@@ -136,7 +141,7 @@ enum Beside<'a, R: Clock + Drop> {
 }
 
 impl<R: Looping> Sender<Guest<R>, Task<R>, (), R> for Beside<'_, R> {
-    fn send<N: Naming>(self, endpoint: &Endpoint<N, R>, rt: &R) {
+    fn send<N: NamedCounter>(self, endpoint: &Endpoint<N, R>, rt: &R) {
         match self {
             Beside::Looks(act, drops) => look_on(rt, endpoint, act, drops),
             Beside::Sends(act, second) => send_both(rt, endpoint, second, act),
@@ -154,7 +159,7 @@ struct Acting<'a, R: Clock + Drop> {
 }
 
 impl<'a, R: Looping> LoopWithSenders<Guest<R>, Task<R>, Beside<'a, R>, R> for Acting<'a, R> {
-    fn begin<N: Naming, P: EventPoller>(
+    fn begin<N: NamedCounter, P: EventPoller>(
         &mut self,
         rt: &R,
         alloc: Global,
@@ -169,7 +174,7 @@ impl<'a, R: Looping> LoopWithSenders<Guest<R>, Task<R>, Beside<'a, R>, R> for Ac
     }
 
     /// Runs for the first job but where the second is sent beside it, and for the second where that is to be run.
-    fn run<N: Naming, P: EventPoller>(
+    fn run<N: NamedCounter, P: EventPoller>(
         &mut self,
         rt: &R,
         manager: &mut EventManager<Guest<R>, Task<R>, N, P>,

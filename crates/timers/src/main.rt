@@ -6,7 +6,7 @@ pub mod stop;
 pub mod wheel;
 
 use event_manager::{
-    Error, EventManager, EventPoller, Ledgers, Naming, RemoteEndpoint, Result, SubscriberId,
+    Error, EventManager, EventPoller, Ledgers, NamedCounter, RemoteEndpoint, Result, SubscriberId,
     SubscriberOps, WithLedgers, with_ledgers,
 };
 use std::alloc::Global;
@@ -35,11 +35,10 @@ const MOST_TICKS: u64 = 100;
 /// The manager of a wheel.
 type Manager<R, N, P> = EventManager<Wheel<R>, Stop, N, P>;
 
-/// A wheel that is ready to run: all that it needs but the manager, which is made over ledgers.
+/// A wheel that is ready to run: all that it needs but the manager, which is made of a counter and ledgers.
 struct Program<'a, R> {
     rt: &'a R,
     epoll: Epoll<R>,
-    endpoint: EventFd,
     wheel: Wheel<R>,
 }
 
@@ -47,20 +46,15 @@ impl<R: Wait + Clock + Print + AllocGlobal + Clone + Send + Drop> WithLedgers fo
     type Output = Result<u64>;
 
     /// Makes the manager, and runs the wheel on it. Answers how many ticks it ran.
-    fn run<N: Naming + Send + Sync>(self, ledgers: Ledgers<N>) -> Result<u64> {
-        let Program {
-            rt,
-            epoll,
-            endpoint,
-            wheel,
-        } = self;
-        let mut manager = Manager::<R, N, _>::new(rt.alloc(), epoll, endpoint, ledgers)?;
+    fn run<N: NamedCounter + Send + Sync>(self, counter: N, ledgers: Ledgers<N>) -> Result<u64> {
+        let Program { rt, epoll, wheel } = self;
+        let mut manager = Manager::<R, N, _>::new(rt.alloc(), epoll, counter, ledgers)?;
         run_wheel(&mut manager, wheel, rt)
     }
 }
 
 /// Takes the wheel in, arms its timers, and runs it until it is stopped. Answers how many ticks it ran.
-fn run_wheel<R: Wait + Clock + Print + AllocGlobal + Drop, N: Naming, P: EventPoller + Drop>(
+fn run_wheel<R: Wait + Clock + Print + AllocGlobal + Drop, N: NamedCounter, P: EventPoller + Drop>(
     manager: &mut Manager<R, N, P>,
     wheel: Wheel<R>,
     rt: &R,
@@ -71,7 +65,7 @@ fn run_wheel<R: Wait + Clock + Print + AllocGlobal + Drop, N: Naming, P: EventPo
 }
 
 /// Takes the wheel in, and arms its timers.
-fn arm<R: Wait + Print + Drop, N: Naming, P: EventPoller>(
+fn arm<R: Wait + Print + Drop, N: NamedCounter, P: EventPoller>(
     manager: &mut Manager<R, N, P>,
     wheel: Wheel<R>,
     alloc: Global,
@@ -86,7 +80,7 @@ fn arm<R: Wait + Print + Drop, N: Naming, P: EventPoller>(
 }
 
 /// Runs the wheel tick by tick until it is stopped. Answers how many ticks it ran.
-fn turn<R: Wait + Clock + Print + Drop, N: Naming, P: EventPoller>(
+fn turn<R: Wait + Clock + Print + Drop, N: NamedCounter, P: EventPoller>(
     manager: &mut Manager<R, N, P>,
     endpoint: &RemoteEndpoint<Wheel<R>, Stop, N>,
     wheel: SubscriberId,
@@ -129,12 +123,7 @@ fn run<R: Wait + Clock + Print + AllocGlobal + Copy + Send + Drop>(rt: &R) -> Re
     let epoll = Epoll::new(*rt, rt.alloc()).map_err(Error::Epoll)?;
     let endpoint = EventFd::new(&epoll, 0, rt).map_err(Error::EventFd)?;
     let wheel = Wheel::new(make_timers(&epoll, rt)?, *rt);
-    with_ledgers(Program {
-        rt,
-        epoll,
-        endpoint,
-        wheel,
-    })
+    with_ledgers(endpoint, Program { rt, epoll, wheel })
 }
 
 fn main(rt: HostRuntime) -> ExitCode {
