@@ -8,8 +8,8 @@ use event_manager::utilities::subscribers::{
     CounterInnerMutSubscriber, CounterSubscriber, CounterSubscriberWithData,
 };
 use event_manager::{
-    Either, EventManager, Ledgers, MutEventSubscriber, NamedCounter, NoJob, SubscriberId,
-    SubscriberOps,
+    Either, EventManager, Ledgers, MutEventSubscriber, Named, NamedCounter, Naming, NoJob,
+    SubscriberId, SubscriberOps,
 };
 use fixtures::making::make;
 use fixtures::parts::{OnTable, on_table};
@@ -19,6 +19,7 @@ use std::sync::Arc;
 use std::sync::ledger::Blank;
 use std::thread;
 use vmm_sys::epoll::Epoll;
+use vmm_sys::eventfd::EventFd;
 
 type Loop<S, N, R> = EventManager<S, NoJob, N, Epoll<R>>;
 
@@ -87,14 +88,16 @@ fn run_moved<S, N, R>(
 ) -> Vec<S>
 where
     S: MutEventSubscriber + Send + Drop + 'static,
-    N: NamedCounter + Send + Sync + 'static,
+    N: Naming + Send + Sync + 'static,
     R: Host,
     requires tickets { (tickets.name ≡ N.tickets) × (tickets.parts ≡ 9223372036854775808) }
     requires taken { (taken.name ≡ N.taken) × (taken.parts ≡ 1) }
 {
-    let ledgers = Ledgers::<N>::new(tickets, taken);
+    let ledgers = Ledgers::<Named<N, EventFd>>::new(tickets, taken);
+    let (counter, parts) = parts.split();
     let alloc = parts.alloc;
-    let mut manager = expect_ok(&rt, make::<S, NoJob, N, _>(parts, ledgers));
+    let made = make::<S, NoJob, _, _>(parts, Named::<N, _>::new(counter), ledgers);
+    let mut manager = expect_ok(&rt, made);
     let ids = add_all(&rt, alloc, &mut manager, subscribers);
     let mut manager = moved(rt, manager, count);
     remove_all(&rt, alloc, &mut manager, ids.as_slice())

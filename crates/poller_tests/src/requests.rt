@@ -11,7 +11,7 @@ use event_manager::{
     Request, Result, SubscriberId, SubscriberOps,
 };
 use fixtures::making::{WithManager, with_manager};
-use fixtures::parts::{Parts, silent_parts};
+use fixtures::parts::{Idle, Parts, silent_parts};
 use fixtures::runs::{Run, let_leave, run_each, take_in};
 use std::alloc::Global;
 use std::process::Abort;
@@ -192,4 +192,65 @@ fn a_request_is_answered_by_the_table(rt: HostRuntime) {
     );
     let parts = expect_ok(&rt, silent_parts(rt, rt.alloc(), script));
     request_and_leave(&rt, parts, &requests_and_answers());
+}
+
+/// Each event of Linux's epoll, and each of its four modes.
+const BITS: [u32; 10] = [
+    0x1,
+    0x2,
+    0x4,
+    0x8,
+    0x10,
+    0x2000,
+    0x1000_0000,
+    0x2000_0000,
+    0x4000_0000,
+    0x8000_0000,
+];
+
+/// The requests for one descriptor of this set, and what a poller is asked for them.
+fn asked_for(set: EventSet) -> [(Request, Control); 3] {
+    let events = Events::new_raw(7, set);
+    let control = |op| Control {
+        op,
+        fd: 7,
+        event: events,
+    };
+    [
+        (Request::Add(events), control(ControlOperation::Add)),
+        (Request::Modify(events), control(ControlOperation::Modify)),
+        (Request::Remove(events), control(ControlOperation::Delete)),
+    ]
+}
+
+#[test]
+fn each_bit_goes_to_the_poller_as_it_is(rt: HostRuntime) {
+    let alloc = rt.alloc();
+    let recorder = expect_ok(&rt, Recorder::new(alloc));
+    let (mut requests, mut controls) = (Vec::new(alloc), Vec::new(alloc));
+    expect_ok(
+        &rt,
+        controls.push(Control {
+            op: ControlOperation::Add,
+            fd: 0,
+            event: Events::new_raw(0, EventSet::IN),
+        }),
+    );
+    for bit in BITS {
+        for (request, control) in asked_for(EventSet::from_bits_retain(bit)) {
+            expect_ok(&rt, requests.push((request, Ok(()))));
+            expect_ok(&rt, controls.push(control));
+        }
+    }
+    let body = Requests {
+        rt: &rt,
+        alloc,
+        subscribers: expect_ok(&rt, vec![in alloc; Idle]),
+        requests: requests.as_slice(),
+        runs: &[],
+    };
+    let poller = expect_ok(&rt, recorder.try_clone());
+    let parts = expect_ok(&rt, silent_parts(rt, alloc, poller));
+    expect_ok(&rt, with_manager(parts, body));
+    expect(&rt, recorder.was_asked(controls.as_slice()));
 }

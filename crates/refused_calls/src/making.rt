@@ -88,13 +88,15 @@ fn make_over_table<R: Host, B: Body>(
     capacity: Option<usize>,
     body: &B,
 ) -> Result<event_manager::Result<Result<(), Fault>>, Fault> {
+    let poller = copy_epoll(&on_table.epoll)?;
+    let counter = copy_counter(&on_table.endpoint)?;
     let making = Making {
         alloc,
-        poller: copy_epoll(&on_table.epoll)?,
+        poller,
         capacity,
         body,
     };
-    Ok(with_ledgers(copy_counter(&on_table.endpoint)?, making))
+    Ok(with_ledgers(counter, making))
 }
 
 /// Makes a manager over the table, of this capacity or of the usual one, and does with it what is to be done. A refused
@@ -133,13 +135,15 @@ fn make_over_script<B: Body>(
     endpoint: &EventFd,
     body: &B,
 ) -> Result<event_manager::Result<Result<(), Fault>>, Fault> {
+    let poller = script_of(entries, reports, alloc)?;
+    let counter = copy_counter(endpoint)?;
     let making = Making {
         alloc,
-        poller: script_of(entries, reports, alloc)?,
+        poller,
         capacity: None,
         body,
     };
-    Ok(with_ledgers(copy_counter(endpoint)?, making))
+    Ok(with_ledgers(counter, making))
 }
 
 /// Makes a manager over a script of so many reports, each of these entries, and does with it what is to be done. Its

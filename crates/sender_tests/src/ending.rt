@@ -2,7 +2,8 @@
 
 use crate::threads::{Host, Looping};
 use event_manager::{
-    Ended, EventPoller, Job, LoopWithSenders, MutEventSubscriber, Result, Sender, with_senders,
+    Counter, Ended, EventPoller, Job, LoopWithSenders, MutEventSubscriber, Result, Sender,
+    with_senders,
 };
 use fixtures::parts::Parts;
 use fixtures::waits::LOOKS;
@@ -25,9 +26,9 @@ fn look_on<R: Looping>(rt: &R, is_over: &AtomicBool) {
 }
 
 /// As [`with_senders`] over these parts. Ends the test where that doesn't end.
-pub fn beside_senders<S, J, P, B, Q, T, R>(
+pub fn beside_senders<S, J, P, C, B, Q, T, R>(
     rt: &R,
-    parts: Parts<P>,
+    parts: Parts<P, C>,
     body: &mut B,
 ) -> Result<Ended<T, P>>
 where
@@ -35,6 +36,7 @@ where
     J: Job<S> + Send,
     J::Reply: Send,
     P: EventPoller + Send + Drop,
+    C: Counter + Send + Sync + Drop,
     B: LoopWithSenders<S, J, Q, R> + Send,
     Q: Sender<S, J, T, R> + Send + Drop,
     T: Send + Drop,
@@ -43,7 +45,7 @@ where
     let Parts {
         alloc,
         poller,
-        event_fd,
+        counter,
         ..
     } = parts;
     let is_over = AtomicBool::new(false);
@@ -51,7 +53,7 @@ where
         rt,
         || look_on(rt, &is_over),
         || {
-            let ended = with_senders(rt, alloc, poller, event_fd, body);
+            let ended = with_senders(rt, alloc, poller, counter, body);
             is_over.store(true, Ordering::SeqCst);
             ended
         },

@@ -22,6 +22,10 @@ mod loops;
 #[cfg(test)]
 mod meetings;
 #[cfg(test)]
+mod over_own_counter;
+#[cfg(test)]
+mod own_counter;
+#[cfg(test)]
 mod rounds;
 #[cfg(test)]
 mod threads;

@@ -86,10 +86,10 @@ fn on_counted_table<'a, R: Looping + Send>(
 ) -> Parts<Counted<'a, Epoll<R>>> {
     let Parts {
         poller,
-        event_fd,
+        counter,
         ..
     } = expect_ok(rt, on_table(*rt, alloc, 0));
-    Parts::new(alloc, Counted { poller, course }, event_fd)
+    Parts::new(alloc, Counted { poller, course }, counter)
 }
 
 /// A sender that ends once all have begun, the loop waits, and those behind it are ending and wake nobody. It gives its number.

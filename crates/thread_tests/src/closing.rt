@@ -93,10 +93,10 @@ fn close_beside_call<R: Host>(rt: &R, alloc: Global, turns: u64) {
     };
     let Parts {
         poller,
-        event_fd,
+        counter,
         ..
     } = expect_ok(rt, on_table(*rt, alloc, 0));
-    let ended = expect_ok(rt, with_senders(rt, alloc, poller, event_fd, &mut body));
+    let ended = expect_ok(rt, with_senders(rt, alloc, poller, counter, &mut body));
     expect_same(rt, &ended.sent.len(), &1);
     for reply in ended.sent {
         expect_refused(rt, reply);

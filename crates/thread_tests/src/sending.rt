@@ -176,11 +176,11 @@ fn send_rounds<R: Host>(rt: &R, parts: OnTable<R>, progress: &Shared, rounds: &R
     let Parts {
         alloc,
         poller,
-        event_fd,
+        counter,
         ..
     } = parts;
     let mut body = Sending { progress, rounds };
-    let ended = expect_ok(rt, with_senders(rt, alloc, poller, event_fd, &mut body));
+    let ended = expect_ok(rt, with_senders(rt, alloc, poller, counter, &mut body));
     expect_same(rt, &ended.ran, &Ok(()));
     rounds.end();
 }

@@ -206,7 +206,7 @@ fn expect_seen<R: Host>(rt: &R, alloc: Global, act: Act) {
     let drops = expect_ok(rt, Arc::new(alloc, Drops::new()));
     let value = expect_ok(rt, Watched::new(&drops, *rt));
     let Holders { guest, job } = Holders::new(act, value);
-    let Parts { event_fd, .. } = expect_ok(rt, on_table(*rt, alloc, NEARLY_FULL));
+    let Parts { counter, .. } = expect_ok(rt, on_table(*rt, alloc, NEARLY_FULL));
     let second = Mutex::new(Some(job));
     let mut acting = Acting {
         act,
@@ -214,7 +214,7 @@ fn expect_seen<R: Host>(rt: &R, alloc: Global, act: Act) {
         guest: Some(guest),
         second: &second,
     };
-    let ended = expect_ok(rt, with_senders(rt, alloc, Reporter, event_fd, &mut acting));
+    let ended = expect_ok(rt, with_senders(rt, alloc, Reporter, counter, &mut acting));
     expect_same(rt, &ended.ran, &Ok(()));
     expect_same(rt, &drops.count(), &1);
 }

@@ -29,6 +29,7 @@ impl Fd {
 
     /// The number of what has a descriptor of std's, as a `TcpStream` or a `PipeReader`. `EBADF`: it is negative.
     pub fn of<T: std::os::fd::AsRawFd>(source: &T) -> Result<Fd, Errno>
+        ensures agreed { IfSome (T.raw_fd source.now) (λ fd. IsOk result ↔ pos 0 ≤ℤ fd) }
         ensures number { IfOk result (λ it. IfSome (T.raw_fd source.now) (λ fd. fd_of it ≡ fd)) }
         ensures errors { IfErr result (λ e. e ≡ Errno.EBADF) }
     {

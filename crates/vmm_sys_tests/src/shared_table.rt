@@ -9,6 +9,7 @@ use std::process::Abort;
 use std::sync::Arc;
 use std::sync::atomic::{AtomicBool, Ordering};
 use std::thread;
+use vmm_sys::counter::{Bell, Counter};
 use vmm_sys::epoll::{AsRawFd, ControlOperation, Epoll, EpollEvent, EventSet};
 use vmm_sys::errno::Errno;
 use vmm_sys::eventfd::EventFd;
@@ -122,6 +123,19 @@ fn counters_of_one_table_are_apart(rt: HostRuntime) {
     expect_same(&rt, &second.read(&rt), &Err(Errno::EAGAIN));
     expect_same(&rt, &first.read(&rt), &Ok(14));
     expect_same(&rt, &first.read(&rt), &Err(Errno::EAGAIN));
+}
+
+#[test]
+fn a_counter_is_rung_by_a_1_and_cleared_by_a_read(rt: HostRuntime) {
+    let epoll = expect_ok(&rt, Epoll::new(rt, rt.alloc()));
+    let counter = expect_ok(&rt, EventFd::new(&epoll, 0, &rt));
+    for rings in 1..=3 {
+        for _ring in 0..rings {
+            expect_same(&rt, &counter.ring(&rt), &Ok(()));
+        }
+        expect_same(&rt, &counter.clear(&rt), &Ok(rings));
+    }
+    expect_same(&rt, &counter.clear(&rt), &Err(Errno::EAGAIN));
 }
 
 #[test]
