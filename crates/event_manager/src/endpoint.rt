@@ -52,8 +52,8 @@ impl<S: MutEventSubscriber, J: Job<S>, N: NamedCounter> RemoteEndpoint<S, J, N> 
     /// Sends a job, which the loop runs once, in the order of the tickets, after a later batch. The ticket may be dropped.
     ///
     /// Refused, in this order, the queue as it was and the job dropped: `ChannelSend` where the manager was closed;
-    /// `TicketsUsedUp` where 9223372036854775807 tickets were issued; `OutOfMemory`; `EventFd(EAGAIN)` where the value of
-    /// the endpoint's `EventFd` is full.
+    /// `TicketsUsedUp` where 9223372036854775807 tickets were issued; `OutOfMemory`; `EventFd` with the number with which
+    /// the manager's counter refuses its ring, `EAGAIN` where an `EventFd` of a table is full.
     pub fn fire<R: Wait + Clock>(&self, job: J, rt: &R) -> Result<Ticket<N>>
         ensures refusals { IfErr result (IsSendRefusal (N.rings (counter_of_endpoint self.now))) }
     {
@@ -103,9 +103,9 @@ impl<S: MutEventSubscriber, J: Job<S>, N: NamedCounter> RemoteEndpoint<S, J, N> 
         receiver.wait(rt)
     }
 
-    /// Ends the loop's wait: writes 1 to the endpoint's `EventFd`. Takes no memory.
+    /// Ends the loop's wait: rings the manager's counter. Takes no memory where that ring doesn't.
     ///
-    /// `EventFd(EAGAIN)` where its value is full; then nothing changes.
+    /// `EventFd` with the number with which the counter refuses its ring; then nothing changes.
     pub fn kick<R: Wait + Clock>(&self, rt: &R) -> Result<()>
         ensures refusals { IfErr result (IsRingRefusal (N.rings (counter_of_endpoint self.now))) }
     {

@@ -26,7 +26,8 @@ pub(crate) const DEFAULT_CAPACITY: usize = 256;
 
 /// An event loop over a poller, the subscribers that it serves, and the jobs that its endpoints send.
 ///
-/// `N` names the ledgers of its tickets and of its taken jobs, which [`with_ledgers`](crate::with_ledgers) makes.
+/// `N` is the type of the counter that wakes it, and names the ledgers of its tickets and of its taken jobs:
+/// [`with_ledgers`](crate::with_ledgers) makes both.
 /// Where no jobs are needed, `J` is [`NoJob`](crate::jobs::NoJob).
 #[derive(Drop)]
 pub struct EventManager<S: MutEventSubscriber, J: Job<S>, N: NamedCounter, P = BoxedPoller> {
@@ -45,15 +46,17 @@ impl<S: MutEventSubscriber, J: Job<S>, N: NamedCounter, P: EventPoller> EventMan
         EventManager::new_with_capacity(alloc, poller, counter, DEFAULT_CAPACITY, ledgers)
     }
 
-    /// A manager with no subscriber, whose batches have up to `capacity` events. Its endpoint is `event_fd`.
+    /// A manager with no subscriber, whose batches have up to `capacity` events. Its endpoint is `counter`, which the poller
+    /// must be able to watch: an [`EventFd`](vmm_sys::eventfd::EventFd) of the poller's table, as
+    /// [`Named`](crate::Named), or a counter of your own.
     ///
     /// The poller is asked to add the endpoint's descriptor with the set `IN` and the descriptor as word. Capacity 0
     /// passes here, and is left to the poller's `wait`. The ledgers are those of [`with_ledgers`](crate::with_ledgers).
     ///
-    /// Nobody but the loop reads `event_fd`, by another handle either: a run takes jobs only where the endpoint's event
-    /// was reported, so jobs whose ring somebody else has read before the wait stay where they are until the next ring.
+    /// Nobody but the loop clears the counter, by another handle either: a run takes jobs only where the endpoint's event
+    /// was reported, so jobs whose ring somebody else has taken before the wait stay where they are until the next ring.
     ///
-    /// Refused, in this order, and neither poller nor `event_fd` comes back: `InvalidCapacity` above
+    /// Refused, in this order, and neither poller nor counter comes back: `InvalidCapacity` above
     /// [`MAX_READY_EVENTS_CAPACITY`], where the poller isn't asked; `OutOfMemory`; `Epoll` with the number that the
     /// poller answers.
     pub fn new_with_capacity(
@@ -98,7 +101,7 @@ impl<S: MutEventSubscriber, J: Job<S>, N: NamedCounter, P: EventPoller> EventMan
     /// wait (0 where nobody owned it), and those of one priority in the order of the report. Each goes once, to the
     /// subscriber that owns its descriptor at its turn, unless a `remove` of that descriptor has succeeded since the wait;
     /// else to nobody. Events on the endpoint's descriptor go to nobody; where there was one, then after all deliveries
-    /// the endpoint's `EventFd` is read once, all jobs that wait are taken, and each is run once, in the order of the
+    /// the endpoint's counter is cleared once, all jobs that wait are taken, and each is run once, in the order of the
     /// tickets. The queue's lock is free while they run; a job that is sent meanwhile waits for a later run. Answers how
     /// many events were reported, cancelled ones and those of nobody included.
     ///

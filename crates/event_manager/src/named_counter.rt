@@ -12,6 +12,9 @@ use vmm_sys::epoll::{AsRawFd, RawFd};
 use vmm_sys::errno::Errno;
 
 /// A counter that wakes a manager's poller, and whose type names the ledgers of that manager.
+///
+/// A send rings it while the lock of the manager's queue is held, so that a refused send leaves the queue as it was. A ring
+/// of your own waits for nothing that a sender holds, and sends nothing.
 pub trait NamedCounter: Naming + Counter + Drop {}
 
 /// A counter of type `C` under the name `N`. It is rung and cleared as that counter is.

@@ -313,8 +313,8 @@ where
     })
 }
 
-/// Makes a manager over the poller, lets the body's subscribers join, and runs its loop on this thread, beside a thread for
-/// each of its senders. Whatever ends the loop, the manager is then closed, so that no sender waits for a reply any more;
+/// Makes a manager over the poller, woken by the counter, lets the body's subscribers join, and runs its loop on this thread,
+/// beside a thread for each of its senders. Whatever ends the loop, the manager is then closed, so that no sender waits for a reply any more;
 /// and what loop and senders gave is answered once all senders have ended, with the poller.
 ///
 /// Refused with what the making of the manager, `begin` or [`EventManager::remote_endpoint`] is refused with, and no sender
