@@ -7,8 +7,8 @@
  *     cc -O2 -Wall -Wextra -o /tmp/epoll beside_the_kernel/epoll.c && taskset -c 3 /tmp/epoll
  *
  * Each descriptor is an eventfd that is added for EPOLLIN, level-triggered. Each round writes 1 to the next one in turn,
- * waits with room for 256 events, which must report that one alone, and reads the 1 back. A line for each N of 16, 4096
- * and 100000, with the least of five repeats, in nanoseconds a round; where the limit on a process's descriptors is
+ * waits with room for 256 events, which must report that one alone, and reads the 1 back. A line for each N of 1, 16, 256,
+ * 4096 and 100000, with the least of five repeats, in nanoseconds a round; where the limit on a process's descriptors is
  * lower and can't be raised, N is as many as it allows, and the line says that number. Whatever goes otherwise ends the
  * program with status 1.
  */
@@ -27,7 +27,7 @@
 /* The descriptors that the process has beside those that it waits on are fewer than OTHERS. */
 enum { REPEATS = 5, ROOM = 256, OTHERS = 32 };
 
-static const int COUNTS[] = {16, 4096, 100000};
+static const int COUNTS[] = {1, 16, 256, 4096, 100000};
 
 static const long ROUNDS = 1000000;
 
