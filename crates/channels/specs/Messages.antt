@@ -1,0 +1,57 @@
+-- The messages of a channel, and what each call does to them, and to the signal that tells the receiver.
+use Rattle.std.specs.Prelude.{◌≡◌, ◌-◌, ◌++◌, ◌∷◌, [], ℕ, Bool, true, false, not, ◌&&◌, ◌||◌, ◌==◌, nat_lt, List, length, Option, None, Some, MatchBool, Result, Ok, Err}
+use Rattle.vmm_sys.specs.declared.errno.Errno.{Errno}
+use Rattle.channels.specs.declared.errors.Refusal.{Refusal}
+use Rattle.channels.specs.declared.errors.Refusal.TheVariants.{Closed, Full, OutOfMemory, EventFd}
+use Rattle.channels.specs.declared.errors.SendError.{SendError}
+
+-- what waits, in the order in which it was sent; how many messages can, if there is a bound; how many senders haven't closed; and
+-- whether the receiver hasn't
+pub record Messages (M : Type 0) : Type 0 where
+  pub waiting : List M
+  pub most : Option ℕ
+  pub senders : ℕ
+  pub is_open : Bool
+
+-- one more can wait beside so many
+abbrev pub has_room : Option ℕ → ℕ → Bool
+has_room None count = true
+has_room (Some most) count = nat_lt count most
+
+module _ {M : Type 0} where
+  -- there is something to tell the receiver: messages wait, or all senders have closed
+  abbrev pub is_ready : Messages M → Bool
+  is_ready q = q.is_open && (not (length q.waiting == 0) || (q.senders == 0))
+
+  -- nothing waits, and nothing will come any more
+  abbrev pub is_over : Messages M → Bool
+  is_over q = (length q.waiting == 0) && (q.senders == 0)
+
+  abbrev pub with_message : Messages M → M → Messages M
+  with_message q message = record q { waiting = q.waiting ++ message ∷ [] }
+
+module _ {M S : Type 0} (raises : S → Result (Unit {0}) Errno → S → Type 0) where
+  -- the signal is raised where there is nothing to tell, and left alone where there is something
+  abbrev pub IsTold : Messages M → S → Result (Unit {0}) Errno → S → Type 0
+  IsTold q before answer after = MatchBool (is_ready q) ((answer ≡ Ok tt) × (after ≡ before)) (raises before answer after)
+
+  -- why a message may be refused; but for a raise that is refused the signal is left alone
+  abbrev pub IsRefused : Messages M → S → Refusal → S → Type 0
+  IsRefused q before Closed after = (q.is_open ≡ false) × (after ≡ before)
+  IsRefused q before Full after = (q.is_open ≡ true) × (has_room q.most (length q.waiting) ≡ false) × (after ≡ before)
+  IsRefused q before OutOfMemory after = (q.is_open ≡ true) × (q.most ≡ None) × (after ≡ before)
+  IsRefused q before (EventFd errno) after = (q.is_open ≡ true) × (has_room q.most (length q.waiting) ≡ true) × IsTold q before (Err errno) after
+
+  -- a send puts the message last, once the receiver is told; or the message comes back, and nothing changed
+  abbrev pub IsSend : Messages M → S → M → Result (Unit {0}) (SendError M) → Messages M → S → Type 0
+  IsSend q before message (Ok _) r after = (q.is_open ≡ true) × (has_room q.most (length q.waiting) ≡ true) × IsTold q before (Ok tt) after × (r ≡ with_message q message)
+  IsSend q before message (Err e) r after = (e.message ≡ message) × IsRefused q before e.why after × (r ≡ q)
+
+  -- one sender less, once the receiver is told where that was the last one; or the sender counts as before
+  abbrev pub IsLeave : Messages M → S → Result (Unit {0}) Errno → Messages M → S → Type 0
+  IsLeave q before (Ok _) r after = (r ≡ record q { senders = q.senders - 1 }) × MatchBool (is_ready r) (IsTold q before (Ok tt) after) (after ≡ before)
+  IsLeave q before (Err errno) r after = (r ≡ q) × IsTold q before (Err errno) after
+
+-- the signal is lowered where there was something to tell and there isn't now, and else left alone
+abbrev pub IsSettled : {M S : Type 0} → (S → S → Type 0) → Messages M → S → Messages M → S → Type 0
+IsSettled lowers q before r after = MatchBool (is_ready q && not (is_ready r)) (lowers before after) (after ≡ before)

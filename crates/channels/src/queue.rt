@@ -1,0 +1,226 @@
+//! The messages of a channel, without a lock.
+
+ghost use Rattle.std.specs.Prelude.{◌≡◌, ◌+◌, ◌-◌, ◌++◌, ◌∷◌, [], false, length, None, Some, IfOk, OnOk, OnErr, MatchOption, MatchBool, not, ◌&&◌, ◌<◌, true};
+ghost use Rattle.channels.specs.Messages.{has_room, is_over, is_ready, with_message, IsTold, IsSend, IsLeave, IsSettled};
+
+use crate::errors::{Refusal, SendError};
+use std::alloc::{AllocError, Global};
+use std::collections::VecDeque;
+use std::marker::Model;
+use std::mem;
+use vmm_sys::errno::Errno;
+
+/// What tells the receiver of a queue: that there is something for it, or nothing any more.
+pub trait Signal {
+    ghost use Rattle.std.specs.Prelude.{Result};
+    ghost use Rattle.vmm_sys.specs.declared.errno.Errno.{Errno};
+
+    /// From a value: which answer a raise may give, and which value it may leave.
+    ghost raises: { Self → Result (Unit {0}) Errno → Self → Type 0 };
+
+    /// From a value, which value a lowering may leave.
+    ghost lowers: { Self → Self → Type 0 };
+
+    /// There is something. The number with which that is refused.
+    fn raise(&mut self) -> Result<(), Errno>
+        ensures { raises self.old result self.new };
+
+    /// There is nothing any more.
+    fn lower(&mut self)
+        ensures { lowers self.old self.new };
+}
+
+/// Messages that wait, in the order in which they were sent; how many senders haven't closed; and whether the receiver hasn't.
+///
+/// The signal is raised where there was nothing to tell the receiver and now is: a message waits, or all senders have closed. It
+/// is lowered where that is over. So whoever holds a lock round the messages knows it to be raised exactly while there is
+/// something to tell, and a batch costs one raise.
+#[derive(Drop)]
+pub struct MessageQueue<M> {
+    waiting: VecDeque<M>,
+    most: Option<usize>,
+    senders: u64,
+    is_open: bool,
+}
+
+impl<M> Model for MessageQueue<M> {
+    ghost use Rattle.std.specs.Prelude.{◌≡◌, ◌≤◌, true, false, [], IfSome};
+    ghost use Rattle.std.specs.VecDeque.{deque_capacity};
+    ghost use Rattle.vmm_sys.specs.declared.errno.Errno.{Errno};
+    ghost use Rattle.channels.specs.Messages.{Messages};
+
+    ghost Value = { Messages M };
+
+    ghost view = { λ q. record { waiting = q.waiting.items; most = q.most; senders = q.senders; is_open = q.is_open } };
+
+    ghost invariant = { λ q. (q.is_open ≡ false → q.waiting.items ≡ []) × (q.is_open ≡ true → IfSome q.most (λ most. most ≤ deque_capacity q.waiting)) };
+}
+
+impl<M> MessageQueue<M> {
+    /// An open queue of one sender in which nothing waits, without a bound.
+    pub fn new(alloc: Global) -> Self
+        ensures { result ≡ record { waiting = []; most = None; senders = 1; is_open = true } }
+    {
+        MessageQueue {
+            waiting: VecDeque::new(alloc),
+            most: None,
+            senders: 1,
+            is_open: true,
+        }
+    }
+
+    /// An open queue of one sender in which nothing waits, with room for so many messages, which is made here once for all.
+    pub fn with_room(alloc: Global, most: usize) -> Result<Self, AllocError>
+        ensures { IfOk result (λ q. q ≡ record { waiting = []; most = Some most; senders = 1; is_open = true }) }
+    {
+        Ok(MessageQueue {
+            waiting: VecDeque::with_capacity(alloc, most)?,
+            most: Some(most),
+            senders: 1,
+            is_open: true,
+        })
+    }
+
+    /// How many messages wait.
+    pub fn waiting(&self) -> usize
+        ensures { result ≡ length self.now.waiting }
+    {
+        self.waiting.len()
+    }
+
+    /// Whether there is something to tell the receiver.
+    pub fn is_ready(&self) -> bool
+        ensures { result ≡ is_ready self.now }
+    {
+        self.is_open && (!self.waiting.is_empty() || self.senders == 0)
+    }
+
+    /// Whether nothing waits and nothing will come any more: all senders have closed.
+    pub fn is_over(&self) -> bool
+        ensures { result ≡ is_over self.now }
+    {
+        self.waiting.is_empty() && self.senders == 0
+    }
+
+    /// Whether one more message can wait.
+    fn has_room(&self) -> bool
+        ensures { result ≡ has_room self.now.most (length self.now.waiting) }
+    {
+        match self.most {
+            Some(most) => self.waiting.len() < most,
+            None => true,
+        }
+    }
+
+    /// Raises the signal, where there is nothing to tell yet.
+    fn tell<S: Signal>(&self, signal: &mut S) -> Result<(), Errno>
+        ensures { IsTold S.raises self.now signal.old result signal.new }
+    {
+        if self.is_ready() {
+            return Ok(());
+        }
+        signal.raise()
+    }
+
+    /// Lowers the signal, where there was something to tell and there isn't now.
+    fn settle<S: Signal>(&self, was_ready: bool, signal: &mut S)
+        ensures { MatchBool (was_ready && not (is_ready self.now)) (S.lowers signal.old signal.new) (signal.new ≡ signal.old) }
+    {
+        if was_ready && !self.is_ready() {
+            signal.lower();
+        }
+    }
+
+    /// Puts the message last, and raises the signal first where there is nothing to tell yet.
+    ///
+    /// Refused, in this order, the message in the error and the queue as it was: `Closed` where the receiver has closed; `Full`
+    /// where as many wait as there is room for; `OutOfMemory`, of a queue without a bound; `EventFd` with the number with which
+    /// the raise is refused.
+    pub fn send<S: Signal>(&mut self, message: M, signal: &mut S) -> Result<(), SendError<M>>
+        ensures { IsSend S.raises self.old signal.old message result self.new signal.new }
+    {
+        let why = if !self.is_open {
+            Refusal::Closed
+        } else if !self.has_room() {
+            Refusal::Full
+        } else if self.waiting.reserve(1).is_err() {
+            Refusal::OutOfMemory
+        } else if let Err(errno) = self.tell(signal) {
+            Refusal::EventFd(errno)
+        } else {
+            self.waiting.push_back_reserved(message);
+            return Ok(());
+        };
+        Err(SendError { why, message })
+    }
+
+    /// Moves all that waits behind what the list has, in order. Refused for want of memory in the list alone: then nothing is
+    /// moved. Lowers the signal where nothing is to be told any more.
+    pub fn take<S: Signal>(&mut self, into: &mut Vec<M>, signal: &mut S) -> Result<(), AllocError>
+        ensures taken { OnOk result ((into.new.items ≡ into.old.items ++ self.old.waiting) × (self.new ≡ record self.old { waiting = [] })) }
+        ensures refused { OnErr result ((into.new.items ≡ into.old.items) × (self.new ≡ self.old)) }
+        ensures settled { IsSettled S.lowers self.old signal.old self.new signal.new }
+    {
+        let was_ready = self.is_ready();
+        let empty = VecDeque::new(*self.waiting.allocator());
+        let mut all = mem::replace(&mut self.waiting, empty).into_vec();
+        let taken = into.append(&mut all);
+        mem::replace(&mut self.waiting, VecDeque::from_vec(all)).destroy_empty();
+        self.settle(was_ready, signal);
+        taken
+    }
+
+    /// The message that has waited longest; none where none waits. Lowers the signal as a take does.
+    pub fn receive<S: Signal>(&mut self, signal: &mut S) -> Option<M>
+        ensures first { MatchOption result (self.old.waiting ≡ []) (λ message. self.old.waiting ≡ message ∷ self.new.waiting) }
+        ensures rest { self.new ≡ record self.old { waiting = self.new.waiting } }
+        ensures settled { IsSettled S.lowers self.old signal.old self.new signal.new }
+    {
+        let was_ready = self.is_ready();
+        let message = self.waiting.pop_front();
+        self.settle(was_ready, signal);
+        message
+    }
+
+    /// Takes no message in from now on, and hands out all that wait, in order. Lowers the signal where there was something to
+    /// tell.
+    pub fn close<S: Signal>(&mut self, signal: &mut S) -> Vec<M>
+        ensures handed_out { result.items ≡ self.old.waiting }
+        ensures closed { self.new ≡ record self.old { waiting = []; is_open = false } }
+        ensures settled { IsSettled S.lowers self.old signal.old self.new signal.new }
+    {
+        let was_ready = self.is_ready();
+        let empty = VecDeque::new(*self.waiting.allocator());
+        let all = mem::replace(&mut self.waiting, empty).into_vec();
+        self.is_open = false;
+        self.settle(was_ready, signal);
+        all
+    }
+
+    /// Counts one sender more. Refused where none is left, and past 18446744073709551615.
+    pub fn join(&mut self) -> Result<(), AllocError>
+        ensures joined { OnOk result (self.new ≡ record self.old { senders = self.old.senders + 1 }) }
+        ensures left { OnOk result (0 < self.old.senders) }
+        ensures refused { OnErr result (self.new ≡ self.old) }
+    {
+        let senders = match self.senders {
+            0 | u64::MAX => return Err(AllocError),
+            senders => senders + 1,
+        };
+        self.senders = senders;
+        Ok(())
+    }
+
+    /// Counts one sender less, and raises the signal where that was the last one and there was nothing to tell yet. Refused with
+    /// the number with which the raise is refused; then the sender counts as before.
+    pub fn leave<S: Signal>(&mut self, signal: &mut S) -> Result<(), Errno>
+        ensures { IsLeave S.raises self.old signal.old result self.new signal.new }
+    {
+        let senders = self.senders.saturating_sub(1);
+        if self.is_open && senders == 0 {
+            self.tell(signal)?;
+        }
+        self.senders = senders;
+        Ok(())
+    }
+}

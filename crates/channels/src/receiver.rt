@@ -1,0 +1,73 @@
+//! The receiving end.
+
+ghost use Rattle.std.specs.Prelude.{◌≡◌, ◌++◌, List, OnErr};
+
+use crate::ends::Shared;
+use std::alloc::AllocError;
+use std::sync::{Arc, Wait};
+use std::time::Clock;
+use vmm_sys::counter::Counter;
+use vmm_sys::epoll::{AsRawFd, RawFd};
+use vmm_sys::eventfd::EventFd;
+
+/// Takes the messages of a channel. Its descriptor is ready for `IN` exactly while messages wait, and once all senders have
+/// closed.
+///
+/// One that is only dropped stays open: sends are still agreed to, and what waits is dropped with the last sender.
+#[derive(Drop)]
+pub struct Receiver<M, C = EventFd> {
+    pub(crate) shared: Arc<Shared<M, C>>,
+}
+
+impl<M: Drop, C: Counter + Drop> Receiver<M, C> {
+    /// Moves all messages that wait behind what the list has, in the order in which they were sent. Refused for want of memory
+    /// in the list; then all of them wait still.
+    pub fn take<R: Wait + Clock>(&mut self, into: &mut Vec<M>, rt: &R) -> Result<(), AllocError>
+        ensures behind { (taken : List M) × (into.new.items ≡ into.old.items ++ taken) }
+        ensures refused { OnErr result (into.new.items ≡ into.old.items) }
+        ensures same { self.new ≡ self.old }
+    {
+        let shared = &*self.shared;
+        let mut signal = shared.signal(rt);
+        shared.queue.lock(rt).take(into, &mut signal)
+    }
+
+    /// The message that has waited longest; none where none waits.
+    pub fn recv<R: Wait + Clock>(&mut self, rt: &R) -> Option<M>
+        ensures same { self.new ≡ self.old }
+    {
+        let shared = &*self.shared;
+        let mut signal = shared.signal(rt);
+        shared.queue.lock(rt).receive(&mut signal)
+    }
+
+    /// Whether nothing waits and nothing will come any more: all senders have closed.
+    pub fn is_over<R: Wait>(&self, rt: &R) -> bool {
+        self.shared.queue.lock(rt).is_over()
+    }
+
+    /// How many messages wait; `None` where the channel's lock is held at this moment. It waits for nobody.
+    pub fn pending(&self) -> Option<usize> {
+        let queue = self.shared.queue.try_lock()?;
+        Some(queue.waiting())
+    }
+
+    /// Takes no message in from now on, and hands out all that wait, in the order in which they were sent.
+    pub fn close<R: Wait + Clock>(self, rt: &R) -> Vec<M> {
+        let shared = &*self.shared;
+        let mut signal = shared.signal(rt);
+        let waiting = shared.queue.lock(rt).close(&mut signal);
+        waiting
+    }
+}
+
+/// That of the counter.
+impl<M, C: AsRawFd> AsRawFd for Receiver<M, C> {
+    ghost use Rattle.channels.specs.Ends.{counter_of_receiver};
+
+    ghost descriptor = { λ receiver. C.descriptor (counter_of_receiver receiver) };
+
+    fn as_raw_fd(&self) -> RawFd {
+        self.shared.counter.as_raw_fd()
+    }
+}

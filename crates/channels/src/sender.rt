@@ -1,0 +1,65 @@
+//! The sending end.
+
+ghost use Rattle.std.specs.Prelude.{◌≡◌, Err, IfOk, IfErr};
+ghost use Rattle.channels.specs.Ends.{counter_of_sender, IsSendRefusal};
+
+use crate::ends::Shared;
+use crate::errors::{CloseError, SendError};
+use std::alloc::AllocError;
+use std::sync::{Arc, Wait};
+use std::time::Clock;
+use vmm_sys::counter::Counter;
+use vmm_sys::eventfd::EventFd;
+
+/// Sends messages to the receiver that it was made with, from any thread.
+///
+/// A sender that is only dropped counts as one that sends no more and hasn't closed: its receiver is told of the end by
+/// [`close`](Sender::close) alone, since a drop has no handle to wait with.
+#[derive(Drop)]
+pub struct Sender<M, C = EventFd> {
+    pub(crate) shared: Arc<Shared<M, C>>,
+}
+
+impl<M: Drop, C: Counter + Drop> Sender<M, C> {
+    /// Puts the message last. The receiver is told by a ring where nothing waited, and is told already where something did: so
+    /// a full counter refuses no message behind another.
+    ///
+    /// Refused, in this order, the message in the error and what waits as it was: `Closed` where the receiver has closed; `Full`
+    /// where as many messages wait as the channel has room for; `OutOfMemory`, of a channel without a bound; `EventFd` with the
+    /// number with which the counter refuses its ring.
+    pub fn send<R: Wait + Clock>(&self, message: M, rt: &R) -> Result<(), SendError<M>>
+        ensures handed_back { IfErr result (λ refused. refused.message ≡ message) }
+        ensures refusals { IfErr result (λ refused. IsSendRefusal (C.rings (counter_of_sender self.now)) refused.why) }
+    {
+        let shared = &*self.shared;
+        let mut signal = shared.signal(rt);
+        shared.queue.lock(rt).send(message, &mut signal)
+    }
+
+    /// Another sender to the same receiver. Refused for want of memory, and past 2^64 senders; then nothing changed.
+    pub fn try_clone<R: Wait>(&self, rt: &R) -> Result<Self, AllocError>
+        ensures same_counter { IfOk result (λ other. counter_of_sender other ≡ counter_of_sender self.now) }
+    {
+        let shared = Arc::try_clone(&self.shared)?;
+        self.shared.queue.lock(rt).join()?;
+        Ok(Sender { shared })
+    }
+
+    /// Sends no more. Where all senders have closed, the receiver is ready for ever, and is told by a ring where nothing waits.
+    ///
+    /// Refused with the number with which the counter refuses that ring; then the sender comes back, and hasn't closed.
+    pub fn close<R: Wait + Clock>(self, rt: &R) -> Result<(), CloseError<Self>>
+        ensures handed_back { IfErr result (λ refused. (refused.sender ≡ self) × C.rings (counter_of_sender self) (Err refused.errno)) }
+    {
+        let shared = &*self.shared;
+        let mut signal = shared.signal(rt);
+        let left = shared.queue.lock(rt).leave(&mut signal);
+        match left {
+            Ok(()) => Ok(()),
+            Err(errno) => Err(CloseError {
+                errno,
+                sender: self,
+            }),
+        }
+    }
+}
