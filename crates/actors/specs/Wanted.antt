@@ -1,19 +1,12 @@
 -- What an actor asks for.
-use Rattle.std.specs.Prelude.{Option, Some, None, unsigned_abs}
-use Rattle.event_manager.specs.Event.{Event}
-use Rattle.event_manager.specs.StepInput.{StepInput}
-use Rattle.event_manager.specs.StepInput.TheVariants.{Init, Event as event, Answer}
-use Rattle.event_manager.specs.Request.{Request}
-use Rattle.event_manager.specs.Request.TheVariants.{Add}
-use Rattle.vmm_sys.specs.EventFd.{descriptor_of}
-use Rattle.actors.specs.declared.mailbox.Mailbox.{Mailbox}
+use Rattle.std.specs.Prelude.{ℤ, Option, Some, None, unsigned_abs}
+use Rattle.event_loop.specs.declared.boxed_subscriber.StepInput.{StepInput}
+use Rattle.event_loop.specs.declared.boxed_subscriber.StepInput.TheVariants.{Init, Event, Answer}
+use Rattle.event_loop.specs.declared.events.Request.{Request}
+use Rattle.event_loop.specs.declared.events.Request.TheVariants.{Add}
 
--- the mailbox's counter with the set IN, which is 1, and data 0
-abbrev pub interest_in : Mailbox → Event
-interest_in mailbox = record { fd = unsigned_abs (descriptor_of mailbox.bell); payload = 0; set = 1 }
-
--- when it is added, the addition of its mailbox's event; then nothing
-abbrev pub wanted_on : Mailbox → StepInput → Option Request
-wanted_on mailbox Init = Some (Add (interest_in mailbox))
-wanted_on mailbox (event e) = None
-wanted_on mailbox (Answer answer) = None
+-- when it is added, the addition of its channel's descriptor for IN, which is 1, with data 0; then nothing
+abbrev pub wanted_on : ℤ → StepInput → Option Request
+wanted_on descriptor Init = Some (Add (record { fd = unsigned_abs descriptor; payload = 0; set = 1 }))
+wanted_on descriptor (Event e) = None
+wanted_on descriptor (Answer answer) = None

@@ -1,118 +1,70 @@
-//! The program `actors`: a greeter and a tally, which are boxed subscribers of one event manager. Names are sent to the
-//! greeter, which greets each and hands it on to the tally. Each run prints the same; arguments and input are ignored.
+//! The program `actors`: a greeter and a tally, which are boxed subscribers of one loop. Names are sent to the greeter, which greets
+//! each and hands it on to the tally, which counts them and then tells itself to say so. Each run prints the same; arguments and
+//! input are ignored.
 #![tactic(auto)]
 
-pub mod kinds;
-pub mod mailbox;
-pub mod system;
+pub mod greeter;
+pub mod tally;
 
-use event_manager::{
-    BoxedSubscriber, Error, EventManager, EventPoller, Ledgers, MutEventSubscriber, NamedCounter,
-    Result, StepSubscriber, WithLedgers, with_ledgers,
+use anyhow::Result;
+use channels::{Refusal, Sender, channel};
+use event_loop::{
+    BoxedSubscriber, EventLoop, EventPoller, MutEventSubscriber, StepSubscriber, SubscriberOps,
 };
-use kinds::{Greeter, Tally};
-use mailbox::{Deliver, Mailbox};
-use std::alloc::Global;
+use greeter::Greeter;
 use std::sync::Wait;
 use std::time::Clock;
-use system::ActorSystem;
+use tally::Tally;
 use vmm_sys::epoll::Epoll;
 use vmm_sys::eventfd::EventFd;
 
-/// What the program sends: each list, then a run.
+/// What the program sends: each list, then runs until nothing happens.
 const ROUNDS: [[&str; 2]; 2] = [["Ada", "Grace"], ["Edsger", "Barbara"]];
 
-/// Actors that are ready to run: all that they need but the manager, which is made of a counter and ledgers.
-struct Program<'a, S, R> {
-    rt: &'a R,
-    epoll: Epoll<R>,
-    actors: Vec<S>,
-    /// Where names are sent.
-    greeter: &'a Mailbox,
-}
+/// How many waits a round has at most.
+const MOST_WAITS: usize = 100;
 
-impl<S, R> WithLedgers for Program<'_, S, R>
-where
-    S: MutEventSubscriber + Drop,
-    R: Wait + Clock + Print + AllocGlobal + Clone + Send + Drop,
-{
-    type Output = Result<()>;
-
-    /// Makes the manager, takes the actors in, and sends the rounds.
-    fn run<N: NamedCounter + Send + Sync>(self, counter: N, ledgers: Ledgers<N>) -> Result<()> {
-        let Program {
-            rt,
-            epoll,
-            actors,
-            greeter,
-        } = self;
-        let manager = EventManager::<S, Deliver, N, _>::new(rt.alloc(), epoll, counter, ledgers)?;
-        let mut system = ActorSystem::new(manager)?;
-        play(&mut system, actors, greeter, rt)
+/// Runs until a wait reports nothing, or after 100 waits; answers how many events there were.
+fn run<S: MutEventSubscriber, P: EventPoller>(actors: &mut EventLoop<S, P>) -> Result<usize> {
+    let mut events: usize = 0;
+    for _wait in 0..MOST_WAITS {
+        let count = actors.run_with_timeout(0)?;
+        if count == 0 {
+            break;
+        }
+        events = events.saturating_add(count);
     }
+    Ok(events)
 }
 
-/// Takes the actors in. Then sends the rounds to the greeter, with a run after each, and prints how many events that run
-/// had.
-fn play<S, N, P, R>(
-    system: &mut ActorSystem<S, N, P>,
-    actors: Vec<S>,
-    greeter: &Mailbox,
+/// Sends the names of each round to the greeter, and prints how many events came of it.
+fn play<S: MutEventSubscriber, P: EventPoller, R: Wait + Clock + Print + AllocGlobal>(
+    actors: &mut EventLoop<S, P>,
+    greeter: &Sender<String>,
     rt: &R,
-) -> Result<()>
-where
-    S: MutEventSubscriber + Drop,
-    N: NamedCounter,
-    P: EventPoller,
-    R: Wait + Clock + Print + AllocGlobal,
-{
-    for actor in actors {
-        system.spawn(actor)?;
-    }
+) -> Result<()> {
     for names in ROUNDS {
         for name in names {
-            system.send(greeter, name, rt)?;
+            let name = String::from_str(rt.alloc(), name)?;
+            greeter.send(name, rt).map_err(|refused| refused.why)?;
         }
-        let events = system.run(rt)?;
-        let _ = println!(rt; "{events} events");
+        let events = run(actors)?;
+        println!(rt; "{events} events")?;
     }
     Ok(())
 }
 
-/// Makes the greeter and the tally; answers them, and the greeter's mailbox.
-fn make_actors<R: Wait + Clock + Copy + Send + Drop>(
-    epoll: &Epoll<R>,
-    alloc: Global,
-    rt: R,
-) -> Result<(Greeter<R>, Tally<R>, Mailbox)> {
-    let mailbox = Mailbox::new(epoll, alloc, &rt)?;
-    let tally = Mailbox::new(epoll, alloc, &rt)?;
-    let greeter = Greeter {
-        mailbox: mailbox.try_clone()?,
-        tally: tally.try_clone()?,
-        rt,
-    };
-    let tally = Tally {
-        mailbox: tally,
-        count: 0,
-        rt,
-    };
-    Ok((greeter, tally, mailbox))
-}
-
 fn main(rt: HostRuntime) -> Result<()> {
     let alloc = rt.alloc();
-    let epoll = Epoll::new(rt, alloc).map_err(Error::Epoll)?;
-    let counter = EventFd::new(&epoll, 0, &rt).map_err(Error::EventFd)?;
-    let (first, second, greeter) = make_actors(&epoll, alloc, rt)?;
-    let first: Box<dyn StepSubscriber + Send> = Box::new(alloc, first)?;
-    let second: Box<dyn StepSubscriber + Send> = Box::new(alloc, second)?;
-    let actors = vec![in alloc; BoxedSubscriber(first), BoxedSubscriber(second)]?;
-    let program = Program {
-        rt: &rt,
-        epoll,
-        actors,
-        greeter: &greeter,
-    };
-    with_ledgers(counter, program)
+    let epoll = Epoll::new(rt, alloc)?;
+    let (to_greeter, names) = channel(EventFd::new(&epoll, 0, &rt)?, alloc)?;
+    let (to_tally, greeted) = channel(EventFd::new(&epoll, 0, &rt)?, alloc)?;
+    let tally = Tally::new(greeted, to_tally.try_clone(&rt)?, rt);
+    let greeter = Greeter::new(names, to_tally, rt);
+    let mut actors = EventLoop::new(alloc, epoll)?;
+    let greeter: Box<dyn StepSubscriber + Send> = Box::new(alloc, greeter)?;
+    let tally: Box<dyn StepSubscriber + Send> = Box::new(alloc, tally)?;
+    actors.add_subscriber(BoxedSubscriber(greeter))?;
+    actors.add_subscriber(BoxedSubscriber(tally))?;
+    play(&mut actors, &to_greeter, &rt)
 }

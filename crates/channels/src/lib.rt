@@ -10,6 +10,7 @@ mod errors;
 pub mod queue;
 mod receiver;
 mod sender;
+mod shared;
 
 pub use ends::{channel, sync_channel};
 pub use errors::{CloseError, Refusal, SendError};

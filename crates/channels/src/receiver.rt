@@ -2,7 +2,7 @@
 
 ghost use Rattle.std.specs.Prelude.{◌≡◌, ◌++◌, List, OnErr};
 
-use crate::ends::Shared;
+use crate::shared::Shared;
 use std::alloc::AllocError;
 use std::sync::{Arc, Wait};
 use std::time::Clock;

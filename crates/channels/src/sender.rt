@@ -3,8 +3,8 @@
 ghost use Rattle.std.specs.Prelude.{◌≡◌, Err, IfOk, IfErr};
 ghost use Rattle.channels.specs.Ends.{counter_of_sender, IsSendRefusal};
 
-use crate::ends::Shared;
 use crate::errors::{CloseError, SendError};
+use crate::shared::Shared;
 use std::alloc::AllocError;
 use std::sync::{Arc, Wait};
 use std::time::Clock;
