@@ -1,3 +1,4 @@
 pub mod Messages
 pub mod RefusalText
 pub mod Ends
+pub mod Steps

@@ -1,5 +1,6 @@
 -- The messages of a channel, and what each call does to them, and to the signal that tells the receiver.
-use Rattle.std.specs.Prelude.{◌≡◌, ◌-◌, ◌++◌, ◌∷◌, [], ℕ, Bool, true, false, not, ◌&&◌, ◌||◌, ◌==◌, nat_lt, List, length, Option, None, Some, MatchBool, Result, Ok, Err}
+use Rattle.std.specs.Prelude.{◌≡◌, ◌<◌, ◌+◌, ◌-◌, ◌++◌, ◌∷◌, [], ℕ, Bool, true, false, not, ◌&&◌, ◌||◌, ◌==◌, nat_lt, List, length, Option, None, Some, MatchBool, Result, Ok, Err}
+use Rattle.std.specs.declared.alloc.AllocError.{AllocError}
 use Rattle.vmm_sys.specs.declared.errno.Errno.{Errno}
 use Rattle.channels.specs.declared.errors.Refusal.{Refusal}
 use Rattle.channels.specs.declared.errors.Refusal.TheVariants.{Closed, Full, OutOfMemory, EventFd}
@@ -19,6 +20,10 @@ has_room None count = true
 has_room (Some most) count = nat_lt count most
 
 module _ {M : Type 0} where
+  -- an open queue of one sender in which nothing waits
+  abbrev pub new_messages : Option ℕ → Messages M
+  new_messages most = record { waiting = []; most = most; senders = 1; is_open = true }
+
   -- there is something to tell the receiver: messages wait, or all senders have closed
   abbrev pub is_ready : Messages M → Bool
   is_ready q = q.is_open && (not (length q.waiting == 0) || (q.senders == 0))
@@ -29,6 +34,25 @@ module _ {M : Type 0} where
 
   abbrev pub with_message : Messages M → M → Messages M
   with_message q message = record q { waiting = q.waiting ++ message ∷ [] }
+
+  -- all that waits is moved behind what a list has; or nothing is moved
+  abbrev pub IsTaken : Messages M → List M → Result (Unit {0}) AllocError → Messages M → List M → Type 0
+  IsTaken q before (Ok _) r after = (after ≡ before ++ q.waiting) × (r ≡ record q { waiting = [] })
+  IsTaken q before (Err _) r after = (after ≡ before) × (r ≡ q)
+
+  -- the message that waited longest waits no more; or none waits
+  abbrev pub IsReceived : Messages M → Option M → Messages M → Type 0
+  IsReceived q (Some message) r = (q.waiting ≡ message ∷ r.waiting) × (r ≡ record q { waiting = r.waiting })
+  IsReceived q None r = (q.waiting ≡ []) × (r ≡ q)
+
+  -- all that waits is handed out, and no message is taken in from now on
+  abbrev pub IsClosed : Messages M → List M → Messages M → Type 0
+  IsClosed q all r = (all ≡ q.waiting) × (r ≡ record q { waiting = []; is_open = false })
+
+  -- one sender more beside at least one; or the senders are as before
+  abbrev pub IsJoined : Messages M → Result (Unit {0}) AllocError → Messages M → Type 0
+  IsJoined q (Ok _) r = (0 < q.senders) × (r ≡ record q { senders = q.senders + 1 })
+  IsJoined q (Err _) r = r ≡ q
 
 module _ {M S : Type 0} (raises : S → Result (Unit {0}) Errno → S → Type 0) where
   -- the signal is raised where there is nothing to tell, and left alone where there is something

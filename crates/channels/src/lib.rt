@@ -7,6 +7,7 @@
 
 mod ends;
 mod errors;
+pub mod laws;
 pub mod queue;
 mod receiver;
 mod sender;

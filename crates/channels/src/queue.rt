@@ -1,7 +1,7 @@
 //! The messages of a channel, without a lock.
 
-ghost use Rattle.std.specs.Prelude.{◌≡◌, ◌+◌, ◌-◌, ◌++◌, ◌∷◌, [], false, length, None, Some, IfOk, OnOk, OnErr, MatchOption, MatchBool, not, ◌&&◌, ◌<◌, true};
-ghost use Rattle.channels.specs.Messages.{has_room, is_over, is_ready, with_message, IsTold, IsSend, IsLeave, IsSettled};
+ghost use Rattle.std.specs.Prelude.{◌≡◌, length, IfOk, MatchBool, not, ◌&&◌};
+ghost use Rattle.channels.specs.Messages.{has_room, is_over, is_ready, new_messages, IsTold, IsSend, IsLeave, IsTaken, IsReceived, IsClosed, IsJoined, IsSettled};
 
 use crate::errors::{Refusal, SendError};
 use std::alloc::{AllocError, Global};
@@ -59,7 +59,7 @@ impl<M> Model for MessageQueue<M> {
 impl<M> MessageQueue<M> {
     /// An open queue of one sender in which nothing waits, without a bound.
     pub fn new(alloc: Global) -> Self
-        ensures { result ≡ record { waiting = []; most = None; senders = 1; is_open = true } }
+        ensures { result ≡ new_messages None }
     {
         MessageQueue {
             waiting: VecDeque::new(alloc),
@@ -71,7 +71,7 @@ impl<M> MessageQueue<M> {
 
     /// An open queue of one sender in which nothing waits, with room for so many messages, which is made here once for all.
     pub fn with_room(alloc: Global, most: usize) -> Result<Self, AllocError>
-        ensures { IfOk result (λ q. q ≡ record { waiting = []; most = Some most; senders = 1; is_open = true }) }
+        ensures { IfOk result (λ q. q ≡ new_messages (Some most)) }
     {
         Ok(MessageQueue {
             waiting: VecDeque::with_capacity(alloc, most)?,
@@ -157,8 +157,7 @@ impl<M> MessageQueue<M> {
     /// Moves all that waits behind what the list has, in order. Refused for want of memory in the list alone: then nothing is
     /// moved. Lowers the signal where nothing is to be told any more.
     pub fn take<S: Signal>(&mut self, into: &mut Vec<M>, signal: &mut S) -> Result<(), AllocError>
-        ensures taken { OnOk result ((into.new.items ≡ into.old.items ++ self.old.waiting) × (self.new ≡ record self.old { waiting = [] })) }
-        ensures refused { OnErr result ((into.new.items ≡ into.old.items) × (self.new ≡ self.old)) }
+        ensures taken { IsTaken self.old into.old.items result self.new into.new.items }
         ensures settled { IsSettled S.lowers self.old signal.old self.new signal.new }
     {
         let was_ready = self.is_ready();
@@ -172,8 +171,7 @@ impl<M> MessageQueue<M> {
 
     /// The message that has waited longest; none where none waits. Lowers the signal as a take does.
     pub fn receive<S: Signal>(&mut self, signal: &mut S) -> Option<M>
-        ensures first { MatchOption result (self.old.waiting ≡ []) (λ message. self.old.waiting ≡ message ∷ self.new.waiting) }
-        ensures rest { self.new ≡ record self.old { waiting = self.new.waiting } }
+        ensures received { IsReceived self.old result self.new }
         ensures settled { IsSettled S.lowers self.old signal.old self.new signal.new }
     {
         let was_ready = self.is_ready();
@@ -185,8 +183,7 @@ impl<M> MessageQueue<M> {
     /// Takes no message in from now on, and hands out all that wait, in order. Lowers the signal where there was something to
     /// tell.
     pub fn close<S: Signal>(&mut self, signal: &mut S) -> Vec<M>
-        ensures handed_out { result.items ≡ self.old.waiting }
-        ensures closed { self.new ≡ record self.old { waiting = []; is_open = false } }
+        ensures closed { IsClosed self.old result.items self.new }
         ensures settled { IsSettled S.lowers self.old signal.old self.new signal.new }
     {
         let was_ready = self.is_ready();
@@ -199,9 +196,7 @@ impl<M> MessageQueue<M> {
 
     /// Counts one sender more. Refused where none is left, and past 18446744073709551615.
     pub fn join(&mut self) -> Result<(), AllocError>
-        ensures joined { OnOk result (self.new ≡ record self.old { senders = self.old.senders + 1 }) }
-        ensures left { OnOk result (0 < self.old.senders) }
-        ensures refused { OnErr result (self.new ≡ self.old) }
+        ensures { IsJoined self.old result self.new }
     {
         let senders = match self.senders {
             0 | u64::MAX => return Err(AllocError),

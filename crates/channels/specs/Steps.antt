@@ -1,0 +1,46 @@
+-- Lists of steps on a queue of messages and on the counter that tells its receiver.
+use Rattle.std.specs.Prelude.{◌≡◌, ◌<◌, ◌+◌, ℕ, true, List, [], ◌∷◌, Option, Result, Ok, Err}
+use Rattle.std.specs.declared.alloc.AllocError.{AllocError}
+use Rattle.vmm_sys.specs.declared.errno.Errno.{Errno}
+use Rattle.channels.specs.Messages.{Messages, new_messages, IsSend, IsLeave, IsTaken, IsReceived, IsClosed, IsJoined, IsSettled}
+use Rattle.channels.specs.declared.errors.SendError.{SendError}
+use Rattle.channels.specs.declared.laws.Step.{Step}
+use Rattle.channels.specs.declared.laws.Step.TheVariants.{Send, Ring, Take, Receive, Close, Join, Leave}
+
+-- the messages, and the value of the counter that tells their receiver
+pub record Told (M : Type 0) : Type 0 where
+  pub messages : Messages M
+  pub value : ℕ
+
+-- a ring adds one to the value, or is refused
+abbrev pub raises : ℕ → Result (Unit {0}) Errno → ℕ → Type 0
+raises value (Ok _) after = after ≡ value + 1
+raises value (Err _) after = after ≡ value
+
+-- a clear makes it 0
+abbrev pub lowers : ℕ → ℕ → Type 0
+lowers value after = after ≡ 0
+
+module _ {M : Type 0} where
+  -- a new queue, and a counter that nobody rang
+  abbrev pub new_told : Option ℕ → Told M
+  new_told most = record { messages = new_messages most; value = 0 }
+
+  -- a step does what the queue promises of its call, whatever that answers; a ring by somebody else leaves the messages
+  abbrev pub StepsTo : Step M → Told M → Told M → Type 0
+  StepsTo (Send message) before after = (answer : Result (Unit {0}) (SendError M)) × IsSend raises before.messages before.value message answer after.messages after.value
+  StepsTo Ring before after = (answer : Result (Unit {0}) Errno) × raises before.value answer after.value × (after.messages ≡ before.messages)
+  StepsTo Take before after = (list : List M) × (answer : Result (Unit {0}) AllocError) × (longer : List M) × IsTaken before.messages list answer after.messages longer × IsSettled lowers before.messages before.value after.messages after.value
+  StepsTo Receive before after = (answer : Option M) × IsReceived before.messages answer after.messages × IsSettled lowers before.messages before.value after.messages after.value
+  StepsTo Close before after = (all : List M) × IsClosed before.messages all after.messages × IsSettled lowers before.messages before.value after.messages after.value
+  StepsTo Join before after = (answer : Result (Unit {0}) AllocError) × IsJoined before.messages answer after.messages × (after.value ≡ before.value)
+  StepsTo Leave before after = (answer : Result (Unit {0}) Errno) × IsLeave raises before.messages before.value answer after.messages after.value
+
+  -- each step from where the one before it led
+  abbrev pub AreSteps : Told M → List (Step M) → Told M → Type 0
+  AreSteps before [] after = after ≡ before
+  AreSteps before (step ∷ steps) after = (between : Told M) × StepsTo step before between × AreSteps between steps after
+
+  -- while the counter's value is 0, no message waits in an open queue, and not all senders have closed
+  abbrev pub NoWakeUpIsLost : Told M → Type 0
+  NoWakeUpIsLost told = told.value ≡ 0 → told.messages.is_open ≡ true → (told.messages.waiting ≡ []) × (0 < told.messages.senders)
