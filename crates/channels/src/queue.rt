@@ -46,7 +46,6 @@ pub struct MessageQueue<M> {
 impl<M> Model for MessageQueue<M> {
     ghost use Rattle.std.specs.Prelude.{◌≡◌, ◌≤◌, true, false, [], IfSome};
     ghost use Rattle.std.specs.VecDeque.{deque_capacity};
-    ghost use Rattle.vmm_sys.specs.declared.errno.Errno.{Errno};
     ghost use Rattle.channels.specs.Messages.{Messages};
 
     ghost Value = { Messages M };
