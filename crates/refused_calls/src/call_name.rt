@@ -9,6 +9,8 @@ pub enum CallName {
     AddLine,
     AddSubscriber,
     CallBlocking,
+    Channel,
+    ChannelSend,
     Drive,
     EpollNew,
     EpollTryClone,
@@ -52,9 +54,12 @@ pub enum CallName {
     ReplayedCalls,
     Report,
     Run,
+    SenderTryClone,
     SubscriberMut,
+    SyncChannel,
     TableCtl,
     TableWait,
+    Take,
     WithSenders,
 }
 
@@ -65,6 +70,8 @@ impl CallName {
             CallName::AddLine => "add_line",
             CallName::AddSubscriber => "add_subscriber",
             CallName::CallBlocking => "call_blocking",
+            CallName::Channel => "channel",
+            CallName::ChannelSend => "Sender::send",
             CallName::Drive => "drive",
             CallName::EpollNew => "Epoll::new",
             CallName::EpollTryClone => "Epoll::try_clone",
@@ -108,9 +115,12 @@ impl CallName {
             CallName::ReplayedCalls => "a replay of calls",
             CallName::Report => "a report",
             CallName::Run => "run",
+            CallName::SenderTryClone => "Sender::try_clone",
             CallName::SubscriberMut => "subscriber_mut",
+            CallName::SyncChannel => "sync_channel",
             CallName::TableCtl => "Table::ctl",
             CallName::TableWait => "Table::wait",
+            CallName::Take => "Receiver::take",
             CallName::WithSenders => "with_senders",
         }
     }

@@ -1,12 +1,14 @@
-//! Makes each call of tables, scripts and records that requests memory, and prints what it finally answered: the calls of
-//! `vmm_sys` ([`refused_calls`] says how).
+//! Makes each call of tables, scripts, records and channels that requests memory, and prints what it finally answered: the calls
+//! of `vmm_sys` and `channels` ([`refused_calls`] says how).
 #![tactic(auto)]
 
 pub mod descriptors;
+pub mod messages;
 pub mod recording;
 pub mod tables;
 
 use descriptors::open_descriptors;
+use messages::send_messages;
 use recording::record_and_replay;
 use refused_calls::fault::Fault;
 use refused_calls::host::Host;
@@ -18,7 +20,8 @@ fn make_all_calls<R: Host>(rt: &R, alloc: Global) -> Result<(), Fault> {
     open_descriptors(rt, alloc)?;
     wait_on_a_table(rt, alloc)?;
     push_a_script(rt, alloc)?;
-    record_and_replay(rt, alloc)
+    record_and_replay(rt, alloc)?;
+    send_messages(rt, alloc)
 }
 
 fn main(rt: HostRuntime) -> ExitCode {
