@@ -8,11 +8,13 @@ use std::alloc::Global;
 use std::process::Abort;
 use std::thread;
 
+/// How many channels the test makes.
 const ROUNDS: u64 = 300;
 
 /// How many messages a thread sends at most.
 const MESSAGES: u64 = 1000;
 
+/// How many threads send.
 const SENDERS: usize = 3;
 
 /// Sends numbers from this one up until one is refused, and expects it back: how many were agreed to.

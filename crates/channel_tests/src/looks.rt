@@ -2,8 +2,7 @@
 
 use crate::expecting::{expect_ok, expect_same};
 use crate::host::Looping;
-use channels::{Receiver, Sender, channel};
-use std::process::Abort;
+use channels::{Receiver, channel};
 use std::sync::Wait;
 use std::sync::atomic::{AtomicBool, Ordering};
 use std::thread;

@@ -9,9 +9,13 @@ use std::process::Abort;
 use std::thread::JoinHandle;
 use std::{hint, thread};
 
+/// How many channels a test makes.
+const ROUNDS: u64 = 20;
+
 /// How many messages each thread sends.
 const MESSAGES: u64 = 1000;
 
+/// How many threads send.
 const SENDERS: u64 = 3;
 
 /// For how many turns a thread rests between two sends at most, so that they come at each point of a take.
@@ -85,26 +89,40 @@ fn expect_all<R: Abort>(rt: &R, list: &[u64]) {
     }
 }
 
-#[test]
-fn what_threads_send_is_taken_once_and_in_order(rt: HostRuntime) {
-    let (sender, mut watched) = open(rt, rt.alloc(), 0);
-    let started = start_all(rt, rt.alloc(), sender);
-    let list = take_all(&rt, rt.alloc(), &mut watched);
+/// Takes all that three threads send over a new channel.
+fn take_beside_senders<R: Host>(rt: R, alloc: Global) {
+    let (sender, mut watched) = open(rt, alloc, 0);
+    let started = start_all(rt, alloc, sender);
+    let list = take_all(&rt, alloc, &mut watched);
     for thread in started {
         thread.join(&rt);
     }
     expect_all(&rt, list.as_slice());
-    watched.expect_taken(&rt, rt.alloc(), &[]);
+    expect_same(&rt, &watched.receiver.pending(), &Some(0));
 }
 
-#[test]
-fn what_threads_send_is_received_once_and_in_order(rt: HostRuntime) {
-    let (sender, mut watched) = open(rt, rt.alloc(), 0);
-    let started = start_all(rt, rt.alloc(), sender);
-    let list = receive_all(&rt, rt.alloc(), &mut watched);
+/// As [`take_beside_senders`], by one message for each wait.
+fn receive_beside_senders<R: Host>(rt: R, alloc: Global) {
+    let (sender, mut watched) = open(rt, alloc, 0);
+    let started = start_all(rt, alloc, sender);
+    let list = receive_all(&rt, alloc, &mut watched);
     for thread in started {
         thread.join(&rt);
     }
     expect_all(&rt, list.as_slice());
     expect_same(&rt, &watched.receiver.is_over(&rt), &true);
+}
+
+#[test]
+fn what_threads_send_is_taken_once_and_in_order(rt: HostRuntime) {
+    for _round in 0..ROUNDS {
+        take_beside_senders(rt, rt.alloc());
+    }
+}
+
+#[test]
+fn what_threads_send_is_received_once_and_in_order(rt: HostRuntime) {
+    for _round in 0..ROUNDS {
+        receive_beside_senders(rt, rt.alloc());
+    }
 }
