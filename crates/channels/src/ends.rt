@@ -26,7 +26,8 @@ fn ends_of<M: Drop, C: Counter + Drop>(
 }
 
 /// A channel without a bound. Its receiver has the descriptor of the counter, which nobody else rings or clears, and whose value
-/// is 0. Refused for want of memory; then the counter is dropped.
+/// is 0. It is rung and cleared under the channel's lock, so one of your own may not send to the channel in its ring. Refused for
+/// want of memory; then the counter is dropped.
 pub fn channel<M: Drop, C: Counter + Drop>(
     counter: C,
     alloc: Global,
