@@ -44,9 +44,12 @@ pub(crate) struct CounterSignal<'a, C, R> {
 }
 
 impl<C: Counter, R: Wait + Clock> Signal for CounterSignal<'_, C, R> {
+    ghost use Rattle.std.specs.Prelude.{ℕ, Result};
+    ghost use Rattle.vmm_sys.specs.declared.errno.Errno.{Errno};
+
     ghost raises = { λ v answer w. C.rings v.counter.now answer };
 
-    ghost lowers = { λ v w. Unit {0} };
+    ghost lowers = { λ v w. (answer : Result ℕ Errno) × C.clears v.counter.now answer };
 
     fn raise(&mut self) -> Result<(), Errno> {
         self.counter.ring(self.rt)
