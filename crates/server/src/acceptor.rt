@@ -4,6 +4,7 @@ ghost use Rattle.std.specs.Prelude.{◌≡◌};
 ghost use Rattle.server.specs.Peers.{statistics_of as said_by};
 
 use crate::connection::Connection;
+use channels::Sender;
 use event_manager::{
     Either, Error, EventOps, EventPoller, EventSet, Events, Job, MutEventSubscriber, Registry,
     Result, SubscriberId, SubscriberOps,
@@ -18,7 +19,7 @@ pub type Peer<R> = Either<Acceptor<R>, Connection<R>>;
 /// What came of the connections so far.
 #[derive(Clone, Copy, PartialEq, Eq, Debug)]
 pub struct Statistics {
-    /// How many have joined.
+    /// How many were accepted, and let join.
     pub joined: u64,
     /// How many of them have left.
     pub left: u64,
@@ -26,28 +27,33 @@ pub struct Statistics {
     pub bytes: u64,
 }
 
-/// Accepts a connection at each event of its listener, and keeps it until the loop lets it join.
+/// Accepts a connection at each event of its listener, and sends it to the loop, which lets it join.
 #[derive(Drop)]
 pub struct Acceptor<R> {
     listener: EventFd,
     knocks: Events,
     // Who comes next, the last first.
     coming: Vec<Connection<R>>,
-    accepted: Option<Connection<R>>,
+    accepted: Sender<Connection<R>>,
     statistics: Statistics,
     asked: Result<()>,
     rt: R,
 }
 
-impl<R: Wait + Drop> Acceptor<R> {
-    /// An acceptor to which these come, the last first.
-    pub fn new(listener: EventFd, coming: Vec<Connection<R>>, rt: R) -> Self {
+impl<R: Drop> Acceptor<R> {
+    /// An acceptor to which these come, the last first, and which sends them there.
+    pub fn new(
+        listener: EventFd,
+        coming: Vec<Connection<R>>,
+        accepted: Sender<Connection<R>>,
+        rt: R,
+    ) -> Self {
         let knocks = Events::new(&listener, EventSet::IN);
         Acceptor {
             listener,
             knocks,
             coming,
-            accepted: None,
+            accepted,
             statistics: Statistics {
                 joined: 0,
                 left: 0,
@@ -58,13 +64,6 @@ impl<R: Wait + Drop> Acceptor<R> {
         }
     }
 
-    /// Who was accepted and has not joined yet. From now on it counts as joined.
-    pub fn take_accepted(&mut self) -> Option<Connection<R>> {
-        let connection = self.accepted.take()?;
-        self.statistics.joined = self.statistics.joined.saturating_add(1);
-        Some(connection)
-    }
-
     /// Counts one that left.
     pub fn count_left(&mut self, connection: &Connection<R>) {
         let Statistics { left, bytes, .. } = &mut self.statistics;
@@ -73,21 +72,29 @@ impl<R: Wait + Drop> Acceptor<R> {
     }
 }
 
-impl<R: Wait + Drop> MutEventSubscriber for Acceptor<R> {
-    ghost use Rattle.std.specs.Prelude.{◌≡◌, [], ◌∷◌, ◌++◌, MatchOption};
+impl<R: Wait + Clock + Drop> MutEventSubscriber for Acceptor<R> {
+    ghost use Rattle.std.specs.Prelude.{◌≡◌, ◌⊎◌, Option, option_to_list, [], ◌∷◌, ◌++◌};
+    ghost use Rattle.event_manager.specs.CounterEvents.{next_count};
     ghost use Rattle.event_manager.specs.Exchange.{AsksNothing};
+    ghost use Rattle.server.specs.declared.connection.Connection.{Connection};
     ghost use Rattle.event_manager.specs.Request.TheVariants.{Add};
 
     // It asks to add its listener, and keeps the answer.
     ghost begins = { λ v exchanges w. (exchanges ≡ (Add v.knocks, w.asked) ∷ []) × (w ≡ record v { asked = w.asked }) };
 
-    // It asks for nothing, and accepts who comes next, if anybody.
-    ghost serves = { λ v event exchanges w. AsksNothing exchanges × (w ≡ record v { coming = w.coming; accepted = w.accepted })
-        × MatchOption w.accepted (v.coming.items ≡ []) (λ next. v.coming.items ≡ w.coming.items ++ next ∷ []) };
+    // It asks for nothing, and accepts who comes next, if anybody; that one is counted, where the loop is sent it.
+    ghost serves = { λ v event exchanges w. AsksNothing exchanges × (w ≡ record v { coming = w.coming; statistics = w.statistics })
+        × ((next : Option (Connection R)) × (v.coming.items ≡ w.coming.items ++ option_to_list next))
+        × ((w.statistics ≡ v.statistics) ⊎ (w.statistics ≡ record v.statistics { joined = next_count v.statistics.joined })) };
 
     fn process<P: EventPoller>(&mut self, _events: Events, _ops: &mut EventOps<P>) {
         let _ = self.listener.read(&self.rt);
-        self.accepted = self.coming.pop();
+        let Some(connection) = self.coming.pop() else {
+            return;
+        };
+        if self.accepted.send(connection, &self.rt).is_ok() {
+            self.statistics.joined = self.statistics.joined.saturating_add(1);
+        }
     }
 
     fn init<P: EventPoller>(&mut self, ops: &mut EventOps<P>) {
@@ -109,7 +116,7 @@ fn statistics_of<R>(peer: &Peer<R>) -> Result<Statistics>
 #[derive(Drop)]
 pub struct ReadStatistics(pub SubscriberId);
 
-impl<R: Wait + Drop> Job<Peer<R>> for ReadStatistics {
+impl<R: Wait + Clock + Drop> Job<Peer<R>> for ReadStatistics {
     type Reply = Result<Statistics>;
 
     ghost use Rattle.std.specs.Prelude.{◌≡◌, [], ◌∷◌, ◌⊎◌, Err};

@@ -1,7 +1,7 @@
 //! A small server: an acceptor, connections that end by a hang-up or when they were idle for too long, and a client on a
 //! thread of its own, which asks for statistics.
 //!
-//! It shows how a subscriber brings others: the acceptor keeps whom it has accepted, and the loop lets them join between
+//! It shows how a subscriber brings others: the acceptor sends whom it has accepted to the loop, which lets them join between
 //! two of its runs, as it lets those leave that are over.
 #![tactic(auto)]
 

@@ -4,6 +4,7 @@ use crate::acceptor::{Acceptor, Peer, ReadStatistics};
 use crate::client::Client;
 use crate::connection::{Connection, Wire};
 use crate::fault::Fault;
+use channels::{Receiver, Sender, channel};
 use event_manager::{
     Either, Error, EventManager, EventPoller, LoopWithSenders, NamedCounter, Result, Senders,
     SubscriberId, SubscriberOps,
@@ -16,27 +17,29 @@ use vmm_sys::eventfd::EventFd;
 
 /// A server of two connections, and its client.
 #[derive(Drop)]
-pub struct Server {
+pub struct Server<R> {
     listener: EventFd,
     first: Wire,
     second: Wire,
     acceptor: Option<SubscriberId>,
     members: Vec<SubscriberId>,
+    // Whom the acceptor has accepted, and the end by which it sends them.
+    accepted: Receiver<Connection<R>>,
+    to_loop: Sender<Connection<R>>,
 }
 
-impl Server {
+impl<R: Wait + Clock + Clone + Send + Drop> Server<R> {
     /// A server that nobody has joined.
-    pub fn new<R: Wait + Clock + Clone + Send + Drop>(
-        rt: &R,
-        alloc: Global,
-        epoll: &Epoll<R>,
-    ) -> std::result::Result<Self, Fault> {
+    pub fn new(rt: &R, alloc: Global, epoll: &Epoll<R>) -> std::result::Result<Self, Fault> {
+        let (to_loop, accepted) = channel(EventFd::new(epoll, 0, rt)?, alloc).map_err(Error::from)?;
         Ok(Server {
             listener: EventFd::new(epoll, 0, rt)?,
             first: Wire::new(epoll, rt)?,
             second: Wire::new(epoll, rt)?,
             acceptor: None,
             members: Vec::new(alloc),
+            accepted,
+            to_loop,
         })
     }
 }
@@ -44,24 +47,20 @@ impl Server {
 /// The loop of peers, its jobs and its poller.
 type Loop<N, R, P> = EventManager<Peer<R>, ReadStatistics, N, P>;
 
-/// Who was accepted, if any, joins.
-fn let_join<N: NamedCounter, R: Wait + Drop, P: EventPoller>(
+/// Those who were accepted join.
+fn let_join<N: NamedCounter, R: Wait + Clock + Drop, P: EventPoller>(
     manager: &mut Loop<N, R, P>,
-    acceptor: SubscriberId,
+    accepted: Vec<Connection<R>>,
     members: &mut Vec<SubscriberId>,
 ) -> Result<()> {
-    let accepted = match manager.subscriber_mut(acceptor)? {
-        Either::First(acceptor) => acceptor.take_accepted(),
-        Either::Second(_) => None,
-    };
-    if let Some(connection) = accepted {
+    for connection in accepted {
         members.push(manager.add_subscriber(Either::Second(connection))?)?;
     }
     Ok(())
 }
 
 /// A member that is over leaves.
-fn let_leave<N: NamedCounter, R: Wait + Drop, P: EventPoller>(
+fn let_leave<N: NamedCounter, R: Wait + Clock + Drop, P: EventPoller>(
     manager: &mut Loop<N, R, P>,
     acceptor: SubscriberId,
     member: SubscriberId,
@@ -84,7 +83,7 @@ fn let_leave<N: NamedCounter, R: Wait + Drop, P: EventPoller>(
 }
 
 impl<R: Wait + Clock + Print + Copy + Drop> LoopWithSenders<Peer<R>, ReadStatistics, Client, R>
-    for Server {
+    for Server<R> {
     fn begin<N: NamedCounter, P: EventPoller>(
         &mut self,
         rt: &R,
@@ -96,7 +95,9 @@ impl<R: Wait + Clock + Print + Copy + Drop> LoopWithSenders<Peer<R>, ReadStatist
         coming.push(Connection::new(second, *rt))?;
         coming.push(Connection::new(first, *rt))?;
         let listener = self.listener.try_clone().map_err(Error::EventFd)?;
-        let acceptor = manager.add_subscriber(Either::First(Acceptor::new(listener, coming, *rt)))?;
+        let to_loop = self.to_loop.try_clone(rt)?;
+        let acceptor = Acceptor::new(listener, coming, to_loop, *rt);
+        let acceptor = manager.add_subscriber(Either::First(acceptor))?;
         self.acceptor = Some(acceptor);
         let client = Client {
             listener: self.listener.try_clone().map_err(Error::EventFd)?,
@@ -121,7 +122,9 @@ impl<R: Wait + Clock + Print + Copy + Drop> LoopWithSenders<Peer<R>, ReadStatist
                 break;
             }
             manager.run(rt)?;
-            let_join(manager, acceptor, &mut self.members)?;
+            let mut accepted = Vec::new(*self.members.allocator());
+            self.accepted.take(&mut accepted, rt)?;
+            let_join(manager, accepted, &mut self.members)?;
             for member in &self.members {
                 let_leave(manager, acceptor, *member)?;
             }
