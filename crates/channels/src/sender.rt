@@ -36,7 +36,8 @@ impl<M: Drop, C: Counter + Drop> Sender<M, C> {
         shared.queue.lock(rt).send(message, &mut signal)
     }
 
-    /// Another sender to the same receiver. Refused for want of memory, and past 2^64 senders; then nothing changed.
+    /// Another sender to the same receiver. Refused for want of memory, and where 18446744073709551615 haven't closed; then
+    /// nothing changed.
     pub fn try_clone<R: Wait>(&self, rt: &R) -> Result<Self, AllocError>
         ensures same_counter { IfOk result (λ other. counter_of_sender other ≡ counter_of_sender self.now) }
     {
