@@ -1,4 +1,5 @@
 pub mod Closing
+pub mod FirstReady
 pub mod Firsts
 pub mod Held
 pub mod InPlace

@@ -48,7 +48,7 @@ Walked-start p f before ys marks = record {
 abbrev pub NoneIn : (Interest → Bool) → List (Option Interest) → Type 0
 NoneIn p slots = (t : ℕ) → passes p (slot_at slots t) ≡ false
 
-none_find : (p : Interest → Bool) (slots : List (Option Interest)) → NoneIn p slots → find p (held slots) ≡ None
+pub none_find : (p : Interest → Bool) (slots : List (Option Interest)) → NoneIn p slots → find p (held slots) ≡ None
 none_find p [] h = refl
 none_find p (None ∷ slots) h = none_find p slots (λ t. h (suc t))
 none_find p (Some i ∷ slots) h = let e : p i ≡ false = h 0 in simp e (none_find p slots (λ t. h (suc t)))

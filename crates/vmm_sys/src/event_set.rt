@@ -4,37 +4,84 @@ ghost use Rattle.std.specs.Prelude.{⊤, ◌≡◌, ◌==◌, [], ◌∷◌, cod
 ghost use Rattle.std.specs.Int.RustNames.{bit_and, bit_or};
 ghost use Rattle.bitflags.specs.Sets.{without};
 
-use bitflags::{Flag, Flags, bitflag_items};
+mod formats;
+mod operators;
+
+use bitflags::{Flag, Flags};
 
 /// A set of events and of modes, as `epoll` numbers them.
 ///
-/// Ten bits have names. Others come only through [`EventSet::from_bits_retain`], and are kept.
+/// Ten bits have names. Others come only through [`EventSet::from_bits_retain`], and are kept. `|`, `&`, `-` and `^` are
+/// union, intersection, difference and symmetric difference; `!` gives the named bits that are not in a set.
 #[derive(Clone, Copy, PartialEq, Eq, Debug)]
 pub struct EventSet(u32);
 
-bitflag_items! {
-    impl EventSet: u32 {
-        /// There is something to read.
-        const IN = 0x1;
-        /// There is something urgent to read.
-        const PRIORITY = 0x2;
-        /// A write would not have to wait.
-        const OUT = 0x4;
-        /// An error; reported whether it is wanted or not.
-        const ERROR = 0x8;
-        /// Hang up; reported whether it is wanted or not.
-        const HANG_UP = 0x10;
-        /// The other side writes no more.
-        const READ_HANG_UP = 0x2000;
-        /// A mode: one of several waiters is woken.
-        const EXCLUSIVE = 0x1000_0000;
-        /// A mode: the system stays awake while the event is served.
-        const WAKE_UP = 0x2000_0000;
-        /// A mode: the interest is off after one report.
-        const ONE_SHOT = 0x4000_0000;
-        /// A mode: changes are reported, and not states.
-        const EDGE_TRIGGERED = 0x8000_0000;
-    }
+// Written out: `bitflag_items!` would give the operators too, without a clause.
+impl EventSet {
+    /// There is something to read.
+    pub const IN: EventSet = EventSet(0x1);
+    /// There is something urgent to read.
+    pub const PRIORITY: EventSet = EventSet(0x2);
+    /// A write would not have to wait.
+    pub const OUT: EventSet = EventSet(0x4);
+    /// An error; reported whether it is wanted or not.
+    pub const ERROR: EventSet = EventSet(0x8);
+    /// Hang up; reported whether it is wanted or not.
+    pub const HANG_UP: EventSet = EventSet(0x10);
+    /// The other side writes no more.
+    pub const READ_HANG_UP: EventSet = EventSet(0x2000);
+    /// A mode: one of several waiters is woken.
+    pub const EXCLUSIVE: EventSet = EventSet(0x1000_0000);
+    /// A mode: the system stays awake while the event is served.
+    pub const WAKE_UP: EventSet = EventSet(0x2000_0000);
+    /// A mode: the interest is off after one report.
+    pub const ONE_SHOT: EventSet = EventSet(0x4000_0000);
+    /// A mode: changes are reported, and not states.
+    pub const EDGE_TRIGGERED: EventSet = EventSet(0x8000_0000);
+
+    /// The ten named bits, each with its name.
+    pub const FLAGS: &'static [Flag<EventSet>] = &[
+        Flag {
+            name: "IN",
+            value: EventSet::IN,
+        },
+        Flag {
+            name: "PRIORITY",
+            value: EventSet::PRIORITY,
+        },
+        Flag {
+            name: "OUT",
+            value: EventSet::OUT,
+        },
+        Flag {
+            name: "ERROR",
+            value: EventSet::ERROR,
+        },
+        Flag {
+            name: "HANG_UP",
+            value: EventSet::HANG_UP,
+        },
+        Flag {
+            name: "READ_HANG_UP",
+            value: EventSet::READ_HANG_UP,
+        },
+        Flag {
+            name: "EXCLUSIVE",
+            value: EventSet::EXCLUSIVE,
+        },
+        Flag {
+            name: "WAKE_UP",
+            value: EventSet::WAKE_UP,
+        },
+        Flag {
+            name: "ONE_SHOT",
+            value: EventSet::ONE_SHOT,
+        },
+        Flag {
+            name: "EDGE_TRIGGERED",
+            value: EventSet::EDGE_TRIGGERED,
+        },
+    ];
 }
 
 impl Flags for EventSet {

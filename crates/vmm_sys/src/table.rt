@@ -1,6 +1,6 @@
 //! The in-process table: counters and lines, and a list of interests in them.
 
-ghost use Rattle.std.specs.Prelude.{false, ◌≡◌, ◌≢◌, ◌<◌, ◌≤◌, ◌+◌, ◌-◌, ◌^◌, List, length, ◌++◌, ◌∷◌, take, drop, filter, find, map, slice_get, slice_set, ℕ, Bool, Some, None, IsSome};
+ghost use Rattle.std.specs.Prelude.{false, ◌≡◌, ◌≢◌, ◌<◌, ◌≤◌, ◌+◌, ◌-◌, ◌^◌, List, length, ◌++◌, ◌∷◌, take, drop, filter, find, map, slice_get, slice_set, ℕ, Bool, Some, None, IsSome, is_some};
 ghost use Rattle.vmm_sys.specs.EventSet.{bits_of};
 ghost use Rattle.vmm_sys.specs.Table.{new_table, state_of, state_at, is_ready, entry_of as entry_in, opened, source_of as source_in, with_source, place_of as place_in, changed, has_mode, Answers, AnswersWithMemory, IsReachable, HasAllowedValue, ctl_of, wait_of, write_of, read_of, set_line_of, open_of, add_counter_of, add_line_of, filled, counted, chosen, moved_back, first_ready, first_ready_last};
 ghost use Rattle.vmm_sys.specs.Lists.{held};
@@ -197,6 +197,16 @@ impl Table {
             return Err(Errno::EINVAL);
         }
         Ok(self.report_ready(buffer))
+    }
+
+    /// Whether a wait would report something, at the cost of a few words. Ours, epoll has no such call.
+    pub fn has_ready(&self) -> bool
+        ensures { result ≡ is_some (find (is_ready self.now.sources) self.now.interests) }
+    {
+        match self.interests.ready_from(0) {
+            Some(slot) => slot < self.interests.end(),
+            None => false,
+        }
     }
 
     /// Adds to a counter; `value` may be 0.
