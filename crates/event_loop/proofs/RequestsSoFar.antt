@@ -1,7 +1,7 @@
 -- A loop that makes requests one after another, and keeps their answers, or the first that is a refusal.
-use Rattle.std.proofs.Common.{◌≡◌, ℕ, ◌+◌, ◌<◌, ◌≤◌, List, [], ◌∷◌, ◌++◌, length, take, get_or, refl, sym, ap, ◌∙◌, arith, Ok, Err}
+use Rattle.std.proofs.Common.{◌≡◌, ℕ, ◌+◌, ◌<◌, ◌≤◌, List, [], ◌∷◌, ◌++◌, length, take, get_or, set, refl, sym, ap, subst, ◌∙◌, arith, Ok, Err}
 use Rattle.std.specs.Result.{result_and}
-use Rattle.std.proofs.lemmas.List.{map-append, take_more, take_all}
+use Rattle.std.proofs.lemmas.List.{map-append, take_more, take_more_set, take_all}
 use Rattle.event_loop.specs.Exchange.{Exchanges, Answer, requests_of, answers_of, answered_at, first_refusal_from}
 use Rattle.event_loop.specs.PollerCall.{PollerCall, Controls, Waits}
 use Rattle.event_loop.specs.Requests.{AreMadeThrough}
@@ -32,6 +32,13 @@ module _ {P : Type 0} {controls : Controls P} {waits : Waits P} where
     answers_are = map-append (λ (x : Request × Answer). x.1) so_far.exchanges ((request, answer) ∷ []) ∙ ap (λ l. l ++ answer ∷ []) so_far.answers_are;
     made = exchanges_join so_far.made more;
   }
+
+  -- one more was made, and its answer written in its place
+  pub one_more_in_place : {b m a : EventOps P} {requests : List Request} {n : ℕ} (answers : List Answer) {request : Request} {answer : Answer} {calls : List PollerCall}
+      → AreRequestedSoFar controls waits requests n (take n answers) b m → n < length requests → n < length answers → request ≡ get_or requests n request
+      → AreMadeThrough controls waits m a ((request, answer) ∷ []) calls → AreRequestedSoFar controls waits requests (n + 1) (take (n + 1) (set answers n answer)) b a
+  one_more_in_place {b} {a = a} {requests} {n} answers {answer = answer} so_far within room is more =
+      subst (λ known. AreRequestedSoFar controls waits requests (n + 1) known b a) (sym (take_more_set answers n answer room)) (one_more_requested so_far within is more)
 
   -- all were made
   pub all_requested : {b a : EventOps P} {requests : List Request} {n : ℕ} {answers : List Answer} → AreRequestedSoFar controls waits requests n answers b a → length requests ≤ n

@@ -127,6 +127,14 @@ first_refusal_from index (answer ∷ answers) = result_and (answered_at index an
 abbrev pub first_refusal : List Answer → Result (Unit {0}) RefusedRequest
 first_refusal answers = first_refusal_from 0 answers
 
+-- just this request was made, and its answer is the one kept
+abbrev pub AsksAndKeeps : Request → Answer → Exchanges → Type 0
+AsksAndKeeps request kept exchanges = exchanges ≡ (request, kept) ∷ []
+
+-- just these requests were made, in this order; all were agreed to, or their first refusal is the one kept
+abbrev pub AsksAllAndKeeps : List Request → Result (Unit {0}) RefusedRequest → Exchanges → Type 0
+AsksAllAndKeeps requests kept exchanges = (requests_of exchanges ≡ requests) × (kept ≡ first_refusal (answers_of exchanges))
+
 -- the exchanges of id i fit, each request from the registrations that the one before it left
 abbrev pub ExchangesFit : ℕ → Registrations → Exchanges → List PollerCall → Registrations → Type 0
 ExchangesFit i registrations [] calls after = (calls ≡ []) × (after ≡ registrations)

@@ -139,6 +139,19 @@ impl<P: EventPoller> EventOps<P> {
         answer
     }
 
+    /// Makes requests in order, also after one that is refused, and gives each answer, in the same order. Takes no memory of
+    /// its own.
+    pub fn request_each<const N: usize>(&mut self, requests: [Request; N]) -> [Result<()>; N]
+        ensures { (exchanges : Exchanges) × (calls : List PollerCall) × (requests_of exchanges ≡ requests.entry)
+            × (answers_of exchanges ≡ result) × AreMadeThrough P.controls P.waits self.old self.new exchanges calls }
+    {
+        let mut answers = [Ok(()); N];
+        for index in 0..N {
+            answers[index] = self.request(requests[index]);
+        }
+        answers
+    }
+
     /// Makes a request that is given as a value.
     pub fn request(&mut self, request: Request) -> Result<()>
         ensures { (calls : List PollerCall) × AreMadeThrough P.controls P.waits self.old self.new ((request, result) ∷ []) calls }

@@ -1,25 +1,29 @@
 //! Subscribers of each form that docs/GUIDE.md shows: none has a line of proof by hand.
 
 use event_manager::{
-    EventOps, EventPoller, EventSet, Events, MutEventSubscriber, Request, StepInput, StepSubscriber,
+    EventOps, EventPoller, EventSet, Events, MutEventSubscriber, RefusedRequest, Request, Result,
+    StepInput, StepSubscriber,
 };
 use std::sync::atomic::{AtomicU64, Ordering};
 use std::sync::{Arc, Wait};
+use vmm_sys::epoll::AsRawFd;
 use vmm_sys::eventfd::EventFd;
 
-/// Asks for its descriptor when it joins, and for nothing at an event.
+/// Asks for its descriptor when it joins, and keeps the answer; at an event it asks for nothing.
 #[derive(Drop)]
 pub struct Counting {
     pub own: Events,
+    pub answer: Result<()>,
     pub seen: u64,
 }
 
 impl MutEventSubscriber for Counting {
     ghost use Rattle.std.specs.Prelude.{◌≡◌};
     ghost use Rattle.event_manager.specs.CounterEvents.{next_count};
-    ghost use Rattle.event_manager.specs.Exchange.{AsksNothing, AsksToAdd};
+    ghost use Rattle.event_manager.specs.Exchange.{AsksAndKeeps, AsksNothing};
+    ghost use Rattle.event_manager.specs.Request.TheVariants.{Add};
 
-    ghost begins = { λ v exchanges w. AsksToAdd v.own exchanges × (w ≡ v) };
+    ghost begins = { λ v exchanges w. AsksAndKeeps (Add v.own) w.answer exchanges × (w ≡ record v { answer = w.answer }) };
 
     ghost serves = { λ v event exchanges w. AsksNothing exchanges × (w ≡ record v { seen = next_count v.seen }) };
 
@@ -28,37 +32,41 @@ impl MutEventSubscriber for Counting {
     }
 
     fn init<P: EventPoller>(&mut self, ops: &mut EventOps<P>) {
-        let _ = ops.add(self.own);
+        self.answer = ops.add(self.own);
     }
 }
 
-/// Adds up what it reads of its counter, and removes it once that comes to 10 or more.
+/// Adds up what it reads of its counter, and removes it once that comes to 10 or more. Keeps its last answer.
 #[derive(Drop)]
 pub struct Filling<R> {
     pub own: Events,
     pub counter: EventFd,
     pub total: u64,
+    pub answer: Result<()>,
     pub rt: R,
 }
 
 impl<R: Wait> MutEventSubscriber for Filling<R> {
-    ghost use Rattle.std.specs.Prelude.{ℕ, ◌≡◌, ◌+◌, min, nat_le, MatchBool};
-    ghost use Rattle.event_manager.specs.Exchange.{AsksNothing, AsksToAdd, AsksToRemove};
+    ghost use Rattle.std.specs.Prelude.{◌≡◌, ◌≤◌, nat_le, MatchBool};
+    ghost use Rattle.event_manager.specs.Exchange.{AsksAndKeeps, AsksNothing};
+    ghost use Rattle.event_manager.specs.Request.TheVariants.{Add, Remove};
 
-    ghost begins = { λ v exchanges w. AsksToAdd v.own exchanges × (w ≡ v) };
+    ghost begins = { λ v exchanges w. AsksAndKeeps (Add v.own) w.answer exchanges × (w ≡ record v { answer = w.answer }) };
 
-    ghost serves = { λ v event exchanges w. (read : ℕ) × (w ≡ record v { total = min (v.total + read) 18446744073709551615 }) × MatchBool (nat_le 10 w.total) (AsksToRemove v.own exchanges) (AsksNothing exchanges) };
+    ghost serves = { λ v event exchanges w. (v.total ≤ w.total) × MatchBool (nat_le 10 w.total)
+        (AsksAndKeeps (Remove v.own) w.answer exchanges × (w ≡ record v { total = w.total; answer = w.answer }))
+        (AsksNothing exchanges × (w ≡ record v { total = w.total })) };
 
     fn process<P: EventPoller>(&mut self, _events: Events, ops: &mut EventOps<P>) {
         let read = self.counter.read(&self.rt).unwrap_or(0);
         self.total = self.total.saturating_add(read);
         if self.total >= 10 {
-            let _ = ops.remove(self.own);
+            self.answer = ops.remove(self.own);
         }
     }
 
     fn init<P: EventPoller>(&mut self, ops: &mut EventOps<P>) {
-        let _ = ops.add(self.own);
+        self.answer = ops.add(self.own);
     }
 }
 
@@ -116,6 +124,41 @@ impl MutEventSubscriber for Numbered {
     }
 }
 
+/// Counts the events of its counter, and removes the descriptor of any other event. Keeps its last answer.
+#[derive(Drop)]
+pub struct Matching {
+    pub counter: EventFd,
+    pub answer: Result<()>,
+    pub seen: u64,
+}
+
+impl MutEventSubscriber for Matching {
+    ghost use Rattle.std.specs.Prelude.{◌≡◌, MatchBool, pos, unsigned_abs};
+    ghost use Rattle.std.specs.Ordering.{int_eq};
+    ghost use Rattle.event_manager.specs.CounterEvents.{next_count};
+    ghost use Rattle.event_manager.specs.Exchange.{AsksAndKeeps, AsksNothing};
+    ghost use Rattle.event_manager.specs.Request.TheVariants.{Add, Remove};
+    ghost use Rattle.vmm_sys.specs.EventFd.{descriptor_of};
+
+    ghost begins = { λ v exchanges w. AsksAndKeeps (Add (record { fd = unsigned_abs (descriptor_of v.counter); payload = 0; set = 9 })) w.answer exchanges × (w ≡ record v { answer = w.answer }) };
+
+    ghost serves = { λ v event exchanges w. MatchBool (int_eq (pos event.fd) (descriptor_of v.counter))
+        (AsksNothing exchanges × (w ≡ record v { seen = next_count v.seen }))
+        (AsksAndKeeps (Remove event) w.answer exchanges × (w ≡ record v { answer = w.answer })) };
+
+    fn process<P: EventPoller>(&mut self, events: Events, ops: &mut EventOps<P>) {
+        if events.fd() == self.counter.as_raw_fd() {
+            self.seen = self.seen.saturating_add(1);
+        } else {
+            self.answer = ops.remove(events);
+        }
+    }
+
+    fn init<P: EventPoller>(&mut self, ops: &mut EventOps<P>) {
+        self.answer = ops.add(Events::new(&self.counter, EventSet::IN | EventSet::ERROR));
+    }
+}
+
 /// At each event removes its descriptor and adds it again.
 #[derive(Drop)]
 pub struct Renewing {
@@ -142,39 +185,43 @@ impl MutEventSubscriber for Renewing {
     }
 }
 
-/// Asks for three descriptors when it joins, and lets them all go at its first event.
+/// Asks for three descriptors when it joins, and lets them all go at an event. Keeps the first refusal of the last three.
 #[derive(Drop)]
 pub struct Group {
     pub own: [Events; 3],
+    pub answer: std::result::Result<(), RefusedRequest>,
     pub seen: u64,
 }
 
 impl MutEventSubscriber for Group {
     ghost use Rattle.std.specs.Prelude.{◌≡◌, map};
-    ghost use Rattle.event_manager.specs.Exchange.{requests_of};
+    ghost use Rattle.event_manager.specs.CounterEvents.{next_count};
+    ghost use Rattle.event_manager.specs.Exchange.{AsksAllAndKeeps};
     ghost use Rattle.event_manager.specs.Request.TheVariants.{Add, Remove};
 
-    ghost begins = { λ v exchanges w. requests_of exchanges ≡ map Add v.own };
+    ghost begins = { λ v exchanges w. AsksAllAndKeeps (map Add v.own) w.answer exchanges × (w ≡ record v { answer = w.answer }) };
 
-    ghost serves = { λ v event exchanges w. requests_of exchanges ≡ map Remove v.own };
+    ghost serves = { λ v event exchanges w. AsksAllAndKeeps (map Remove v.own) w.answer exchanges × (w ≡ record v { answer = w.answer; seen = next_count v.seen }) };
 
     fn process<P: EventPoller>(&mut self, _events: Events, ops: &mut EventOps<P>) {
         self.seen = self.seen.saturating_add(1);
         let [first, second, third] = self.own;
-        let _ = ops.request_all(&[
+        let removals = [
             Request::Remove(first),
             Request::Remove(second),
             Request::Remove(third),
-        ]);
+        ];
+        self.answer = ops.request_all(&removals);
     }
 
     fn init<P: EventPoller>(&mut self, ops: &mut EventOps<P>) {
         let [first, second, third] = self.own;
-        let _ = ops.request_all(&[
+        let additions = [
             Request::Add(first),
             Request::Add(second),
             Request::Add(third),
-        ]);
+        ];
+        self.answer = ops.request_all(&additions);
     }
 }
 
