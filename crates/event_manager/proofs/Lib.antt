@@ -12,6 +12,7 @@ pub mod LentSteps
 pub mod Accounts
 pub mod QueueLemmas
 pub mod JobLemmas
+pub mod HeardJobs
 pub mod UnknownIds
 pub mod SameExchanges
 pub mod SameSteps
@@ -21,6 +22,7 @@ pub mod RecordedTrace
 pub mod TraceSoFar
 pub mod CallsApart
 pub mod LoopCalls
+pub mod LoopOutputs
 pub mod KeptRefusals
 pub mod OneStep
 pub use Rattle.event_loop.proofs.ExchangeLemmas

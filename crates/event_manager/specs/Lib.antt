@@ -39,7 +39,9 @@ pub mod RecordedRun
 pub mod Manager
 pub mod NamedCounter
 pub mod Account
+pub mod Actions
 pub mod JobQueue
+pub mod WakeUps
 pub mod Endpoint
 pub mod JobRuns
 pub mod SingleCall

@@ -25,6 +25,7 @@ ghost use Rattle.event_manager.specs.declared.calls.Reply.{Reply};
 ghost use Rattle.event_manager.specs.Determinism.{AreFunctions, IsReplay, IsTheRun};
 ghost use Rattle.event_manager.specs.Driven.{IsTraceOf, IsDriven};
 ghost use Rattle.event_manager.specs.RecordedRun.{BeginsAgain, IsMadeAgain};
+ghost use Rattle.event_manager.specs.WakeUps.{WakeState, AreSteps, NoJobWaitsUnheard, new_wake_state};
 ghost use Rattle.event_manager.specs.Example.{any_begins, any_serves, any_may, joins, iterates};
 
 use crate::jobs::{Job, NoJob};
@@ -36,6 +37,23 @@ use std::hash::{Hash, Hasher};
 use vmm_sys::poller::Poller;
 use vmm_sys::recording_poller::RecordingPoller;
 use vmm_sys::replay_poller::ReplayPoller;
+
+/// What is done to the queue of jobs, or to the counter that wakes its loop.
+#[derive(Drop)]
+pub enum WakeStep<J> {
+    /// A sender that has the queue's lock rings the counter for a job.
+    Ring,
+    /// That sender puts the job last, and lets go of the lock.
+    Queue(J),
+    /// Somebody rings the counter, with or without the lock, and sends nothing.
+    Kick,
+    /// The loop clears the counter. It needs no lock for that.
+    Clear,
+    /// The loop takes all that waits.
+    Take,
+    /// The manager closes.
+    Close,
+}
 
 /// Non-interference: of a trace in which no job ran, a projection to each id that is apart from its neighbours (no
 /// other id owns at the start, or adds with success, a descriptor that the id owns at the start or asks to add) is
@@ -157,6 +175,16 @@ pub fn a_recorded_loop_is_made_again<S: MutEventSubscriber, P: Poller>()
         start calls_again replies_again end again →
         BeginsAgain before after start → end.poller.diverged ≡ false → IsMadeAgain trace again →
         IsTheRun trace again (manager_state after) (manager_state end) }
+{}
+
+/// No job waits unheard: while the counter's value is 0 and the loop isn't between its clear and its take, no job waits, and no
+/// sender is between its ring and its job. That holds of a new queue and a counter of value 0, and it still holds after any list
+/// of steps, each agreed to or refused, in any order that the queue's lock allows, where nobody but the loop clears that counter.
+/// So a loop that sleeps because the value is 0 sleeps over no job.
+pub fn no_job_waits_unheard<J>()
+    ensures new { NoJobWaitsUnheard (new_wake_state {J = J}) }
+    ensures kept { (before : WakeState J) (steps : List (WakeStep J)) (after : WakeState J) →
+        AreSteps before steps after → NoJobWaitsUnheard before → NoJobWaitsUnheard after }
 {}
 
 /// The counting subscriber is a function, and so is the job that does nothing: a replay of a manager of these is its run.

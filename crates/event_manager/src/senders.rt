@@ -1,22 +1,21 @@
 //! A loop, and those who send jobs to it from threads of their own.
 
 ghost use Rattle.std.specs.Prelude.{◌≡◌};
-ghost use Rattle.std.specs.Thread.{IsSend, IsSync};
 
 use crate::endpoint::RemoteEndpoint;
 use crate::endpoint::closed::Closed;
 use crate::jobs::Job;
+use crate::loops::{ThreadLoop, with_loops};
 use crate::manager::{DEFAULT_CAPACITY, EventManager};
 use crate::named_counter::{Named, NamedCounter};
 use event_loop::{Error, EventPoller, MutEventSubscriber, Result};
 use job_tickets::ledgers::Ledgers;
 use job_tickets::naming::Naming;
 use std::alloc::Global;
-use std::marker::Brand;
+use std::marker::{Brand, PhantomData};
+use std::sync::Wait;
 use std::sync::atomic::{AtomicUsize, Ordering};
 use std::sync::ledger::Blank;
-use std::sync::{Mutex, Wait};
-use std::thread;
 use std::thread::Threads;
 use std::time::Clock;
 use vmm_sys::counter::Counter;
@@ -131,92 +130,84 @@ struct LoopEnded<N: Naming, P> {
     poller: P,
 }
 
-// What the loop's thread shares with those of the senders.
+// A sender on its thread.
 #[derive(Drop)]
-struct Shared<S: MutEventSubscriber, J: Job<S>, N: NamedCounter, T> {
-    endpoint: RemoteEndpoint<S, J, N>,
-    senders: Senders,
-    // What the sender of each index gave.
-    sent: Mutex<Vec<Option<T>>>,
+struct SenderLoop<'a, S: MutEventSubscriber, J: Job<S>, N: NamedCounter, Q, T> {
+    sender: Q,
+    endpoint: &'a RemoteEndpoint<S, J, N>,
+    senders: &'a Senders,
+    gives: PhantomData<T>,
 }
 
-impl<S: MutEventSubscriber, J: Job<S>, N: NamedCounter, T: Drop> Shared<S, J, N, T> {
-    fn new(alloc: Global, endpoint: RemoteEndpoint<S, J, N>, senders: usize) -> Result<Self> {
-        let mut sent = Vec::new(alloc);
-        for _sender in 0..senders {
-            sent.push(None)?;
-        }
-        Ok(Shared {
-            endpoint,
-            senders: Senders {
-                at_work: AtomicUsize::new(senders),
-            },
-            sent: Mutex::new(sent),
-        })
-    }
-
-    // Keeps what the sender of this index gave.
-    fn keep<R: Wait>(&self, index: usize, sent: T, rt: &R) {
-        let mut all = self.sent.lock(rt);
-        if let Some(place) = all.get_mut(index) {
-            *place = Some(sent);
-        }
-    }
-}
-
-// What a sender's thread does.
-fn send_and_end<S, J, N, Q, T, R>(shared: &Shared<S, J, N, T>, index: usize, sender: Q, rt: &R)
+impl<'a, S, J, N, Q, T, R> ThreadLoop<R> for SenderLoop<'a, S, J, N, Q, T>
 where
     S: MutEventSubscriber,
     J: Job<S>,
     N: NamedCounter,
     Q: Sender<S, J, T, R>,
-    T: Drop,
     R: Wait + Clock,
 {
-    let sent = sender.send::<N>(&shared.endpoint, rt);
-    shared.keep(index, sent, rt);
-    shared.senders.end_one(&shared.endpoint, rt);
+    type Output = T;
+
+    fn run(self, rt: &R) -> T {
+        let SenderLoop {
+            sender,
+            endpoint,
+            senders,
+            ..
+        } = self;
+        let sent = sender.send::<N>(endpoint, rt);
+        senders.end_one(endpoint, rt);
+        sent
+    }
 }
 
-// Runs the loop, where the senders are started, and closes the manager whatever came of it.
-fn run_and_close<S, J, N, P, B, Q, R>(
-    body: &mut B,
-    manager: &mut Option<EventManager<S, J, N, P>>,
-    are_started: bool,
-    senders: &Senders,
-    rt: &R,
-) -> Option<LoopEnded<N, P>>
+// The loop of the manager, which is taken to be run, and closed whatever comes of that.
+#[derive(Drop)]
+struct ManagerLoop<'a, S: MutEventSubscriber, J: Job<S>, N: NamedCounter, P, B, Q> {
+    body: &'a mut B,
+    manager: &'a mut Option<EventManager<S, J, N, P>>,
+    senders: &'a Senders,
+    starts: PhantomData<Q>,
+}
+
+impl<'a, S, J, N, P, B, Q, R> ThreadLoop<R> for ManagerLoop<'a, S, J, N, P, B, Q>
 where
     S: MutEventSubscriber + Drop,
     J: Job<S>,
     N: NamedCounter,
-    P: EventPoller + Drop,
+    P: EventPoller,
     B: LoopWithSenders<S, J, Q, R>,
     R: Wait + Clock,
 {
-    let mut manager = manager.take()?;
-    if !are_started {
-        manager.close(rt);
-        return None;
+    type Output = Option<LoopEnded<N, P>>;
+
+    fn run(self, rt: &R) -> Option<LoopEnded<N, P>> {
+        let ManagerLoop {
+            body,
+            manager,
+            senders,
+            ..
+        } = self;
+        let mut manager = manager.take()?;
+        let ran = body.run(rt, &mut manager, senders);
+        let (closed, _subscribers, poller) = manager.into_parts(rt);
+        Some(LoopEnded {
+            ran,
+            closed,
+            poller,
+        })
     }
-    let ran = body.run(rt, &mut manager, senders);
-    let (closed, _subscribers, poller) = manager.into_parts(rt);
-    Some(LoopEnded {
-        ran,
-        closed,
-        poller,
-    })
 }
 
-// Starts a thread for each sender, and runs the loop beside them. `None` where a thread can't be made.
-fn run_beside<S, J, N, P, B, Q, T, R>(
-    body: &mut B,
-    manager: &mut Option<EventManager<S, J, N, P>>,
-    senders: Vec<Q>,
-    shared: &Shared<S, J, N, T>,
+// Starts a thread for each sender, and runs the loop beside them, once all are made.
+fn run_beside<'a, S, J, N, P, B, Q, T, R>(
     rt: &R,
-) -> Option<LoopEnded<N, P>>
+    alloc: Global,
+    own: ManagerLoop<'a, S, J, N, P, B, Q>,
+    senders: Vec<Q>,
+    endpoint: &'a RemoteEndpoint<S, J, N>,
+) -> Result<(Option<LoopEnded<N, P>>, Vec<T>)>
 where
     S: MutEventSubscriber + Send + Drop,
     J: Job<S> + Send,
@@ -228,34 +219,17 @@ where
     T: Send + Drop,
     R: Threads + Wait + Clock + Sync,
 {
-    thread::scope(
-        thread::scope_env(),
-        rt,
-        |scope|
-            requires { IsSend Q.row × IsSync R.row }
-        {
-            let mut are_started = true;
-            for (index, sender) in senders.into_iter().enumerate() {
-                if scope
-                    .spawn(move || send_and_end(shared, index, sender, rt))
-                    .is_err()
-                {
-                    are_started = false;
-                }
-            }
-            run_and_close(body, manager, are_started, &shared.senders, rt)
-        },
-    )
-}
-
-// What all senders gave, in their order.
-fn take_all<T: Drop>(places: Vec<Option<T>>, given: &mut Vec<T>) -> Result<()> {
-    for place in places {
-        if let Some(gave) = place {
-            given.push(gave)?;
-        }
+    let at_work = own.senders;
+    let mut others = Vec::new(alloc);
+    for sender in senders {
+        others.push(SenderLoop {
+            sender,
+            endpoint,
+            senders: at_work,
+            gives: PhantomData::<T>,
+        })?;
     }
-    Ok(())
+    with_loops(rt, alloc, own, others)
 }
 
 // As `with_senders`, with these ledgers.
@@ -290,11 +264,23 @@ where
     );
     let mut manager = made?;
     let senders = body.begin(rt, alloc, &mut manager)?;
-    let mut sent = Vec::new(alloc);
-    sent.reserve(senders.len())?;
-    let shared = Shared::new(alloc, manager.remote_endpoint()?, senders.len())?;
+    let endpoint = manager.remote_endpoint()?;
+    let at_work = Senders {
+        at_work: AtomicUsize::new(senders.len()),
+    };
     let mut held = Some(manager);
-    let Some(ended) = run_beside(body, &mut held, senders, &shared, rt) else {
+    let own = ManagerLoop {
+        body,
+        manager: &mut held,
+        senders: &at_work,
+        starts: PhantomData::<Q>,
+    };
+    let ended = run_beside::<S, J, Named<N, C>, P, B, Q, T, R>(rt, alloc, own, senders, &endpoint);
+    if let Some(manager) = held {
+        manager.close(rt);
+    }
+    let (ended, sent) = ended?;
+    let Some(ended) = ended else {
         return Err(Error::OutOfMemory);
     };
     let LoopEnded {
@@ -302,8 +288,6 @@ where
         closed,
         poller,
     } = ended;
-    let Shared { sent: places, .. } = shared;
-    take_all(places.into_inner(), &mut sent)?;
     Ok(Ended {
         ran,
         sent,
@@ -314,12 +298,12 @@ where
 }
 
 /// Makes a manager over the poller, woken by the counter, lets the body's subscribers join, and runs its loop on this thread,
-/// beside a thread for each of its senders. Whatever ends the loop, the manager is then closed, so that no sender waits for a reply any more;
-/// and what loop and senders gave is answered once all senders have ended, with the poller.
+/// beside a thread for each of its senders, as [`with_loops`] does. Whatever ends the loop, the manager is then closed, so that
+/// no sender waits for a reply any more; and what loop and senders gave is answered once all senders have ended, with the poller.
 ///
 /// Refused with what the making of the manager, `begin` or [`EventManager::remote_endpoint`] is refused with, and no sender
-/// begins; with `OutOfMemory` also where there is no room for what the senders give, or no thread for one of them: then the
-/// loop isn't run, and what the others send is refused. Once the manager was made its endpoint stays with the poller,
+/// begins; with `OutOfMemory` also where there is no room for what the senders give, or no thread for one of them: then neither
+/// the loop nor a sender begins, and the manager is closed. Once the manager was made its endpoint stays with the poller,
 /// whose copies see it still: a close asks for no Delete.
 pub fn with_senders<S, J, P, C, B, Q, T, R>(
     rt: &R,

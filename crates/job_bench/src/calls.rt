@@ -3,12 +3,12 @@
 //! Both wait without a limit, so whoever misses a wake-up or a reply waits for ever. The program's first thread looks on:
 //! where no reply has come for ten seconds, it ends the program with 1 and a line that says so.
 
-use crate::jobs::{CountOne, Counter};
+use crate::jobs::{CountOne, Counter, count_at};
 use crate::progress::Progress;
 use anyhow::{Result, bail};
 use event_manager::{
-    Error, EventManager, EventPoller, LoopWithSenders, NamedCounter, RemoteEndpoint, Sender,
-    SubscriberId, SubscriberOps, with_senders,
+    ActionOn, Error, EventManager, EventPoller, LoopWithSenders, NamedCounter, RemoteEndpoint,
+    Sender, SubscriberId, SubscriberOps, with_senders,
 };
 use measures::arguments::Family;
 use measures::bench::{Bench, Measured, expect};
@@ -47,12 +47,13 @@ struct Caller<'a> {
     progress: &'a Progress,
 }
 
-impl<'a, R: Wait + Clock> LoopWithSenders<Counter, CountOne, Caller<'a>, R> for CalledLoop<'a> {
+impl<'a, R: Wait + Clock> LoopWithSenders<Counter, ActionOn<CountOne>, Caller<'a>, R>
+    for CalledLoop<'a> {
     fn begin<N: NamedCounter, P: EventPoller>(
         &mut self,
         _rt: &R,
         alloc: Global,
-        manager: &mut EventManager<Counter, CountOne, N, P>,
+        manager: &mut EventManager<Counter, ActionOn<CountOne>, N, P>,
     ) -> event_manager::Result<Vec<Caller<'a>>> {
         let caller = Caller {
             id: manager.add_subscriber(Counter { count: 0 })?,
@@ -67,11 +68,11 @@ impl<'a, R: Wait + Clock> LoopWithSenders<Counter, CountOne, Caller<'a>, R> for 
     }
 }
 
-impl<R: Wait + Clock> Sender<Counter, CountOne, Result<Times>, R> for Caller<'_> {
+impl<R: Wait + Clock> Sender<Counter, ActionOn<CountOne>, Result<Times>, R> for Caller<'_> {
     /// Sends the jobs of all repeats.
     fn send<N: NamedCounter>(
         self,
-        endpoint: &RemoteEndpoint<Counter, CountOne, N>,
+        endpoint: &RemoteEndpoint<Counter, ActionOn<CountOne>, N>,
         rt: &R,
     ) -> Result<Times> {
         let Caller {
@@ -85,14 +86,14 @@ impl<R: Wait + Clock> Sender<Counter, CountOne, Result<Times>, R> for Caller<'_>
 
 /// Sends so many jobs, and waits for the reply of each.
 fn call_often<N: NamedCounter, R: Wait + Clock>(
-    endpoint: &RemoteEndpoint<Counter, CountOne, N>,
+    endpoint: &RemoteEndpoint<Counter, ActionOn<CountOne>, N>,
     id: SubscriberId,
     rounds: u32,
     progress: &Progress,
     rt: &R,
 ) -> Result<()> {
     for _ in 0..rounds {
-        let _ = endpoint.call_blocking(CountOne(id), rt)??;
+        let _ = endpoint.call_blocking(count_at(id), rt)??;
         progress.count_reply();
     }
     Ok(())

@@ -1,10 +1,10 @@
 //! What a job costs that the loop's own thread sends and runs.
 
-use crate::jobs::{CountOne, Counter};
+use crate::jobs::{CountOne, Counter, count_at};
 use anyhow::Result;
 use event_manager::{
-    EventManager, EventPoller, Ledgers, NamedCounter, RemoteEndpoint, SubscriberId, SubscriberOps,
-    WithLedgers, with_ledgers,
+    ActionOn, EventManager, EventPoller, Ledgers, NamedCounter, RemoteEndpoint, SubscriberId,
+    SubscriberOps, WithLedgers, with_ledgers,
 };
 use measures::arguments::Family;
 use measures::bench::{Bench, Measured, expect};
@@ -22,7 +22,7 @@ pub const FIRE: Family = Family("fire");
 const JOBS: u32 = 20000;
 
 /// A manager of the measure.
-type Manager<N, P> = EventManager<Counter, CountOne, N, P>;
+type Manager<N, P> = EventManager<Counter, ActionOn<CountOne>, N, P>;
 
 /// A loop over the in-process table: all that it needs but the manager, which is made of a counter and ledgers.
 struct FiredJobs<'a, R> {
@@ -64,7 +64,7 @@ fn take<N: NamedCounter, P: EventPoller + Drop, R: Wait + Clock>(
 /// Lets a counter join, and sends the jobs of all repeats to it. Refused where it has counted another number.
 fn fire_often<N: NamedCounter, P: EventPoller, R: Wait + Clock>(
     manager: &mut Manager<N, P>,
-    endpoint: &RemoteEndpoint<Counter, CountOne, N>,
+    endpoint: &RemoteEndpoint<Counter, ActionOn<CountOne>, N>,
     rounds: u32,
     rt: &R,
 ) -> Result<Measured> {
@@ -81,13 +81,13 @@ fn fire_often<N: NamedCounter, P: EventPoller, R: Wait + Clock>(
 // Sends a job and runs the manager, so often.
 fn fire_and_run<N: NamedCounter, P: EventPoller, R: Wait + Clock>(
     manager: &mut Manager<N, P>,
-    endpoint: &RemoteEndpoint<Counter, CountOne, N>,
+    endpoint: &RemoteEndpoint<Counter, ActionOn<CountOne>, N>,
     id: SubscriberId,
     rounds: u32,
     rt: &R,
 ) -> Result<()> {
     for _ in 0..rounds {
-        let _ticket = endpoint.fire(CountOne(id), rt)?;
+        let _ticket = endpoint.fire(count_at(id), rt)?;
         expect(manager.run(rt)? as u64, 1)?;
     }
     Ok(())

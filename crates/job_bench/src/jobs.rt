@@ -1,8 +1,7 @@
 //! The job of the measures, and the subscriber on which it is done.
 
 use event_manager::{
-    EventOps, EventPoller, Events, Job, MutEventSubscriber, Registry, Result, SubscriberId,
-    SubscriberOps,
+    Action, ActionOn, EventOps, EventPoller, Events, MutEventSubscriber, SubscriberId,
 };
 use std::sync::Wait;
 use std::time::Clock;
@@ -38,35 +37,28 @@ impl MutEventSubscriber for Counter {
     fn init<P: EventPoller>(&mut self, _ops: &mut EventOps<P>) {}
 }
 
-/// Counts one more at the counter of the id, and replies what it has then counted. `InvalidId` where there is none.
+/// Counts one more, and replies what is then counted.
 #[derive(Clone, Copy)]
-pub struct CountOne(pub SubscriberId);
+pub struct CountOne;
 
-impl Job<Counter> for CountOne {
-    type Reply = Result<u64>;
+impl Action<Counter> for CountOne {
+    type Reply = u64;
 
-    ghost use Rattle.std.specs.Prelude.{◌≡◌, [], ◌∷◌, ◌⊎◌, Ok, Err};
+    ghost use Rattle.std.specs.Prelude.{◌≡◌};
     ghost use Rattle.event_manager.specs.CounterEvents.{next_count};
-    ghost use Rattle.event_manager.specs.Registry.{Step, Replaced, Refused};
-    ghost use Rattle.event_manager.specs.Error.TheVariants.{InvalidId};
-    ghost use Rattle.job_bench.specs.declared.jobs.Counter.{Counter};
 
-    ghost may = { λ self steps reply. ((old : Counter) × (steps ≡ Replaced self.0 old (record old { count = next_count old.count }) ∷ []) × (reply ≡ Ok (next_count old.count)))
-        ⊎ ((steps ≡ Refused self.0 ∷ []) × (reply ≡ Err InvalidId)) };
+    ghost does = { λ self v reply w. (reply ≡ next_count v.count) × (w ≡ record v { count = next_count v.count }) };
 
-    ghost replies = { λ reply. Unit {0} };
+    fn act<W: Wait + Clock>(self, counter: &mut Counter, _rt: &W) -> u64 {
+        counter.count_one();
+        counter.count
+    }
+}
 
-    fn call<P: EventPoller, W: Wait + Clock>(
-        self,
-        registry: &mut Registry<Counter, P>,
-        _rt: &W,
-    ) -> Result<u64> {
-        match registry.subscriber_mut(self.0) {
-            Ok(counter) => {
-                counter.count_one();
-                Ok(counter.count)
-            }
-            Err(e) => Err(e),
-        }
+/// The job that counts one more at the counter of the id.
+pub fn count_at(subscriber: SubscriberId) -> ActionOn<CountOne> {
+    ActionOn {
+        subscriber,
+        action: CountOne,
     }
 }

@@ -3,8 +3,8 @@
 use crate::expecting::{expect_noted, expect_ok, expect_run, expect_run_within};
 use crate::host::Host;
 use event_manager::{
-    EventManager, EventPoller, EventSet, Events, Job, NamedCounter, Registry, RemoteEndpoint,
-    Result, SubscriberId, SubscriberOps,
+    Action, ActionOn, AddSubscriber, EventManager, EventPoller, EventSet, Events, NamedCounter,
+    RemoteEndpoint, RemoveSubscriber, Result,
 };
 use fixtures::making::{WithEndpoint, with_endpoint};
 use fixtures::noting::{Noting, add_noting, make_noting};
@@ -14,88 +14,19 @@ use std::sync::Wait;
 use std::time::Clock;
 use vmm_sys::eventfd::EventFd;
 
-/// Adds a subscriber.
-#[derive(Drop)]
-struct Join<R>(Noting<R>);
-
-impl<R: Wait + Drop> Job<Noting<R>> for Join<R> {
-    type Reply = Result<SubscriberId>;
-
-    ghost use Rattle.std.specs.Prelude.{◌≡◌, [], ◌∷◌};
-    ghost use Rattle.event_manager.specs.Registry.{Step};
-    ghost use Rattle.event_manager.specs.LoopState.{IsJoin};
-    ghost use Rattle.fixtures.specs.declared.noting.Noting.{Noting};
-
-    ghost may = { λ self steps reply. (step : Step (Noting R)) × (steps ≡ step ∷ []) × IsJoin self.0 reply step };
-
-    ghost replies = { λ reply. Unit {0} };
-
-    fn call<P: EventPoller, W: Wait + Clock>(
-        self,
-        registry: &mut Registry<Noting<R>, P>,
-        _rt: &W,
-    ) -> Result<SubscriberId> {
-        registry.add_subscriber(self.0)
-    }
-}
-
-/// Lets a subscriber leave.
-#[derive(Drop)]
-struct Leave(SubscriberId);
-
-impl<R: Wait + Drop> Job<Noting<R>> for Leave {
-    type Reply = Result<Noting<R>>;
-
-    ghost use Rattle.std.specs.Prelude.{◌≡◌, [], ◌∷◌};
-    ghost use Rattle.event_manager.specs.Registry.{Step};
-    ghost use Rattle.event_manager.specs.LoopState.{IsLeave};
-    ghost use Rattle.fixtures.specs.declared.noting.Noting.{Noting};
-
-    ghost may = { λ self steps reply. (step : Step (Noting R)) × (steps ≡ step ∷ []) × IsLeave self.0 reply step };
-
-    ghost replies = { λ reply. Unit {0} };
-
-    fn call<P: EventPoller, W: Wait + Clock>(
-        self,
-        registry: &mut Registry<Noting<R>, P>,
-        _rt: &W,
-    ) -> Result<Noting<R>> {
-        registry.remove_subscriber(self.0)
-    }
-}
-
 /// Gives a subscriber another number.
 #[derive(Drop)]
-struct Renumber {
-    id: SubscriberId,
-    number: u64,
-}
+struct Renumber(u64);
 
-impl<R: Wait + Drop> Job<Noting<R>> for Renumber {
-    type Reply = Result<()>;
+impl<R: Wait + Drop> Action<Noting<R>> for Renumber {
+    type Reply = ();
 
-    ghost use Rattle.std.specs.Prelude.{◌≡◌, [], ◌∷◌, ◌⊎◌, Ok, Err};
-    ghost use Rattle.event_manager.specs.Error.TheVariants.{InvalidId};
-    ghost use Rattle.event_manager.specs.Registry.{Step, Replaced, Refused};
-    ghost use Rattle.fixtures.specs.declared.noting.Noting.{Noting};
+    ghost use Rattle.std.specs.Prelude.{◌≡◌};
 
-    ghost may = { λ self steps reply. ((old : Noting R) × (steps ≡ Replaced self.id old (record old { number = self.number }) ∷ []) × (reply ≡ Ok tt))
-        ⊎ ((steps ≡ Refused self.id ∷ []) × (reply ≡ Err InvalidId)) };
+    ghost does = { λ self v reply w. w ≡ record v { number = self.0 } };
 
-    ghost replies = { λ reply. Unit {0} };
-
-    fn call<P: EventPoller, W: Wait + Clock>(
-        self,
-        registry: &mut Registry<Noting<R>, P>,
-        _rt: &W,
-    ) -> Result<()> {
-        match registry.subscriber_mut(self.id) {
-            Ok(subscriber) => {
-                subscriber.number = self.number;
-                Ok(())
-            }
-            Err(e) => Err(e),
-        }
+    fn act<W: Wait + Clock>(self, subscriber: &mut Noting<R>, _rt: &W) {
+        subscriber.number = self.0;
     }
 }
 
@@ -119,21 +50,21 @@ struct Joining<'a, R> {
 impl<R: Host> WithEndpoint for Joining<'_, R> {
     type Subscriber = Noting<R>;
 
-    type Job = Join<R>;
+    type Job = AddSubscriber<Noting<R>>;
 
     type Output = ();
 
     fn run<N: NamedCounter, P: EventPoller>(
         self,
-        manager: &mut EventManager<Noting<R>, Join<R>, N, P>,
-        endpoint: &RemoteEndpoint<Noting<R>, Join<R>, N>,
+        manager: &mut EventManager<Noting<R>, AddSubscriber<Noting<R>>, N, P>,
+        endpoint: &RemoteEndpoint<Noting<R>, AddSubscriber<Noting<R>>, N>,
     ) -> Result<()> {
         expect_run_within(self.rt, manager, 0, Ok(0));
         let subscriber = expect_ok(
             self.rt,
             make_noting(self.rt, self.own, DELIVERED, self.notes),
         );
-        expect_ok(self.rt, endpoint.fire(Join(subscriber), self.rt));
+        expect_ok(self.rt, endpoint.fire(AddSubscriber(subscriber), self.rt));
         expect_run(self.rt, manager, Ok(1));
         expect_noted(self.rt, self.notes, &[]);
         expect_run_within(self.rt, manager, 0, Ok(1));
@@ -165,20 +96,20 @@ struct Leaving<'a, R> {
 impl<R: Host> WithEndpoint for Leaving<'_, R> {
     type Subscriber = Noting<R>;
 
-    type Job = Leave;
+    type Job = RemoveSubscriber;
 
     type Output = ();
 
     fn run<N: NamedCounter, P: EventPoller>(
         self,
-        manager: &mut EventManager<Noting<R>, Leave, N, P>,
-        endpoint: &RemoteEndpoint<Noting<R>, Leave, N>,
+        manager: &mut EventManager<Noting<R>, RemoveSubscriber, N, P>,
+        endpoint: &RemoteEndpoint<Noting<R>, RemoveSubscriber, N>,
     ) -> Result<()> {
         let id = expect_ok(
             self.rt,
             add_noting(self.rt, manager, self.own, DELIVERED, self.notes),
         );
-        expect_ok(self.rt, endpoint.fire(Leave(id), self.rt));
+        expect_ok(self.rt, endpoint.fire(RemoveSubscriber(id), self.rt));
         expect_run(self.rt, manager, Ok(2));
         expect_noted(self.rt, self.notes, &[DELIVERED]);
         expect_run_within(self.rt, manager, 0, Ok(0));
@@ -210,20 +141,24 @@ struct Renumbering<'a, R> {
 impl<R: Host> WithEndpoint for Renumbering<'_, R> {
     type Subscriber = Noting<R>;
 
-    type Job = Renumber;
+    type Job = ActionOn<Renumber>;
 
     type Output = ();
 
     fn run<N: NamedCounter, P: EventPoller>(
         self,
-        manager: &mut EventManager<Noting<R>, Renumber, N, P>,
-        endpoint: &RemoteEndpoint<Noting<R>, Renumber, N>,
+        manager: &mut EventManager<Noting<R>, ActionOn<Renumber>, N, P>,
+        endpoint: &RemoteEndpoint<Noting<R>, ActionOn<Renumber>, N>,
     ) -> Result<()> {
         let id = expect_ok(
             self.rt,
             add_noting(self.rt, manager, self.own, DELIVERED, self.notes),
         );
-        expect_ok(self.rt, endpoint.fire(Renumber { id, number: 2 }, self.rt));
+        let renumber = ActionOn {
+            subscriber: id,
+            action: Renumber(2),
+        };
+        expect_ok(self.rt, endpoint.fire(renumber, self.rt));
         expect_run(self.rt, manager, Ok(2));
         expect_run_within(self.rt, manager, 0, Ok(1));
         expect_noted(self.rt, self.notes, &[DELIVERED, 2]);

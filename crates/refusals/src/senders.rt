@@ -22,8 +22,8 @@ const CALLS: u64 = 3;
 #[derive(Drop)]
 struct Callers<'a> {
     count: u64,
-    /// How many replies they had.
-    served: &'a AtomicU64,
+    /// How many have begun.
+    begun: &'a AtomicU64,
 }
 
 /// Calls jobs, whose numbers are those from the first up.
@@ -32,7 +32,8 @@ struct Caller<'a> {
     first: u64,
     /// Whether nobody else calls, so that a refused call leaves no job behind.
     is_alone: bool,
-    served: &'a AtomicU64,
+    /// How many have begun.
+    begun: &'a AtomicU64,
 }
 
 impl<'a, R: Host> LoopWithSenders<Watcher, Echo, Caller<'a>, R> for Callers<'a> {
@@ -47,7 +48,7 @@ impl<'a, R: Host> LoopWithSenders<Watcher, Echo, Caller<'a>, R> for Callers<'a> 
             callers.push(Caller {
                 first: k.saturating_mul(CALLS),
                 is_alone: self.count == 1,
-                served: self.served,
+                begun: self.begun,
             })?;
         }
         Ok(callers)
@@ -58,6 +59,7 @@ impl<R: Host> Sender<Watcher, Echo, Result<u64, Fault>, R> for Caller<'_> {
     /// Answers how many replies there were, each of them its job's number.
     fn send<N: NamedCounter>(self, endpoint: &Endpoint<N>, rt: &R) -> Result<u64, Fault> {
         let name = CallName::CallBlocking;
+        self.begun.fetch_add(1, Ordering::SeqCst);
         for k in 0..CALLS {
             let number = self.first.saturating_add(k);
             let reply = again!(
@@ -65,7 +67,6 @@ impl<R: Host> Sender<Watcher, Echo, Result<u64, Fault>, R> for Caller<'_> {
                 endpoint.call_blocking(Echo(number), rt),
                 !self.is_alone || endpoint.pending() == Some(0)
             )?;
-            self.served.fetch_add(1, Ordering::SeqCst);
             expect(name, reply == number)?;
         }
         Ok(CALLS)
@@ -78,17 +79,17 @@ fn run_once<R: Host + Threads + Sync>(
     alloc: Global,
     on_table: &OnTable<R>,
     count: u64,
-    served: &AtomicU64,
+    begun: &AtomicU64,
 ) -> Result<event_manager::Result<Ended<Result<u64, Fault>, Epoll<R>>>, Fault> {
     let poller = copy_epoll(&on_table.epoll)?;
     let endpoint = copy_counter(&on_table.endpoint)?;
-    let mut callers = Callers { count, served };
+    let mut callers = Callers { count, begun };
     Ok(with_senders(rt, alloc, poller, endpoint, &mut callers))
 }
 
 /// Runs a loop over a table beside so many threads, which call jobs of it, and prints under the name what came of them.
-/// Where the loop is refused, as for want of one of the threads, no other has had a reply; and at most the endpoint is left
-/// in the table, which the manager registers when it is made.
+/// Where the loop is refused, as for want of one of the threads, none has begun; and at most the endpoint is left in the table,
+/// which the manager registers when it is made.
 fn run_beside<R: Host + Threads + Sync>(
     rt: &R,
     alloc: Global,
@@ -97,11 +98,11 @@ fn run_beside<R: Host + Threads + Sync>(
 ) -> Result<(), Fault> {
     let mut on_table = open_table(rt, alloc)?;
     let name = CallName::WithSenders;
-    let served = AtomicU64::new(0);
+    let begun = AtomicU64::new(0);
     let ended = again!(
         name,
-        run_once(rt, alloc, &on_table, callers, &served)?,
-        is_taken_out(&mut on_table.epoll, 0) && served.load(Ordering::SeqCst) == 0
+        run_once(rt, alloc, &on_table, callers, &begun)?,
+        is_taken_out(&mut on_table.epoll, 0) && begun.load(Ordering::SeqCst) == 0
     )?;
     named(name, ended.ran)?;
     let mut replies = 0u64;

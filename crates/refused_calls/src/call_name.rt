@@ -60,6 +60,10 @@ pub enum CallName {
     TableCtl,
     TableWait,
     Take,
+    TimedPollerNew,
+    TimerCalls,
+    TimerFdNew,
+    TimerFdTryClone,
     WithSenders,
 }
 
@@ -121,6 +125,10 @@ impl CallName {
             CallName::TableCtl => "Table::ctl",
             CallName::TableWait => "Table::wait",
             CallName::Take => "Receiver::take",
+            CallName::TimedPollerNew => "TimedPoller::new",
+            CallName::TimerCalls => "the calls of a timer",
+            CallName::TimerFdNew => "TimerFd::new",
+            CallName::TimerFdTryClone => "TimerFd::try_clone",
             CallName::WithSenders => "with_senders",
         }
     }

@@ -1,13 +1,12 @@
 //! A caller that sets and reads a value of a subscriber, and stops it.
 
-ghost use Rattle.std.specs.Prelude.{◌≡◌};
-
 use crate::ending::beside_senders;
 use crate::expecting::{expect_ok, expect_same};
 use crate::threads::Looping;
 use event_manager::{
-    Error, EventManager, EventOps, EventPoller, Events, Job, LoopWithSenders, MutEventSubscriber,
-    NamedCounter, Registry, RemoteEndpoint, Result, Sender, Senders, SubscriberId, SubscriberOps,
+    Action, ActionOn, Error, EventManager, EventOps, EventPoller, Events, LoopWithSenders,
+    MutEventSubscriber, NamedCounter, RemoteEndpoint, Result, Sender, Senders, SubscriberId,
+    SubscriberOps,
 };
 use fixtures::parts::on_table;
 use fixtures::waits::wait_until_pending;
@@ -42,51 +41,23 @@ enum Change {
     Stop,
 }
 
-impl Stoppable {
-    /// Makes the change: the value before it.
-    fn make(&mut self, change: Change) -> u64
-        ensures { result ≡ self.old.value }
-    {
-        let value = self.value;
-        match change {
-            Change::Set(to) => self.value = to,
-            Change::Read => {}
-            Change::Stop => self.is_stopped = true,
-        }
-        value
-    }
-}
+/// Makes the change, and replies the value before it.
+impl Action<Stoppable> for Change {
+    type Reply = u64;
 
-/// Makes a change of a subscriber, and replies its value before.
-#[derive(Clone, Copy)]
-struct Order {
-    id: SubscriberId,
-    change: Change,
-}
-
-impl Job<Stoppable> for Order {
-    type Reply = Result<u64>;
-
-    ghost use Rattle.std.specs.Prelude.{◌≡◌, [], ◌∷◌, ◌⊎◌, Ok, Err};
-    ghost use Rattle.event_manager.specs.Error.TheVariants.{InvalidId};
-    ghost use Rattle.event_manager.specs.Registry.{Replaced, Refused};
-    ghost use Rattle.sender_tests.specs.declared.value_in_a_subscriber.Stoppable.{Stoppable};
+    ghost use Rattle.std.specs.Prelude.{◌≡◌};
 
     // Which change it makes is seen by what the caller is answered next.
-    ghost may = { λ self steps reply. ((old new : Stoppable) × (steps ≡ Replaced self.id old new ∷ []) × (reply ≡ Ok old.value))
-        ⊎ ((steps ≡ Refused self.id ∷ []) × (reply ≡ Err InvalidId)) };
+    ghost does = { λ self v reply w. reply ≡ v.value };
 
-    ghost replies = { λ reply. Unit {0} };
-
-    fn call<P: EventPoller, W: Wait + Clock>(
-        self,
-        registry: &mut Registry<Stoppable, P>,
-        _rt: &W,
-    ) -> Result<u64> {
-        match registry.subscriber_mut(self.id) {
-            Ok(subscriber) => Ok(subscriber.make(self.change)),
-            Err(e) => Err(e),
+    fn act<R: Wait + Clock>(self, subscriber: &mut Stoppable, _rt: &R) -> u64 {
+        let value = subscriber.value;
+        match self {
+            Change::Set(to) => subscriber.value = to,
+            Change::Read => {}
+            Change::Stop => subscriber.is_stopped = true,
         }
+        value
     }
 }
 
@@ -97,12 +68,20 @@ const CHANGES: [(Change, u64); 3] = [(Change::Set(7), 0), (Change::Read, 7), (Ch
 #[derive(Drop)]
 struct Caller(SubscriberId);
 
-impl<R: Looping> Sender<Stoppable, Order, (), R> for Caller {
-    fn send<N: NamedCounter>(self, endpoint: &RemoteEndpoint<Stoppable, Order, N>, rt: &R) {
+impl<R: Looping> Sender<Stoppable, ActionOn<Change>, (), R> for Caller {
+    fn send<N: NamedCounter>(
+        self,
+        endpoint: &RemoteEndpoint<Stoppable, ActionOn<Change>, N>,
+        rt: &R,
+    ) {
         let Caller(id) = self;
         let endpoint = expect_ok(rt, endpoint.try_clone());
         for (change, value) in CHANGES {
-            let reply = endpoint.call_blocking(Order { id, change }, rt);
+            let change = ActionOn {
+                subscriber: id,
+                action: change,
+            };
+            let reply = endpoint.call_blocking(change, rt);
             expect_same(rt, &reply, &Ok(Ok(value)));
         }
     }
@@ -116,7 +95,7 @@ struct Called {
 
 /// Whether the subscriber is stopped.
 fn is_stopped<N: NamedCounter, P: EventPoller>(
-    manager: &EventManager<Stoppable, Order, N, P>,
+    manager: &EventManager<Stoppable, ActionOn<Change>, N, P>,
     id: SubscriberId,
 ) -> Result<bool> {
     match manager.subscriber(id) {
@@ -125,12 +104,12 @@ fn is_stopped<N: NamedCounter, P: EventPoller>(
     }
 }
 
-impl<R: Looping> LoopWithSenders<Stoppable, Order, Caller, R> for Called {
+impl<R: Looping> LoopWithSenders<Stoppable, ActionOn<Change>, Caller, R> for Called {
     fn begin<N: NamedCounter, P: EventPoller>(
         &mut self,
         rt: &R,
         alloc: Global,
-        manager: &mut EventManager<Stoppable, Order, N, P>,
+        manager: &mut EventManager<Stoppable, ActionOn<Change>, N, P>,
     ) -> Result<Vec<Caller>> {
         let joined = manager.add_subscriber(Stoppable {
             value: 0,
@@ -144,7 +123,7 @@ impl<R: Looping> LoopWithSenders<Stoppable, Order, Caller, R> for Called {
     fn run<N: NamedCounter, P: EventPoller>(
         &mut self,
         rt: &R,
-        manager: &mut EventManager<Stoppable, Order, N, P>,
+        manager: &mut EventManager<Stoppable, ActionOn<Change>, N, P>,
         _senders: &Senders,
     ) -> Result<()> {
         let id = self.id.ok_or(Error::InvalidId)?;

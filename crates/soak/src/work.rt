@@ -1,7 +1,10 @@
 //! The jobs.
 
 use crate::device::Device;
-use event_manager::{EventPoller, Job, Registry, Result, SubscriberId, SubscriberOps};
+use event_manager::{
+    Action, ActionOn, AddSubscriber, EventPoller, Job, Registry, RemoveSubscriber, Result,
+    SubscriberId,
+};
 use std::sync::Wait;
 use std::time::Clock;
 
@@ -27,6 +30,20 @@ pub enum Reply {
     Left(Result<(u64, u64)>),
 }
 
+/// Counts a job at a device.
+#[derive(Drop)]
+struct CountJob;
+
+impl<R: Wait + Drop> Action<Device<R>> for CountJob {
+    type Reply = ();
+
+    ghost does = { λ self v reply w. Unit {0} };
+
+    fn act<W: Wait + Clock>(self, device: &mut Device<R>, _rt: &W) {
+        device.count_job();
+    }
+}
+
 impl<R: Wait + Drop> Job<Device<R>> for Work<R> {
     type Reply = Reply;
 
@@ -37,21 +54,18 @@ impl<R: Wait + Drop> Job<Device<R>> for Work<R> {
     fn call<P: EventPoller, W: Wait + Clock>(
         self,
         registry: &mut Registry<Device<R>, P>,
-        _rt: &W,
+        rt: &W,
     ) -> Reply {
         match self {
-            Work::Count(id) => match registry.subscriber_mut(id) {
-                Ok(device) => {
-                    device.count_job();
-                    Reply::Counted(Ok(()))
-                }
-                Err(e) => Reply::Counted(Err(e)),
-            },
-            Work::Join(guest) => Reply::Joined(registry.add_subscriber(guest)),
-            Work::Leave(id) => match registry.remove_subscriber(id) {
-                Ok(guest) => Reply::Left(Ok((guest.read, guest.refused))),
-                Err(e) => Reply::Left(Err(e)),
-            },
+            Work::Count(subscriber) => {
+                let action = CountJob;
+                Reply::Counted(ActionOn { subscriber, action }.call(registry, rt))
+            }
+            Work::Join(guest) => Reply::Joined(AddSubscriber(guest).call(registry, rt)),
+            Work::Leave(id) => {
+                let left = RemoveSubscriber(id).call(registry, rt);
+                Reply::Left(left.map(|guest| (guest.read, guest.refused)))
+            }
         }
     }
 }

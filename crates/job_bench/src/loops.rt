@@ -1,0 +1,121 @@
+//! What a delivery costs of several loops at once, each on a thread of its own, over a table of its own.
+
+use crate::calls::Host;
+use anyhow::Result;
+use event_manager::utilities::subscribers::CounterSubscriber;
+use event_manager::{EventLoop, EventPoller, SubscriberOps, ThreadLoop, with_loops};
+use measures::arguments::Family;
+use measures::bench::{Bench, Measured, expect};
+use measures::timing::Times;
+use std::alloc::Global;
+use vmm_sys::epoll::Epoll;
+use vmm_sys::eventfd::EventFd;
+
+/// What picks these measures.
+pub const LOOPS: Family = Family("loops");
+
+/// How many runs each loop makes in a repeat in full.
+const RUNS: u32 = 40960;
+
+/// How many counters a loop has, each of which each run delivers.
+const COUNTERS: u32 = 16;
+
+/// How many loops there are, each with the name of its measure.
+const LOOPS_AT_ONCE: [(u32, &str); 3] = [
+    (1, "a delivery of one loop"),
+    (2, "a delivery of one of 2 loops at once"),
+    (4, "a delivery of one of 4 loops at once"),
+];
+
+/// A loop over these counters, which makes so many runs.
+#[derive(Drop)]
+struct Delivering<P> {
+    poller: P,
+    counters: Vec<EventFd>,
+    runs: u32,
+}
+
+/// One over a table of its own, whose counters stay ready.
+fn begin<R: Host>(runs: u32, alloc: Global, rt: &R) -> Result<Delivering<Epoll<R>>> {
+    let poller = Epoll::new(*rt, alloc)?;
+    let mut counters = Vec::new(alloc);
+    for _counter in 0..COUNTERS {
+        counters.push(EventFd::new(&poller, 1, rt)?)?;
+    }
+    Ok(Delivering {
+        poller,
+        counters,
+        runs,
+    })
+}
+
+/// Makes the runs, and answers how many events they delivered.
+fn deliver<P: EventPoller + Drop>(it: Delivering<P>) -> event_manager::Result<u64> {
+    let Delivering {
+        poller,
+        counters,
+        runs,
+    } = it;
+    let mut event_loop = EventLoop::new(*counters.allocator(), poller)?;
+    for counter in counters {
+        event_loop.add_subscriber(CounterSubscriber::new(counter))?;
+    }
+    let mut delivered: u64 = 0;
+    for _run in 0..runs {
+        delivered = delivered.saturating_add(event_loop.run()? as u64);
+    }
+    Ok(delivered)
+}
+
+impl<P: EventPoller + Drop, R> ThreadLoop<R> for Delivering<P> {
+    type Output = event_manager::Result<u64>;
+
+    fn run(self, _rt: &R) -> event_manager::Result<u64> {
+        deliver(self)
+    }
+}
+
+/// Makes so many runs in each of so many loops at once, and answers how many events all delivered.
+fn deliver_at_once<R: Host>(loops: u32, runs: u32, alloc: Global, rt: &R) -> Result<u64> {
+    let mut others = Vec::new(alloc);
+    for _other in 1..loops {
+        others.push(begin(runs, alloc, rt)?)?;
+    }
+    let (first, others) = with_loops(rt, alloc, begin(runs, alloc, rt)?, others)?;
+    let mut delivered = first?;
+    for other in others {
+        delivered = delivered.saturating_add(other?);
+    }
+    Ok(delivered)
+}
+
+/// Measures a delivery of so many loops at once: the time of all over the deliveries of all.
+fn measure_loops_at_once<R: Host>(bench: &Bench<R>, loops: u32) -> Result<Measured> {
+    let runs = bench.rounds(RUNS);
+    let operations = u64::from(loops).saturating_mul(u64::from(runs.saturating_mul(COUNTERS)));
+    let mut count: u64 = 0;
+    let times = Times::of(
+        || -> Result<()> {
+            let delivered = deliver_at_once(loops, runs, bench.alloc, &bench.rt)?;
+            count = count.saturating_add(expect(delivered, operations)?);
+            Ok(())
+        },
+        &bench.rt,
+    )?;
+    Ok(Measured {
+        times,
+        operations,
+        count,
+    })
+}
+
+/// Measures deliveries of several loops, where they are wanted.
+pub fn measure_loops<R: Host>(bench: &Bench<R>) -> Result<()> {
+    if !bench.wanted.has_family(LOOPS) {
+        return Ok(());
+    }
+    for (loops, name) in LOOPS_AT_ONCE {
+        bench.print(name, measure_loops_at_once(bench, loops)?)?;
+    }
+    Ok(())
+}

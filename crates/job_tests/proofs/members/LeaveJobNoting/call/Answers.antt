@@ -1,8 +1,0 @@
-use Rattle.std.proofs.Common.{refl, [], ◌∷◌}
-use Rattle.event_manager.proofs.OneStep.{one_step}
-use Rattle.job_tests.proofs.members.LeaveJobNoting.call.Goals as goal
-
-pub returns-clause-stepped : goal.returns-clause-stepped
-returns-clause-stepped g c =
-    let did = c.remove_subscriber.ensures in
-    (did.0 ∷ [], (did.0, refl, did.1), one_step _ _ did.0 did.2)

@@ -1,0 +1,154 @@
+//! The loop that accepts connections, hands them to the workers, and hears what they have done.
+
+use crate::fault::Fault;
+use crate::inbox::Inbox;
+use crate::worker::{Connection, Report};
+use channels::{Receiver, Sender, channel};
+use event_manager::{Either, EventLoop, EventPoller, SubscriberOps, ThreadLoop};
+use std::alloc::Global;
+use std::mem;
+use std::sync::Wait;
+use std::time::Clock;
+use vmm_sys::epoll::Epoll;
+use vmm_sys::eventfd::EventFd;
+
+/// Who asks for a connection: what it will say.
+pub type Client = [&'static str; 2];
+
+/// The way to a worker: its poller, by which a descriptor is opened that it can watch, and where it is sent connections.
+#[derive(Drop)]
+pub struct Lane<R> {
+    /// The worker's poller.
+    pub epoll: Epoll<R>,
+    /// Where it is sent connections.
+    pub connections: Sender<Connection>,
+}
+
+/// Who is in the acceptor's loop: where clients come, and where the workers report.
+type Peer<R> = Either<Inbox<Client, R>, Inbox<Report, R>>;
+
+/// Gives each client that comes a connection to the worker whose turn it is, and gathers what the workers report.
+#[derive(Drop)]
+pub struct Acceptor<P, R> {
+    /// Its poller.
+    pub poller: P,
+    /// By which clients come.
+    pub clients: Receiver<Client>,
+    /// By which the workers report.
+    pub reports: Receiver<Report>,
+    /// The ways to the workers, the one whose turn it is first.
+    pub lanes: Vec<Lane<R>>,
+    /// Where its memory comes from.
+    pub alloc: Global,
+}
+
+/// The client says what it has to say.
+fn say<R: Wait + Clock>(
+    client: Client,
+    sender: &Sender<String>,
+    alloc: Global,
+    rt: &R,
+) -> Result<(), Fault> {
+    for word in client {
+        let word = String::from_str(alloc, word)?;
+        sender.send(word, rt).map_err(|refused| refused.why)?;
+    }
+    Ok(())
+}
+
+impl<R: Wait + Clock + Drop> Lane<R> {
+    /// Makes a connection, in whose place a channel of the worker's table stands, and sends the worker its end. The client
+    /// says what it has to say, and closes whatever came of that: the worker waits for it.
+    fn connect(&self, client: Client, alloc: Global, rt: &R) -> Result<(), Fault> {
+        let (sender, receiver) = channel(EventFd::new(&self.epoll, 0, rt)?, alloc)?;
+        self.connections
+            .send(receiver, rt)
+            .map_err(|refused| refused.why)?;
+        let said = say(client, &sender, alloc, rt);
+        sender.close(rt).map_err(|refused| refused.errno)?;
+        said
+    }
+
+    /// Sends no more connections.
+    fn close(self, rt: &R) -> Result<(), Fault> {
+        Ok(self.connections.close(rt).map_err(|refused| refused.errno)?)
+    }
+}
+
+/// Connects each client to the worker whose turn it is.
+fn connect_all<R: Wait + Clock + Drop>(
+    clients: Vec<Client>,
+    lanes: &mut Vec<Lane<R>>,
+    alloc: Global,
+    rt: &R,
+) -> Result<(), Fault> {
+    for client in clients {
+        if let Some(lane) = lanes.first() {
+            lane.connect(client, alloc, rt)?;
+            lanes.rotate_left(1);
+        }
+    }
+    Ok(())
+}
+
+/// Closes all that are open.
+fn close_all<R: Wait + Clock + Drop>(lanes: &mut Vec<Lane<R>>, rt: &R) -> Result<(), Fault> {
+    let empty = Vec::new(*lanes.allocator());
+    for lane in mem::replace(lanes, empty) {
+        lane.close(rt)?;
+    }
+    Ok(())
+}
+
+/// Gathers the reports, in the order in which they come, until all workers have closed.
+fn gather<R: Wait + Clock + Drop, P: EventPoller + Drop>(
+    mut peers: EventLoop<Peer<R>, P>,
+    clients: Inbox<Client, R>,
+    reports: Inbox<Report, R>,
+    lanes: &mut Vec<Lane<R>>,
+    alloc: Global,
+    rt: &R,
+) -> Result<Vec<Report>, Fault> {
+    let clients = peers.add_subscriber(Either::First(clients))?;
+    let reports = peers.add_subscriber(Either::Second(reports))?;
+    let mut all = Vec::new(alloc);
+    for _run in rt.forever() {
+        // Before the wait, since one whose request was refused has no event that would end it.
+        if let Either::First(inbox) = peers.subscriber_mut(clients)? {
+            connect_all(inbox.take_arrived()?, lanes, alloc, rt)?;
+            if inbox.is_over() {
+                close_all(lanes, rt)?;
+            }
+        }
+        if let Either::Second(inbox) = peers.subscriber_mut(reports)? {
+            all.append(&mut inbox.take_arrived()?)?;
+            if inbox.is_over() {
+                break;
+            }
+        }
+        peers.run()?;
+    }
+    Ok(all)
+}
+
+impl<P: EventPoller + Drop, R: Wait + Clock + Copy + Drop> ThreadLoop<R> for Acceptor<P, R> {
+    type Output = Result<Vec<Report>, Fault>;
+
+    fn run(self, rt: &R) -> Result<Vec<Report>, Fault> {
+        let Acceptor {
+            poller,
+            clients,
+            reports,
+            mut lanes,
+            alloc,
+        } = self;
+        let clients = Inbox::new(clients, alloc, *rt);
+        let reports = Inbox::new(reports, alloc, *rt);
+        let gathered = match EventLoop::new(alloc, poller) {
+            Ok(peers) => gather(peers, clients, reports, &mut lanes, alloc, rt),
+            Err(error) => Err(Fault::Loop(error)),
+        };
+        close_all(&mut lanes, rt)?;
+        gathered
+    }
+}
