@@ -12,3 +12,8 @@ pub fn expect_same<A: PartialEq + Debug, R: Abort>(rt: &R, found: &A, expected: 
 pub fn expect_ok<A, E: Debug + Drop, R: Abort>(rt: &R, answer: Result<A, E>) -> A {
     answer.expect(rt, "it succeeds")
 }
+
+/// Puts a value last.
+pub fn put<A: Drop, R: Abort>(rt: &R, list: &mut Vec<A>, value: A) {
+    expect_same(rt, &list.push(value).is_ok(), &true);
+}

@@ -4,8 +4,6 @@
 #[cfg(test)]
 mod bounds;
 #[cfg(test)]
-mod closing;
-#[cfg(test)]
 mod ends;
 #[cfg(test)]
 mod expecting;
@@ -18,7 +16,11 @@ mod looks;
 #[cfg(test)]
 mod order;
 #[cfg(test)]
+mod receiving;
+#[cfg(test)]
 mod rings;
+#[cfg(test)]
+mod rounds;
 #[cfg(test)]
 mod senders;
 #[cfg(test)]

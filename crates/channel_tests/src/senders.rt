@@ -1,128 +1,189 @@
-//! Three threads that send, beside the one that waits and receives: no message and no wake-up is lost.
+//! Three threads that send, beside one that receives, or closes: no message and no wake-up is lost, and none comes twice.
 
-use crate::expecting::{expect_ok, expect_same};
+use crate::expecting::{expect_ok, expect_same, put};
 use crate::host::{Host, Looping};
-use crate::watched::{Watched, another, close, open, send_all};
-use channels::Sender;
+use crate::receiving::Receiving;
+use crate::rounds::{MESSAGES, ROUNDS, Rounds, SENDERS, messages_of, rest};
+use crate::watched::{Watched, another, close, open};
+use channels::{Refusal, SendError, Sender};
 use std::alloc::Global;
 use std::process::Abort;
-use std::thread::JoinHandle;
-use std::{hint, thread};
+use std::thread;
 
-/// How many channels a test makes.
-const ROUNDS: u64 = 20;
+/// A thread's senders, one for each round, and its first number.
+#[derive(Drop)]
+struct Sending {
+    senders: Vec<Sender<u64>>,
+    from: u64,
+}
 
-/// How many messages each thread sends.
-const MESSAGES: u64 = 1000;
+impl Sending {
+    /// Sends in each round, and closes its sender: how many messages of each were agreed to.
+    fn send<R: Looping>(self, rt: &R, alloc: Global, rounds: &Rounds) -> Vec<u64> {
+        let Sending { senders, from } = self;
+        let mut agreed = Vec::new(alloc);
+        for (round, sender) in (0u64..).zip(senders) {
+            rounds.begin(rt, round);
+            put(rt, &mut agreed, send_round(rt, &sender, round, from));
+            close(rt, sender);
+        }
+        agreed
+    }
+}
 
-/// How many threads send.
-const SENDERS: u64 = 3;
-
-/// For how many turns a thread rests between two sends at most, so that they come at each point of a take.
-const MOST_TURNS: u64 = 256;
-
-/// Sends numbers from this one up, and closes the sender.
-fn send_numbers<R: Looping>(rt: &R, sender: Sender<u64>, from: u64) {
-    for number in 0..MESSAGES {
-        send_all(rt, &sender, &[from.saturating_add(number)]);
-        for _turn in 0..number % MOST_TURNS {
-            hint::spin_loop();
+/// Sends a round's numbers from this one up, and expects all of them back from the first on that is refused: how many were
+/// agreed to.
+fn send_round<R: Looping>(rt: &R, sender: &Sender<u64>, round: u64, from: u64) -> u64 {
+    let mut agreed = 0;
+    for number in 0..messages_of(round) {
+        let message = from.saturating_add(number);
+        rest(round, message);
+        match sender.send(message, rt) {
+            Ok(()) => {
+                expect_same(rt, &agreed, &number);
+                agreed = number.saturating_add(1);
+            }
+            Err(refused) => {
+                let why = Refusal::Closed;
+                expect_same(rt, &refused, &SendError { why, message });
+            }
         }
     }
-    close(rt, sender);
+    agreed
 }
 
-/// Starts a thread that sends numbers from this one up.
-fn start<R: Host>(rt: R, sender: Sender<u64>, from: u64) -> JoinHandle<()> {
-    let started = thread::spawn(&rt, move || send_numbers(&rt, sender, from));
-    expect_ok(&rt, started)
-}
-
-/// Starts the threads. The sender closes, so that theirs are the last.
-fn start_all<R: Host>(rt: R, alloc: Global, sender: Sender<u64>) -> Vec<JoinHandle<()>> {
-    let mut started = Vec::new(alloc);
+/// The channel of each round: what is received from, and each thread's senders.
+fn open_all<R: Looping>(rt: &R, alloc: Global) -> (Vec<Watched<R>>, Vec<Sending>) {
+    let (mut all, mut threads) = (Vec::new(alloc), Vec::new(alloc));
     for index in 0..SENDERS {
-        let thread = start(rt, another(&rt, &sender), index * MESSAGES);
-        expect_same(&rt, &started.push(thread).is_ok(), &true);
-    }
-    close(&rt, sender);
-    started
-}
-
-/// Waits and takes until all senders have closed: the messages, in order.
-fn take_all<R: Looping>(rt: &R, alloc: Global, watched: &mut Watched<R>) -> Vec<u64> {
-    let mut list = Vec::new(alloc);
-    for _turn in rt.forever() {
-        watched.wait(rt);
-        expect_ok(rt, watched.receiver.take(&mut list, rt));
-        if watched.receiver.is_over(rt) {
-            break;
-        }
-    }
-    list
-}
-
-/// As [`take_all`], by one message for each wait.
-fn receive_all<R: Looping>(rt: &R, alloc: Global, watched: &mut Watched<R>) -> Vec<u64> {
-    let mut list = Vec::new(alloc);
-    for _turn in rt.forever() {
-        watched.wait(rt);
-        let Some(message) = watched.receiver.recv(rt) else {
-            break;
+        let thread = Sending {
+            senders: Vec::new(alloc),
+            from: index * MESSAGES,
         };
-        expect_ok(rt, list.push(message));
+        put(rt, &mut threads, thread);
     }
-    list
+    for _round in 0..ROUNDS {
+        let (sender, watched) = open(*rt, alloc, 0);
+        for thread in &mut threads {
+            put(rt, &mut thread.senders, another(rt, &sender));
+        }
+        close(rt, sender);
+        put(rt, &mut all, watched);
+    }
+    (all, threads)
 }
 
-/// Expects each message of each sender once, those of one sender in order.
-fn expect_all<R: Abort>(rt: &R, list: &[u64]) {
-    expect_same(rt, &(list.len() as u64), &(SENDERS * MESSAGES));
-    for index in 0..SENDERS {
-        let mut next = index * MESSAGES;
-        for message in list {
-            if *message / MESSAGES == index {
-                expect_same(rt, message, &next);
-                next = next.saturating_add(1);
+/// Receives in each round: what came out in each.
+fn receive_rounds<R: Looping>(
+    rt: &R,
+    alloc: Global,
+    rounds: &Rounds,
+    all: Vec<Watched<R>>,
+    how: Receiving,
+) -> Vec<Vec<u64>> {
+    let mut lists = Vec::new(alloc);
+    for (round, watched) in (0u64..).zip(all) {
+        rounds.begin(rt, round);
+        put(rt, &mut lists, how.receive(rt, alloc, watched, round));
+    }
+    lists
+}
+
+/// What came out in each round, and how many of each thread's messages were agreed to in each.
+#[derive(Drop)]
+struct Ended {
+    lists: Vec<Vec<u64>>,
+    agreed: Vec<Vec<u64>>,
+}
+
+/// Makes the rounds, beside who looks on.
+fn make_rounds<R: Host>(rt: &R, alloc: Global, how: Receiving) -> Ended {
+    let rounds = Rounds::new();
+    let (all, threads) = open_all(rt, alloc);
+    let (_, ended) = thread::join(
+        rt,
+        || rounds.look_on(rt),
+        || {
+            let ended = receive_beside(rt, alloc, &rounds, all, threads, how);
+            rounds.end();
+            ended
+        },
+    );
+    ended
+}
+
+/// Receives beside the threads that send.
+fn receive_beside<R: Host>(
+    rt: &R,
+    alloc: Global,
+    rounds: &Rounds,
+    all: Vec<Watched<R>>,
+    threads: Vec<Sending>,
+    how: Receiving,
+) -> Ended {
+    let (agreed, lists) = thread::join(
+        rt,
+        || thread::map_vec(rt, threads, &|thread| thread.send(rt, alloc, rounds)),
+        || receive_rounds(rt, alloc, rounds, all, how),
+    );
+    Ended {
+        lists,
+        agreed: expect_ok(rt, agreed),
+    }
+}
+
+impl Ended {
+    /// Expects that in each round those messages came out that were agreed to, each once, and those of a sender in order.
+    fn expect_agreed<R: Abort>(&self, rt: &R) {
+        for (round, list) in self.lists.iter().enumerate() {
+            let mut all = 0u64;
+            for (index, counts) in (0u64..).zip(self.agreed.iter()) {
+                let count = counts.get(round).copied().unwrap_or(0);
+                expect_numbers(rt, list.as_slice(), index.saturating_mul(MESSAGES), count);
+                all = all.saturating_add(count);
+            }
+            expect_same(rt, &(list.len() as u64), &all);
+        }
+    }
+
+    /// Expects that all messages were agreed to.
+    fn expect_none_refused<R: Abort>(&self, rt: &R) {
+        for counts in &self.agreed {
+            expect_same(rt, &(counts.len() as u64), &ROUNDS);
+            for (round, count) in (0u64..).zip(counts.iter()) {
+                expect_same(rt, count, &messages_of(round));
             }
         }
     }
 }
 
-/// Takes all that three threads send over a new channel.
-fn take_beside_senders<R: Host>(rt: R, alloc: Global) {
-    let (sender, mut watched) = open(rt, alloc, 0);
-    let started = start_all(rt, alloc, sender);
-    let list = take_all(&rt, alloc, &mut watched);
-    for thread in started {
-        thread.join(&rt);
+/// Expects so many numbers from this one up among the messages, in order.
+fn expect_numbers<R: Abort>(rt: &R, list: &[u64], from: u64, count: u64) {
+    let mut next = from;
+    for message in list {
+        if *message / MESSAGES == from / MESSAGES {
+            expect_same(rt, message, &next);
+            next = next.saturating_add(1);
+        }
     }
-    expect_all(&rt, list.as_slice());
-    expect_same(&rt, &watched.receiver.pending(), &Some(0));
-}
-
-/// As [`take_beside_senders`], by one message for each wait.
-fn receive_beside_senders<R: Host>(rt: R, alloc: Global) {
-    let (sender, mut watched) = open(rt, alloc, 0);
-    let started = start_all(rt, alloc, sender);
-    let list = receive_all(&rt, alloc, &mut watched);
-    for thread in started {
-        thread.join(&rt);
-    }
-    expect_all(&rt, list.as_slice());
-    expect_same(&rt, &watched.receiver.is_over(&rt), &true);
+    expect_same(rt, &next, &from.saturating_add(count));
 }
 
 #[test]
 fn what_threads_send_is_taken_once_and_in_order(rt: HostRuntime) {
-    for _round in 0..ROUNDS {
-        take_beside_senders(rt, rt.alloc());
-    }
+    let ended = make_rounds(&rt, rt.alloc(), Receiving::Take);
+    ended.expect_none_refused(&rt);
+    ended.expect_agreed(&rt);
 }
 
 #[test]
 fn what_threads_send_is_received_once_and_in_order(rt: HostRuntime) {
-    for _round in 0..ROUNDS {
-        receive_beside_senders(rt, rt.alloc());
-    }
+    let ended = make_rounds(&rt, rt.alloc(), Receiving::Receive);
+    ended.expect_none_refused(&rt);
+    ended.expect_agreed(&rt);
+}
+
+#[test]
+fn a_close_beside_sends_loses_no_message(rt: HostRuntime) {
+    make_rounds(&rt, rt.alloc(), Receiving::Close).expect_agreed(&rt);
 }

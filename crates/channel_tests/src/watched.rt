@@ -103,7 +103,8 @@ fn is_reported<R: Looping>(rt: &R, epoll: &mut Epoll<R>, ms: i32) -> bool {
     count > 0
 }
 
-fn time<R: Clock + Abort>(rt: &R) -> Instant {
+/// What time it is.
+pub fn time<R: Clock + Abort>(rt: &R) -> Instant {
     Instant::now(rt).expect(rt, "the clock is read")
 }
 
