@@ -1,11 +1,12 @@
-//! Makes each call of tables, scripts, records and channels that requests memory, and prints what it finally answered: the calls
-//! of `vmm_sys` and `channels` ([`refused_calls`] says how).
+//! Makes each call of tables, scripts, records, channels and timers that requests memory, and prints what it finally answered: the
+//! calls of `vmm_sys`, `channels` and `timerfd` ([`refused_calls`] says how).
 #![tactic(auto)]
 
 pub mod descriptors;
 pub mod messages;
 pub mod recording;
 pub mod tables;
+pub mod timers;
 
 use descriptors::open_descriptors;
 use messages::send_messages;
@@ -15,13 +16,15 @@ use refused_calls::host::Host;
 use std::alloc::Global;
 use std::process::ExitCode;
 use tables::{push_a_script, wait_on_a_table};
+use timers::open_timers;
 
 fn make_all_calls<R: Host>(rt: &R, alloc: Global) -> Result<(), Fault> {
     open_descriptors(rt, alloc)?;
     wait_on_a_table(rt, alloc)?;
     push_a_script(rt, alloc)?;
     record_and_replay(rt, alloc)?;
-    send_messages(rt, alloc)
+    send_messages(rt, alloc)?;
+    open_timers(rt, alloc)
 }
 
 fn main(rt: HostRuntime) -> ExitCode {

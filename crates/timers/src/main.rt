@@ -1,140 +1,175 @@
-//! The program `timers`: a wheel of timers on an event manager, driven tick by tick until a job stops it. A line is
-//! printed for each timer that goes off. Time is a counter, so each run prints the same; arguments and input are ignored.
+//! The program `timers`: timers as descriptors in an event manager, whose loop is run tick by tick until a job stops it, and
+//! then made again from the record of its poller.
+//!
+//! A line is printed for each event of a timer. The clock is the program's own, so each run prints the same; arguments and
+//! input are ignored.
 #![tactic(auto)]
 
-pub mod stop;
-pub mod wheel;
+mod dispatcher;
+mod stop;
 
+use anyhow::ensure;
+use dispatcher::{Delivery, Dispatcher, Plan, Then};
 use event_manager::{
-    Error, EventManager, EventPoller, Ledgers, NamedCounter, RemoteEndpoint, Result, SubscriberId,
+    ActionOn, Error, EventManager, EventPoller, Ledgers, NamedCounter, Result, SubscriberId,
     SubscriberOps, WithLedgers, with_ledgers,
 };
 use std::alloc::Global;
-use std::process::ExitCode;
 use std::sync::Wait;
+use std::sync::atomic::{AtomicU64, Ordering};
 use std::time::Clock;
 use stop::Stop;
+use timerfd::{TickClock, TimedPoller};
 use vmm_sys::epoll::Epoll;
 use vmm_sys::eventfd::EventFd;
-use wheel::{Schedule, Timer, Wheel};
+use vmm_sys::record::RecordEntry;
+use vmm_sys::recording_poller::RecordingPoller;
+use vmm_sys::replay_poller::ReplayPoller;
 
 /// The timers, by their numbers from 0.
-const TIMERS: [(&str, Schedule); 4] = [
-    ("heartbeat", Schedule::Every(2)),
-    ("timeout", Schedule::Once(3)),
-    ("report", Schedule::Every(5)),
-    ("reminder", Schedule::Once(4)),
+const TIMERS: [Plan; 5] = [
+    ("heartbeat", 2, Then::Repeat),
+    ("timeout", 3, Then::Cancel(3)),
+    ("report", 5, Then::Repeat),
+    ("reminder", 4, Then::Rest),
+    ("backoff", 1, Then::BackOff),
 ];
 
-/// The tick at which the program asks its wheel to stop.
-const STOP_AT: u64 = 8;
+/// What the clock shows in one run of the loop after the other.
+const TICKS: [u64; 8] = [1, 2, 3, 4, 5, 6, 11, 12];
 
-/// How many ticks a wheel runs at most.
-const MOST_TICKS: u64 = 100;
+/// The run in which the dispatcher is stopped, from 0.
+const STOPPED_IN: usize = 6;
 
-/// The manager of a wheel.
-type Manager<R, N, P> = EventManager<Wheel<R>, Stop, N, P>;
+/// How many entries find room in the record.
+const MOST_ENTRIES: usize = 64;
 
-/// A wheel that is ready to run: all that it needs but the manager, which is made of a counter and ledgers.
-struct Program<'a, R> {
-    rt: &'a R,
-    epoll: Epoll<R>,
-    wheel: Wheel<R>,
-}
-
-impl<R: Wait + Clock + Print + AllocGlobal + Clone + Send + Drop> WithLedgers for Program<'_, R> {
-    type Output = Result<u64>;
-
-    /// Makes the manager, and runs the wheel on it. Answers how many ticks it ran.
-    fn run<N: NamedCounter + Send + Sync>(self, counter: N, ledgers: Ledgers<N>) -> Result<u64> {
-        let Program { rt, epoll, wheel } = self;
-        let mut manager = Manager::<R, N, _>::new(rt.alloc(), epoll, counter, ledgers)?;
-        run_wheel(&mut manager, wheel, rt)
-    }
-}
-
-/// Takes the wheel in, arms its timers, and runs it until it is stopped. Answers how many ticks it ran.
-fn run_wheel<R: Wait + Clock + Print + AllocGlobal + Drop, N: NamedCounter, P: EventPoller + Drop>(
-    manager: &mut Manager<R, N, P>,
-    wheel: Wheel<R>,
-    rt: &R,
-) -> Result<u64> {
-    let endpoint = manager.remote_endpoint()?;
-    let wheel = arm(manager, wheel, rt.alloc())?;
-    turn(manager, &endpoint, wheel, rt)
-}
-
-/// Takes the wheel in, and arms its timers.
-fn arm<R: Wait + Print + Drop, N: NamedCounter, P: EventPoller>(
-    manager: &mut Manager<R, N, P>,
-    wheel: Wheel<R>,
+/// A dispatcher that is ready to run: all that it needs but the manager, which is made of a counter and ledgers.
+struct Program<'a, R, P> {
+    poller: P,
+    dispatcher: Dispatcher<R>,
+    clock: R,
+    ticks: &'a AtomicU64,
+    shown: [u64; 8],
     alloc: Global,
+}
+
+impl<R: Wait + Clock + Drop, P: EventPoller + Drop> WithLedgers for Program<'_, R, P> {
+    type Output = Result<(Vec<Delivery>, P)>;
+
+    /// Runs the dispatcher in a manager, until it is stopped. Answers what was delivered, and the poller.
+    fn run<N: NamedCounter + Send + Sync>(
+        self,
+        counter: N,
+        ledgers: Ledgers<N>,
+    ) -> Result<(Vec<Delivery>, P)> {
+        let Program {
+            poller,
+            dispatcher,
+            clock,
+            ticks,
+            shown,
+            alloc,
+        } = self;
+        let mut manager = EventManager::new(alloc, poller, counter, ledgers)?;
+        let ran = turn(&mut manager, dispatcher, ticks, &shown, &clock);
+        let (_, mut subscribers, poller) = manager.into_parts(&clock);
+        let dispatcher = subscribers.remove(ran?).ok_or(Error::InvalidId)?;
+        Ok((dispatcher.into_deliveries(), poller))
+    }
+}
+
+/// Takes the dispatcher in, and runs the loop once at each tick that is to be shown, until it is stopped. Answers its id.
+fn turn<R: Wait + Clock + Drop, N: NamedCounter, P: EventPoller>(
+    manager: &mut EventManager<Dispatcher<R>, ActionOn<Stop>, N, P>,
+    dispatcher: Dispatcher<R>,
+    ticks: &AtomicU64,
+    shown: &[u64],
+    clock: &R,
 ) -> Result<SubscriberId> {
-    let interests = wheel.interests(alloc)?;
-    let wheel = manager.add_subscriber(wheel)?;
-    let ops = manager.event_ops(wheel)?;
-    for events in interests {
-        ops.add(events)?;
-    }
-    Ok(wheel)
-}
-
-/// Runs the wheel tick by tick until it is stopped. Answers how many ticks it ran.
-fn turn<R: Wait + Clock + Print + Drop, N: NamedCounter, P: EventPoller>(
-    manager: &mut Manager<R, N, P>,
-    endpoint: &RemoteEndpoint<Wheel<R>, Stop, N>,
-    wheel: SubscriberId,
-    rt: &R,
-) -> Result<u64> {
-    for tick in 1..=MOST_TICKS {
-        manager.subscriber_mut(wheel)?.advance(tick)?;
-        if tick == STOP_AT {
-            let _ticket = endpoint.fire(Stop(wheel), rt)?;
+    let endpoint = manager.remote_endpoint()?;
+    let dispatcher = manager.add_subscriber(dispatcher)?;
+    for (run, tick) in shown.iter().enumerate() {
+        ticks.store(*tick, Ordering::SeqCst);
+        if run == STOPPED_IN {
+            let stop = ActionOn {
+                subscriber: dispatcher,
+                action: Stop,
+            };
+            let _ticket = endpoint.fire(stop, clock)?;
         }
-        manager.run_with_timeout(0, rt)?;
-        if manager.subscriber_mut(wheel)?.is_stopped() {
-            return Ok(tick);
+        manager.run_with_timeout(0, clock)?;
+        if manager.subscriber(dispatcher)?.is_stopped()? {
+            break;
         }
     }
-    Ok(MOST_TICKS)
+    Ok(dispatcher)
 }
 
-/// Makes the timers, each with a counter of the poller's table.
-fn make_timers<R: Wait + Clock + AllocGlobal + Clone + Send + Drop>(
-    epoll: &Epoll<R>,
-    rt: &R,
-) -> Result<Vec<Timer>> {
-    let mut timers = Vec::new(rt.alloc());
-    for (name, schedule) in TIMERS {
-        let counter = EventFd::new(epoll, 0, rt).map_err(Error::EventFd)?;
-        timers.push(Timer {
-            name,
-            schedule,
-            counter,
-        })?;
+/// What a run is made of, over a table and timers of its own: poller, endpoint and dispatcher.
+type Parts<R> = (TimedPoller<Epoll<R>, R>, EventFd, Dispatcher<R>);
+
+fn open<R: Wait + Clock + Copy + Send + Drop>(clock: &R, alloc: Global) -> Result<Parts<R>> {
+    let epoll = Epoll::new(*clock, alloc).map_err(Error::Epoll)?;
+    let endpoint = EventFd::new(&epoll, 0, clock).map_err(Error::EventFd)?;
+    let alarm = EventFd::new(&epoll, 0, clock).map_err(Error::EventFd)?;
+    let timed = TimedPoller::new(epoll, alarm, *clock, alloc).map_err(Error::Epoll)?;
+    let dispatcher = Dispatcher::new(&timed, &TIMERS, *clock, alloc)?;
+    Ok((timed, endpoint, dispatcher))
+}
+
+/// Runs a dispatcher. Answers what was delivered, and the record of its poller's calls.
+fn record<R: Wait + Clock + Copy + Send + Drop>(
+    ticks: &AtomicU64,
+    clock: &R,
+    alloc: Global,
+) -> Result<(Vec<Delivery>, Vec<RecordEntry>)> {
+    let (timed, endpoint, dispatcher) = open(clock, alloc)?;
+    let poller = RecordingPoller::new(timed, alloc, MOST_ENTRIES).map_err(Error::Epoll)?;
+    let program = Program {
+        poller,
+        dispatcher,
+        clock: *clock,
+        ticks,
+        shown: TICKS,
+        alloc,
+    };
+    let (deliveries, poller) = with_ledgers(endpoint, program)?;
+    Ok((deliveries, poller.into_parts().1))
+}
+
+/// Runs a dispatcher over the record, while the clock stands still. Answers what was delivered.
+fn replay<R: Wait + Clock + Copy + Send + Drop>(
+    record: Vec<RecordEntry>,
+    ticks: &AtomicU64,
+    clock: &R,
+    alloc: Global,
+) -> Result<Vec<Delivery>> {
+    let (_, endpoint, dispatcher) = open(clock, alloc)?;
+    let program = Program {
+        poller: ReplayPoller::new(record),
+        dispatcher,
+        clock: *clock,
+        ticks,
+        shown: [0; 8],
+        alloc,
+    };
+    let (deliveries, _) = with_ledgers(endpoint, program)?;
+    Ok(deliveries)
+}
+
+fn main(rt: HostRuntime) -> anyhow::Result<()> {
+    let ticks = AtomicU64::new(0);
+    let clock = TickClock::new(&ticks, rt);
+    let (deliveries, record) = record(&ticks, &clock, rt.alloc())?;
+    for delivery in &deliveries {
+        println!(rt; "{delivery}")?;
     }
-    Ok(timers)
-}
-
-/// Makes the wheel, and runs it. Answers how many ticks it ran.
-///
-/// `Epoll`, `EventFd` or `OutOfMemory` where the poller, a counter or memory is refused; else as the manager's calls are.
-fn run<R: Wait + Clock + Print + AllocGlobal + Copy + Send + Drop>(rt: &R) -> Result<u64> {
-    let epoll = Epoll::new(*rt, rt.alloc()).map_err(Error::Epoll)?;
-    let endpoint = EventFd::new(&epoll, 0, rt).map_err(Error::EventFd)?;
-    let wheel = Wheel::new(make_timers(&epoll, rt)?, *rt);
-    with_ledgers(endpoint, Program { rt, epoll, wheel })
-}
-
-fn main(rt: HostRuntime) -> ExitCode {
-    match run(&rt) {
-        Ok(ticks) => match println!(rt; "ran for {ticks} ticks") {
-            Ok(()) => ExitCode::SUCCESS,
-            Err(_) => ExitCode::FAILURE,
-        },
-        Err(error) => {
-            let _ = eprintln!(rt; "timers: {error}");
-            ExitCode::FAILURE
-        }
-    }
+    ticks.store(0, Ordering::SeqCst);
+    let replayed = replay(record, &ticks, &clock, rt.alloc())?;
+    let name = |delivery: &Delivery| delivery.name;
+    let is_same = deliveries.iter().map(name).eq(replayed.iter().map(name));
+    ensure!(is_same, "the replay delivered other events");
+    let count = replayed.len();
+    Ok(println!(rt; "replayed: the same {count} events, without a clock")?)
 }

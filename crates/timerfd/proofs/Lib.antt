@@ -1,0 +1,10 @@
+pub mod Settled
+pub mod Growth
+pub mod Due
+pub mod Expirations
+pub mod Others
+pub mod BesideTimers
+pub mod Waits
+pub mod Turns
+pub mod Steps
+pub mod Lines

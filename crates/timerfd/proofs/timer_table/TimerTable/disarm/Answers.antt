@@ -1,0 +1,10 @@
+use Rattle.std.proofs.Common.{refl, false}
+use Rattle.timerfd.specs.Timer.{disarmed}
+use Rattle.timerfd.proofs.Lines.{all_lines, tied_put}
+use Rattle.timerfd.proofs.timer_table.TimerTable.disarm.Goals as goal
+
+pub set_ready-requires-clause-lines : goal.set_ready-requires-clause-lines
+set_ready-requires-clause-lines c = all_lines c.self.inside.timers c.self.inside.table c.self.invariant
+
+pub invariant_of-self : goal.invariant_of-self
+invariant_of-self c = tied_put c.self.inside.timers c.self.inside.table c.self.invariant c.args.index disarmed false c.disarm.new.self c.set_ready.new.table refl c.disarm.ensures c.set_ready.ensures

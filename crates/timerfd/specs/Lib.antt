@@ -1,0 +1,9 @@
+pub mod Timer
+pub mod Dues
+pub mod DueTree
+pub mod Timers
+pub mod TimerTable
+pub mod Limits
+pub mod TimedPoller
+pub mod TimerFd
+pub mod Turns

@@ -1,0 +1,23 @@
+//! Timers as descriptors that become ready in time, over any poller, under the names of `vmm-sys-util`'s `timerfd`.
+//!
+//! A [`TimedPoller`] is a poller with timers beside it, and a [`TimerFd`] one of them. Below them are [`Timers`], without a clock, a
+//! lock or a descriptor: whoever holds them tells them the time, in nanoseconds since a beginning that is the caller's choice.
+#![tactic(auto)]
+
+mod clock;
+mod due_tree;
+pub mod laws;
+mod shared;
+mod tick_clock;
+mod timed_poller;
+mod timer;
+mod timer_fd;
+mod timer_table;
+mod timers;
+
+pub use tick_clock::TickClock;
+pub use timed_poller::TimedPoller;
+pub use timer::Timer;
+pub use timer_fd::TimerFd;
+pub use timer_table::TimerTable;
+pub use timers::Timers;

@@ -1,0 +1,195 @@
+//! Timers that a poller and descriptors share: each call is one step under their lock, and nothing of a caller's runs under it.
+
+ghost use Rattle.std.specs.Prelude.{◌≡◌, IfOk, IfErr};
+ghost use Rattle.std.specs.Arc.{arc_value};
+ghost use Rattle.timerfd.specs.Limits.{ms_until, lesser, IsLimit};
+ghost use Rattle.timerfd.specs.TimedPoller.{timer_of, Reports, Begins, AnswersOfTimer};
+
+use crate::clock;
+use crate::timer_table::TimerTable;
+use std::alloc::Global;
+use std::sync::{Arc, Mutex, Wait};
+use std::time::Clock;
+use vmm_sys::counter::Counter;
+use vmm_sys::epoll::{ControlOperation, EpollEvent, RawFd};
+use vmm_sys::errno::Errno;
+
+/// The timers, and whether a wait sleeps that counts with when the first of them was due.
+#[derive(Drop)]
+pub(crate) struct State {
+    pub(crate) timers: TimerTable,
+    asleep: bool,
+}
+
+/// How a wait begins: with so many entries of timers in front of the buffer, and for so many milliseconds at most.
+#[derive(Clone, Copy)]
+pub(crate) struct Begun {
+    pub(crate) front: usize,
+    pub(crate) limit: i32,
+}
+
+impl State {
+    // What is known of the time is told, and the entries of timers that are ready then are written in front of the buffer.
+    fn begin_wait(&mut self, now: Option<u64>, ms: i32, buffer: &mut [EpollEvent]) -> Begun
+        ensures { Begins ms buffer.old result.front result.limit buffer.new }
+    {
+        if let Some(now) = now {
+            self.timers.set_time(now);
+        }
+        let limit = self.limit(now.is_some(), ms);
+        self.asleep = limit != 0;
+        let front = self.timers.report(buffer);
+        Begun { front, limit }
+    }
+
+    // How long the poller below is waited for.
+    fn limit(&self, is_known: bool, ms: i32) -> i32
+        ensures { IsLimit self.now.timers is_known ms result }
+    {
+        let first = self.timers.next_due();
+        if self.timers.has_ready() {
+            return 0;
+        }
+        match first {
+            Some(due) if is_known => lesser(ms, ms_until(self.timers.time(), due)),
+            _ => ms,
+        }
+    }
+
+    // Arms the timer; the answer is whether a wait sleeps past when it is due, and is to be told.
+    fn arm(&mut self, index: usize, due: u64, interval: u64) -> bool {
+        let is_first = self.timers.next_due().is_none_or(|first| due < first);
+        let ends_a_sleep = self.asleep && is_first;
+        self.asleep = self.asleep && !is_first;
+        self.timers.arm(index, due, interval);
+        ends_a_sleep
+    }
+}
+
+// How many milliseconds it is until this time, rounded up.
+fn ms_until(now: u64, due: u64) -> u64
+    ensures { result ≡ ms_until now due }
+{
+    due.saturating_sub(now).div_ceil(1_000_000)
+}
+
+// The lesser of two limits, where a negative one is none.
+fn lesser(ms: i32, left: u64) -> i32
+    ensures { result ≡ lesser ms left }
+{
+    let left = i32::try_from(left).unwrap_or(i32::MAX);
+    if ms < 0 { left } else { ms.min(left) }
+}
+
+// The index of the timer with this descriptor, where there are so many timers.
+fn timer_of(fd: RawFd, count: usize) -> Option<usize>
+    ensures { result ≡ timer_of fd count }
+{
+    if fd < 0 {
+        return None;
+    }
+    let index = (RawFd::MAX - fd) as usize;
+    if index < count { Some(index) } else { None }
+}
+
+/// Timers under a lock, and the counter that ends a sleep.
+pub(crate) struct Shared<C> {
+    pub(crate) state: Mutex<State>,
+    pub(crate) counter: C,
+}
+
+// Not derived: then who owns one has a call to prove, and not a drop of all that is in it.
+impl<C: Drop> Drop for Shared<C> {
+    fn drop(self) {
+        let Shared {
+            state: _,
+            counter: _,
+        } = self;
+    }
+}
+
+/// No timers, with this counter. `ENOMEM`: memory was refused; the counter is dropped.
+pub(crate) fn new_timers<C: Drop>(counter: C, alloc: Global) -> Result<Arc<Shared<C>>, Errno>
+    ensures counter { IfOk result (λ timers. (arc_value timers).counter ≡ counter) }
+    ensures errors { IfErr result (λ e. e ≡ Errno.ENOMEM) }
+{
+    let state = State {
+        timers: TimerTable::new(alloc),
+        asleep: false,
+    };
+    let shared = Shared {
+        state: Mutex::new(state),
+        counter,
+    };
+    Arc::new(alloc, shared).map_err(|_| Errno::ENOMEM)
+}
+
+impl<C> Shared<C> {
+    /// Begins a wait of so many milliseconds, and writes the entries of ready timers into the front of the buffer. The clock is
+    /// read where a timer is armed, and nothing is told of the time where it answers an error.
+    pub(crate) fn begin_wait<R: Wait + Clock>(
+        &self,
+        ms: i32,
+        buffer: &mut [EpollEvent],
+        rt: &R,
+    ) -> Begun
+        ensures { Begins ms buffer.old result.front result.limit buffer.new }
+    {
+        let mut state = self.state.lock(rt);
+        if state.timers.next_due().is_none() {
+            // Under the same lock: an arming between this look and the sleep would find nobody asleep.
+            return state.begin_wait(None, ms, buffer);
+        }
+        drop(state);
+        let now = clock::now(rt).ok();
+        self.state.lock(rt).begin_wait(now, ms, buffer)
+    }
+
+    /// A sleep has ended.
+    pub(crate) fn end_sleep<R: Wait>(&self, rt: &R) {
+        self.state.lock(rt).asleep = false;
+    }
+
+    /// Writes the entries of ready timers into the front of the buffer, and answers their number.
+    pub(crate) fn report<R: Wait>(&self, buffer: &mut [EpollEvent], rt: &R) -> usize
+        ensures { Reports buffer.old result buffer.new }
+    {
+        self.state.lock(rt).timers.report(buffer)
+    }
+
+    /// Changes the interest in the timer with this descriptor; `None` where no timer has it.
+    pub(crate) fn ctl<R: Wait>(
+        &self,
+        op: ControlOperation,
+        fd: RawFd,
+        event: EpollEvent,
+        rt: &R,
+    ) -> Option<Result<(), Errno>>
+        ensures { AnswersOfTimer op fd event result }
+    {
+        let mut state = self.state.lock(rt);
+        let index = timer_of(fd, state.timers.len())?;
+        Some(state.timers.ctl(op, index, event))
+    }
+}
+
+impl<C: Counter> Shared<C> {
+    /// Arms the timer, and ends a sleep that would outlast when it is due.
+    pub(crate) fn arm<R: Wait + Clock>(
+        &self,
+        index: usize,
+        due: u64,
+        interval: u64,
+        rt: &R,
+    ) -> Result<(), Errno> {
+        let ends_a_sleep = self.state.lock(rt).arm(index, due, interval);
+        if !ends_a_sleep {
+            return Ok(());
+        }
+        match self.counter.ring(rt) {
+            // It is full, so the sleep ends all the same.
+            Err(Errno::EAGAIN) => Ok(()),
+            answer => answer,
+        }
+    }
+}

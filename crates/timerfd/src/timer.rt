@@ -1,0 +1,58 @@
+//! One timer.
+
+ghost use Rattle.std.specs.Prelude.{◌≡◌, ◌≤◌};
+ghost use Rattle.timerfd.specs.Timer.{expired, expired_since};
+
+/// A timer. Times are in nanoseconds.
+#[derive(Clone, Copy, PartialEq, Eq, Debug)]
+pub struct Timer {
+    /// When it is due; `None` while it is disarmed.
+    pub due: Option<u64>,
+    /// The time from one expiration to the next; 0 where there is one expiration alone.
+    pub interval: u64,
+    /// How often it has expired since its expirations were last taken; 18446744073709551615 stands for more, too.
+    pub expirations: u64,
+}
+
+impl Timer {
+    /// A timer that isn't due, with nothing to take.
+    pub const DISARMED: Timer = Timer {
+        due: None,
+        interval: 0,
+        expirations: 0,
+    };
+
+    /// The timer once it is `now`. Due up to now, it has expired, once and once more for each whole interval since, and it is due
+    /// next at the first of its times above now; it is disarmed where it has no interval, or where that time is above
+    /// 18446744073709551615. Else it is as it was.
+    pub fn expire(self, now: u64) -> Timer
+        ensures { result ≡ expired now self }
+    {
+        match self.due {
+            Some(due) if due <= now => self.expire_since(now, due),
+            _ => self,
+        }
+    }
+
+    fn expire_since(self, now: u64, due: u64) -> Timer
+        requires { due ≤ now }
+        ensures { result ≡ expired_since now due self }
+    {
+        if self.interval == 0 {
+            return Timer {
+                due: None,
+                interval: 0,
+                expirations: self.expirations.saturating_add(1),
+            };
+        }
+        let late = now - due;
+        Timer {
+            due: now.checked_add(self.interval - late % self.interval),
+            interval: self.interval,
+            expirations: self
+                .expirations
+                .saturating_add(late / self.interval)
+                .saturating_add(1),
+        }
+    }
+}
