@@ -1,2 +1,2 @@
-pub mod Devices
-pub mod Kicks
+pub mod NetEvents
+pub mod Answers

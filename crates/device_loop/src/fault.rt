@@ -15,7 +15,11 @@ pub enum Fault {
     #[error("a descriptor of a device: {0}")]
     Descriptor(#[from] Errno),
 
-    /// What the guest observed could not be written.
+    /// The loop replied to another request.
+    #[error("the reply to another request")]
+    Reply,
+
+    /// What was replied could not be written.
     #[error("cannot write: {0}")]
     Output(io::ErrorKind),
 }

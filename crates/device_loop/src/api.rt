@@ -1,0 +1,113 @@
+//! What the API asks of the loop.
+
+ghost use Rattle.device_loop.specs.Answers.{IsAnswer};
+
+use crate::console::Console;
+use crate::net::Net;
+use crate::statistics::Statistics;
+use crate::vmm::Vmm;
+use event_manager::{
+    Action, ActionOn, AddSubscriber, Either, Error, EventPoller, Job, Locked, Registry, Result,
+    SubscriberId,
+};
+use std::fmt;
+use std::sync::{Arc, Wait};
+use std::time::Clock;
+
+/// Who is in the loop: a network device, which a vCPU's thread shares; a console; what ends the machine.
+pub type Device<R> = Either<Arc<Locked<Net<R>, R>>, Either<Console<R>, Vmm<R>>>;
+
+/// What is asked of a device.
+#[derive(Clone, Copy)]
+pub enum ApiAction {
+    /// To tell what it has counted.
+    GetStatistics,
+    /// To give its rate limiter so many tokens more.
+    UpdateRateLimit(u64),
+}
+
+/// What the loop replies.
+#[derive(Clone, Copy, PartialEq, Eq, Debug)]
+pub enum ApiReply {
+    /// What the device has counted.
+    Statistics(Statistics),
+    /// The rate limiter is as it was asked.
+    Updated,
+    /// The id of a device that was plugged in.
+    PluggedIn(SubscriberId),
+}
+
+impl fmt::Display for ApiReply {
+    fn fmt<W: fmt::Write>(&self, f: &mut fmt::Formatter<W>) -> fmt::Result {
+        match self {
+            ApiReply::Statistics(statistics) => write!(f, "{statistics}"),
+            ApiReply::Updated => write!(f, "updated"),
+            ApiReply::PluggedIn(id) => write!(f, "plugged in as {}", id.number()),
+        }
+    }
+}
+
+// What a device answers. `InvalidId`: it has no statistics, or no rate limiter.
+fn answer<R: Wait + Drop, W: Wait>(
+    action: ApiAction,
+    device: &Device<R>,
+    rt: &W,
+) -> Result<ApiReply>
+    ensures { IsAnswer action device.now result }
+{
+    match (action, device) {
+        (ApiAction::GetStatistics, Either::First(net)) => {
+            net.mutex.lock(rt).statistics().map(ApiReply::Statistics)
+        }
+        (ApiAction::UpdateRateLimit(tokens), Either::First(net)) => {
+            let updated = net.mutex.lock(rt).update_rate_limit(tokens);
+            updated.map(|()| ApiReply::Updated).map_err(Error::EventFd)
+        }
+        (ApiAction::GetStatistics, Either::Second(Either::First(console))) => {
+            console.statistics().map(ApiReply::Statistics)
+        }
+        _ => Err(Error::InvalidId),
+    }
+}
+
+impl<R: Wait + Drop> Action<Device<R>> for ApiAction {
+    type Reply = Result<ApiReply>;
+
+    ghost use Rattle.std.specs.Prelude.{◌≡◌};
+    ghost use Rattle.device_loop.specs.Answers.{IsAnswer};
+
+    // It changes nothing of what the loop holds: of a network device that is a lock.
+    ghost does = { λ self v told w. IsAnswer self v told × (w ≡ v) };
+
+    fn act<W: Wait + Clock>(self, device: &mut Device<R>, rt: &W) -> Result<ApiReply> {
+        answer(self, device, rt)
+    }
+}
+
+/// A job of the loop.
+#[derive(Drop)]
+pub enum ApiRequest<R> {
+    /// Something is asked of the device of an id.
+    Ask(ActionOn<ApiAction>),
+    /// A device is plugged in.
+    PlugIn(AddSubscriber<Device<R>>),
+}
+
+impl<R: Wait + Drop> Job<Device<R>> for ApiRequest<R> {
+    type Reply = Result<ApiReply>;
+
+    ghost may = { λ self steps reply. Unit {0} };
+
+    ghost replies = { λ reply. Unit {0} };
+
+    fn call<P: EventPoller, W: Wait + Clock>(
+        self,
+        registry: &mut Registry<Device<R>, P>,
+        rt: &W,
+    ) -> Result<ApiReply> {
+        match self {
+            ApiRequest::Ask(question) => question.call(registry, rt)?,
+            ApiRequest::PlugIn(device) => device.call(registry, rt).map(ApiReply::PluggedIn),
+        }
+    }
+}

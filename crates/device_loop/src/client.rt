@@ -1,0 +1,94 @@
+//! The thread of the API, which plays whoever is at the other ends of the tap and of the console's line too.
+
+use crate::api::{ApiAction, ApiReply, ApiRequest, Device};
+use crate::console::Console;
+use crate::fault::Fault;
+use crate::shared::Shared;
+use event_manager::{
+    ActionOn, AddSubscriber, Either, EventSet, NamedCounter, RemoteEndpoint, SubscriberId,
+};
+use std::sync::Wait;
+use std::time::Clock;
+use vmm_sys::line::Line;
+
+/// By which the loop is asked.
+pub type Endpoint<N, R> = RemoteEndpoint<Device<R>, ApiRequest<R>, N>;
+
+/// What the thread of the API has in its hands.
+#[derive(Drop)]
+pub struct Client<'a, R> {
+    /// The id of the network device.
+    pub net: SubscriberId,
+    /// The other end of its tap.
+    pub tap: Line,
+    /// What it shares with the other threads.
+    pub shared: &'a Shared<R>,
+}
+
+// Asks the device of an id.
+fn ask<N: NamedCounter, R: Wait + Clock + Drop>(
+    endpoint: &Endpoint<N, R>,
+    subscriber: SubscriberId,
+    action: ApiAction,
+    rt: &R,
+) -> Result<ApiReply, Fault> {
+    let question = ActionOn { subscriber, action };
+    Ok(endpoint.call_blocking(ApiRequest::Ask(question), rt)??)
+}
+
+impl<R: Wait + Clock + Print + Copy + Drop> Client<'_, R> {
+    // Uses the network device, and prints each time what that has counted.
+    //
+    // No contract says that a reply counts what was done before. The first one comes behind the batch in which the device is
+    // set up, and each later one behind a batch that has what was done before: the jobs of a batch are run once all of it is
+    // handed out.
+    fn use_net<N: NamedCounter>(&self, endpoint: &Endpoint<N, R>, rt: &R) -> Result<(), Fault> {
+        let ask_net = |action| ask(endpoint, self.net, action, rt);
+        println!(rt; "rate limit: {}", ask_net(ApiAction::UpdateRateLimit(5))?)?;
+        println!(rt; "net, booted: {}", ask_net(ApiAction::GetStatistics)?)?;
+        self.tap.set(EventSet::IN, rt)?;
+        println!(rt; "net, input: {}", ask_net(ApiAction::GetStatistics)?)?;
+        self.tap.set(EventSet::HANG_UP, rt)?;
+        println!(rt; "net, hang-up: {}", ask_net(ApiAction::GetStatistics)?)?;
+        self.tap.set(EventSet::IN, rt)?;
+        println!(rt; "net, late input: {}", ask_net(ApiAction::GetStatistics)?)?;
+        Ok(())
+    }
+
+    // Plugs a console in, and uses it.
+    fn use_console<N: NamedCounter>(&self, endpoint: &Endpoint<N, R>, rt: &R) -> Result<(), Fault> {
+        let line = Line::new(&self.shared.epoll, rt)?;
+        let console = Either::Second(Either::First(Console::new(&line, *rt)?));
+        let plugged_in = endpoint.call_blocking(ApiRequest::PlugIn(AddSubscriber(console)), rt)??;
+        println!(rt; "console: {plugged_in}")?;
+        let ApiReply::PluggedIn(id) = plugged_in else {
+            return Err(Fault::Reply);
+        };
+        let ask_console = |action| ask(endpoint, id, action, rt);
+        line.set(EventSet::IN, rt)?;
+        println!(rt;
+            "console, input: {}",
+            ask_console(ApiAction::GetStatistics)?
+        )?;
+        line.set(EventSet::HANG_UP, rt)?;
+        println!(rt;
+            "console, hang-up: {}",
+            ask_console(ApiAction::GetStatistics)?
+        )?;
+        Ok(())
+    }
+
+    // Uses one device after the other.
+    fn use_devices<N: NamedCounter>(&self, endpoint: &Endpoint<N, R>, rt: &R) -> Result<(), Fault> {
+        self.use_net(endpoint, rt)?;
+        self.use_console(endpoint, rt)
+    }
+
+    /// Uses the devices once the guest has booted, and shuts it down, whatever came of that.
+    pub fn run<N: NamedCounter>(self, endpoint: &Endpoint<N, R>, rt: &R) -> Result<(), Fault> {
+        let _ = self.shared.has_booted.wait(rt);
+        let used = self.use_devices(endpoint, rt);
+        let _ = self.shared.is_to_shut_down.set(rt, ());
+        used
+    }
+}
