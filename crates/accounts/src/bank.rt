@@ -3,8 +3,8 @@
 use crate::account::Account;
 use crate::order::{Order, Told};
 use event_manager::{
-    Error, EventManager, EventPoller, LoopWithSenders, NamedCounter, RemoteEndpoint, Result,
-    Sender, SubscriberId, SubscriberOps,
+    ActionOn, Error, EventManager, EventPoller, LoopWithSenders, NamedCounter, RemoteEndpoint,
+    Result, Sender, SubscriberId, SubscriberOps,
 };
 use std::alloc::Global;
 use std::sync::Wait;
@@ -18,12 +18,13 @@ pub struct Bank {
     pub counter: EventFd,
 }
 
-impl<R: Wait + Clock + Copy + Drop> LoopWithSenders<Account<R>, Order, Customer, R> for Bank {
+impl<R: Wait + Clock + Copy + Drop> LoopWithSenders<Account<R>, ActionOn<Order>, Customer, R>
+    for Bank {
     fn begin<N: NamedCounter, P: EventPoller>(
         &mut self,
         rt: &R,
         alloc: Global,
-        manager: &mut EventManager<Account<R>, Order, N, P>,
+        manager: &mut EventManager<Account<R>, ActionOn<Order>, N, P>,
     ) -> Result<Vec<Customer>> {
         let first = Account::new(&self.counter, *rt).map_err(Error::EventFd)?;
         let removed = manager.add_subscriber(first)?;
@@ -56,23 +57,24 @@ pub struct Answers {
     /// The balance after the counter was written.
     pub later: Told,
     /// The reply to a job for an account that was removed.
-    pub removed: Told,
+    pub removed: Result<Told>,
 }
 
-impl<R: Wait + Clock + Drop> Sender<Account<R>, Order, Result<Answers>, R> for Customer {
+impl<R: Wait + Clock + Drop> Sender<Account<R>, ActionOn<Order>, Result<Answers>, R> for Customer {
     /// Deposits three times without waiting, and then asks.
     fn send<N: NamedCounter>(
         self,
-        endpoint: &RemoteEndpoint<Account<R>, Order, N>,
+        endpoint: &RemoteEndpoint<Account<R>, ActionOn<Order>, N>,
         rt: &R,
     ) -> Result<Answers> {
+        let ask = |subscriber, action| ActionOn { subscriber, action };
         for _ in 0..3 {
-            let _ticket = endpoint.fire(Order::Deposit(self.account, 400), rt)?;
+            let _ticket = endpoint.fire(ask(self.account, Order::Deposit(400)), rt)?;
         }
-        let balance = endpoint.call_blocking(Order::Read(self.account), rt)?;
+        let balance = endpoint.call_blocking(ask(self.account, Order::Read), rt)??;
         self.counter.write(25, rt).map_err(Error::EventFd)?;
-        let later = endpoint.call_blocking(Order::Read(self.account), rt)?;
-        let removed = endpoint.call_blocking(Order::Deposit(self.removed, 1), rt)?;
+        let later = endpoint.call_blocking(ask(self.account, Order::Read), rt)??;
+        let removed = endpoint.call_blocking(ask(self.removed, Order::Deposit(1)), rt)?;
         Ok(Answers {
             balance,
             later,

@@ -31,7 +31,9 @@ fn run_bank<R: Threads + Wait + Clock + Print + Copy + Send + Sync + Drop>(
         let told = told?;
         println!(rt; "three deposits of 400: {}", told.balance)?;
         println!(rt; "25 more by the counter: {}", told.later)?;
-        println!(rt; "an account that was removed: {}", told.removed)?;
+        if let Err(error) = told.removed {
+            println!(rt; "an account that was removed: {error}")?;
+        }
     }
     Ok(())
 }

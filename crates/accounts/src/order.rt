@@ -1,21 +1,21 @@
-//! The jobs for an account, and what they reply.
+//! What is asked of an account, and what it replies.
 
 use crate::account::Account;
-use event_manager::{EventPoller, Job, Registry, SubscriberId, SubscriberOps};
+use event_manager::Action;
 use std::fmt;
 use std::sync::Wait;
 use std::time::Clock;
 
-/// A job for an account.
-#[derive(Drop)]
+/// What is asked of an account.
+#[derive(Clone, Copy)]
 pub enum Order {
-    /// Adds the amount to the balance of the account of the id, where the sum isn't above 1000.
-    Deposit(SubscriberId, u64),
-    /// Reads the balance of the account of the id.
-    Read(SubscriberId),
+    /// To add the amount to its balance, where the sum isn't above 1000.
+    Deposit(u64),
+    /// To tell its balance.
+    Read,
 }
 
-/// What a job replies.
+/// What an account replies.
 #[derive(Clone, Copy, PartialEq, Eq, Debug)]
 pub enum Told {
     /// The balance after a deposit.
@@ -24,8 +24,6 @@ pub enum Told {
     Holds(u64),
     /// The balance would be above 1000; it stays as it is.
     TooMuch,
-    /// No account has the id.
-    NoAccount,
 }
 
 impl fmt::Display for Told {
@@ -34,37 +32,26 @@ impl fmt::Display for Told {
             Told::Deposited(balance) => write!(f, "the new balance is {balance}"),
             Told::Holds(balance) => write!(f, "the balance is {balance}"),
             Told::TooMuch => write!(f, "refused: that would be too much"),
-            Told::NoAccount => write!(f, "refused: nobody has the id"),
         }
     }
 }
 
-impl<R: Wait + Drop> Job<Account<R>> for Order {
+impl<R: Wait + Drop> Action<Account<R>> for Order {
     type Reply = Told;
 
-    ghost use Rattle.accounts.specs.Orders.{order_may, deposits_fit};
+    ghost use Rattle.accounts.specs.Orders.{order_does, deposits_fit};
 
-    ghost may = { order_may };
+    ghost does = { order_does };
 
     ghost replies = { deposits_fit };
 
-    fn call<P: EventPoller, W: Wait + Clock>(
-        self,
-        registry: &mut Registry<Account<R>, P>,
-        _rt: &W,
-    ) -> Told {
+    fn act<W: Wait + Clock>(self, account: &mut Account<R>, _rt: &W) -> Told {
         match self {
-            Order::Deposit(id, amount) => match registry.subscriber_mut(id) {
-                Ok(account) => match account.deposit(amount) {
-                    Some(balance) => Told::Deposited(balance),
-                    None => Told::TooMuch,
-                },
-                Err(_) => Told::NoAccount,
+            Order::Deposit(amount) => match account.deposit(amount) {
+                Some(balance) => Told::Deposited(balance),
+                None => Told::TooMuch,
             },
-            Order::Read(id) => match registry.subscriber_mut(id) {
-                Ok(account) => Told::Holds(account.balance()),
-                Err(_) => Told::NoAccount,
-            },
+            Order::Read => Told::Holds(account.balance()),
         }
     }
 }

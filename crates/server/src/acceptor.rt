@@ -6,8 +6,8 @@ ghost use Rattle.server.specs.Peers.{statistics_of as said_by};
 use crate::connection::Connection;
 use channels::Sender;
 use event_manager::{
-    Either, Error, EventOps, EventPoller, EventSet, Events, Job, MutEventSubscriber, Registry,
-    Result, SubscriberId, SubscriberOps,
+    Action, ActionOn, Either, Error, EventOps, EventPoller, EventSet, Events, MutEventSubscriber,
+    Result,
 };
 use std::sync::Wait;
 use std::time::Clock;
@@ -17,7 +17,7 @@ use vmm_sys::eventfd::EventFd;
 pub type Peer<R> = Either<Acceptor<R>, Connection<R>>;
 
 /// What came of the connections so far.
-#[derive(Clone, Copy, PartialEq, Eq, Debug)]
+#[derive(Clone, Copy, Default, PartialEq, Eq, Debug)]
 pub struct Statistics {
     /// How many were accepted, and let join.
     pub joined: u64,
@@ -54,11 +54,7 @@ impl<R: Drop> Acceptor<R> {
             knocks,
             coming,
             accepted,
-            statistics: Statistics {
-                joined: 0,
-                left: 0,
-                bytes: 0,
-            },
+            statistics: Statistics::default(),
             asked: Ok(()),
             rt,
         }
@@ -89,11 +85,9 @@ impl<R: Wait + Clock + Drop> MutEventSubscriber for Acceptor<R> {
 
     fn process<P: EventPoller>(&mut self, _events: Events, _ops: &mut EventOps<P>) {
         let _ = self.listener.read(&self.rt);
-        let Some(connection) = self.coming.pop() else {
-            return;
-        };
-        if self.accepted.send(connection, &self.rt).is_ok() {
-            self.statistics.joined = self.statistics.joined.saturating_add(1);
+        if let Some(connection) = self.coming.pop() {
+            let sent = self.accepted.send(connection, &self.rt).is_ok();
+            self.statistics.joined = self.statistics.joined.saturating_add(u64::from(sent));
         }
     }
 
@@ -112,32 +106,23 @@ fn statistics_of<R>(peer: &Peer<R>) -> Result<Statistics>
     }
 }
 
-/// Replies the statistics of the acceptor of the id; or the refusal of its request. `InvalidId` where no acceptor has it.
+/// Replies the statistics of an acceptor, or the refusal of its request; of a connection `InvalidId`.
 #[derive(Drop)]
-pub struct ReadStatistics(pub SubscriberId);
+pub struct ReadStatistics;
 
-impl<R: Wait + Clock + Drop> Job<Peer<R>> for ReadStatistics {
+impl<R: Wait + Clock + Drop> Action<Peer<R>> for ReadStatistics {
     type Reply = Result<Statistics>;
 
-    ghost use Rattle.std.specs.Prelude.{◌≡◌, [], ◌∷◌, ◌⊎◌, Err};
-    ghost use Rattle.event_manager.specs.Error.TheVariants.{InvalidId};
-    ghost use Rattle.event_manager.specs.Registry.{Replaced, Refused};
+    ghost use Rattle.std.specs.Prelude.{◌≡◌};
     ghost use Rattle.server.specs.Peers.{statistics_of as said_by};
 
-    // It leaves the peer of the id as it is, and replies what that says; or nobody has the id.
-    ghost may = { λ self steps reply. ((peer : _) × (steps ≡ Replaced self.0 peer peer ∷ []) × (reply ≡ said_by peer))
-        ⊎ ((steps ≡ Refused self.0 ∷ []) × (reply ≡ Err InvalidId)) };
+    // It leaves the peer as it is, and replies what that says.
+    ghost does = { λ self v reply w. (reply ≡ said_by v) × (w ≡ v) };
 
-    ghost replies = { λ reply. Unit {0} };
-
-    fn call<P: EventPoller, W: Wait + Clock>(
-        self,
-        registry: &mut Registry<Peer<R>, P>,
-        _rt: &W,
-    ) -> Result<Statistics> {
-        match registry.subscriber_mut(self.0) {
-            Ok(peer) => statistics_of(peer),
-            Err(error) => Err(error),
-        }
+    fn act<W: Wait + Clock>(self, peer: &mut Peer<R>, _rt: &W) -> Result<Statistics> {
+        statistics_of(peer)
     }
 }
+
+/// A job of the loop: a look at one peer.
+pub type Look = ActionOn<ReadStatistics>;

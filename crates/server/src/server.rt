@@ -1,8 +1,8 @@
 //! The loop: it lets join whom the acceptor has accepted, and leave who is over.
 
-use crate::acceptor::{Acceptor, Peer, ReadStatistics};
+use crate::acceptor::{Acceptor, Look, Peer};
 use crate::client::Client;
-use crate::connection::{Connection, Wire};
+use crate::connection::Connection;
 use crate::fault::Fault;
 use channels::{Receiver, Sender, channel};
 use event_manager::{
@@ -10,32 +10,58 @@ use event_manager::{
     SubscriberId, SubscriberOps,
 };
 use std::alloc::Global;
+use std::mem;
 use std::sync::Wait;
+use std::sync::atomic::AtomicU64;
 use std::time::Clock;
+use timerfd::{TimedPoller, TimerFd};
 use vmm_sys::epoll::Epoll;
 use vmm_sys::eventfd::EventFd;
+use vmm_sys::line::Line;
 
 /// A server of two connections, and its client.
 #[derive(Drop)]
-pub struct Server<R> {
+pub struct Server<'a, C> {
     listener: EventFd,
-    first: Wire,
-    second: Wire,
+    // The client's ends of the connections.
+    first: Line,
+    second: Line,
+    ticks: &'a AtomicU64,
+    clock: C,
+    // The connections before they are accepted, the last first.
+    coming: Vec<Connection<C>>,
     acceptor: Option<SubscriberId>,
     members: Vec<SubscriberId>,
     // Whom the acceptor has accepted, and the end by which it sends them.
-    accepted: Receiver<Connection<R>>,
-    to_loop: Sender<Connection<R>>,
+    accepted: Receiver<Connection<C>>,
+    to_loop: Sender<Connection<C>>,
 }
 
-impl<R: Wait + Clock + Clone + Send + Drop> Server<R> {
-    /// A server that nobody has joined.
-    pub fn new(rt: &R, alloc: Global, epoll: &Epoll<R>) -> std::result::Result<Self, Fault> {
-        let (to_loop, accepted) = channel(EventFd::new(epoll, 0, rt)?, alloc).map_err(Error::from)?;
+impl<'a, C: Wait + Clock + Copy + Send + Drop> Server<'a, C> {
+    /// A server that nobody has joined, whose clock shows these ticks.
+    pub fn new(
+        ticks: &'a AtomicU64,
+        clock: C,
+        alloc: Global,
+        timed: &TimedPoller<Epoll<C>, C>,
+    ) -> std::result::Result<Self, Fault> {
+        let epoll = timed.poller();
+        let opened = EventFd::new(epoll, 0, &clock)?;
+        let (to_loop, accepted) = channel(opened, alloc).map_err(Error::from)?;
+        let (first, second) = (Line::new(epoll, &clock)?, Line::new(epoll, &clock)?);
+        let mut coming = Vec::new(alloc);
+        for socket in [&second, &first] {
+            let timer = TimerFd::new(timed, &clock)?;
+            let connection = Connection::new(socket.try_clone()?, timer, clock);
+            coming.push(connection).map_err(Error::from)?;
+        }
         Ok(Server {
-            listener: EventFd::new(epoll, 0, rt)?,
-            first: Wire::new(epoll, rt)?,
-            second: Wire::new(epoll, rt)?,
+            listener: EventFd::new(epoll, 0, &clock)?,
+            first,
+            second,
+            ticks,
+            clock,
+            coming,
             acceptor: None,
             members: Vec::new(alloc),
             accepted,
@@ -45,12 +71,12 @@ impl<R: Wait + Clock + Clone + Send + Drop> Server<R> {
 }
 
 /// The loop of peers, its jobs and its poller.
-type Loop<N, R, P> = EventManager<Peer<R>, ReadStatistics, N, P>;
+type Loop<N, C, P> = EventManager<Peer<C>, Look, N, P>;
 
 /// Those who were accepted join.
-fn let_join<N: NamedCounter, R: Wait + Clock + Drop, P: EventPoller>(
-    manager: &mut Loop<N, R, P>,
-    accepted: Vec<Connection<R>>,
+fn let_join<N: NamedCounter, C: Wait + Clock + Drop, P: EventPoller>(
+    manager: &mut Loop<N, C, P>,
+    accepted: Vec<Connection<C>>,
     members: &mut Vec<SubscriberId>,
 ) -> Result<()> {
     for connection in accepted {
@@ -60,8 +86,8 @@ fn let_join<N: NamedCounter, R: Wait + Clock + Drop, P: EventPoller>(
 }
 
 /// A member that is over leaves.
-fn let_leave<N: NamedCounter, R: Wait + Clock + Drop, P: EventPoller>(
-    manager: &mut Loop<N, R, P>,
+fn let_leave<N: NamedCounter, C: Wait + Clock + Drop, P: EventPoller>(
+    manager: &mut Loop<N, C, P>,
     acceptor: SubscriberId,
     member: SubscriberId,
 ) -> Result<()> {
@@ -82,28 +108,30 @@ fn let_leave<N: NamedCounter, R: Wait + Clock + Drop, P: EventPoller>(
     Ok(())
 }
 
-impl<R: Wait + Clock + Print + Copy + Drop> LoopWithSenders<Peer<R>, ReadStatistics, Client, R>
-    for Server<R> {
+impl<'a, C: Wait + Clock + Copy + Drop, R: Wait + Clock + Print> LoopWithSenders<
+    Peer<C>,
+    Look,
+    Client<'a>,
+    R,
+> for Server<'a, C> {
     fn begin<N: NamedCounter, P: EventPoller>(
         &mut self,
         rt: &R,
         alloc: Global,
-        manager: &mut Loop<N, R, P>,
-    ) -> Result<Vec<Client>> {
-        let (first, second) = (clone_wire(&self.first)?, clone_wire(&self.second)?);
-        let mut coming = Vec::new(alloc);
-        coming.push(Connection::new(second, *rt))?;
-        coming.push(Connection::new(first, *rt))?;
+        manager: &mut Loop<N, C, P>,
+    ) -> Result<Vec<Client<'a>>> {
         let listener = self.listener.try_clone().map_err(Error::EventFd)?;
+        let coming = mem::replace(&mut self.coming, Vec::new(alloc));
         let to_loop = self.to_loop.try_clone(rt)?;
-        let acceptor = Acceptor::new(listener, coming, to_loop, *rt);
+        let acceptor = Acceptor::new(listener, coming, to_loop, self.clock);
         let acceptor = manager.add_subscriber(Either::First(acceptor))?;
         self.acceptor = Some(acceptor);
         let client = Client {
             listener: self.listener.try_clone().map_err(Error::EventFd)?,
-            first: clone_wire(&self.first)?,
-            second: clone_wire(&self.second)?,
+            first: self.first.try_clone().map_err(Error::EventFd)?,
+            second: self.second.try_clone().map_err(Error::EventFd)?,
             acceptor,
+            ticks: self.ticks,
         };
         Ok(vec![in alloc; client]?)
     }
@@ -111,7 +139,7 @@ impl<R: Wait + Clock + Print + Copy + Drop> LoopWithSenders<Peer<R>, ReadStatist
     fn run<N: NamedCounter, P: EventPoller>(
         &mut self,
         rt: &R,
-        manager: &mut Loop<N, R, P>,
+        manager: &mut Loop<N, C, P>,
         senders: &Senders,
     ) -> Result<()> {
         let Some(acceptor) = self.acceptor else {
@@ -133,9 +161,4 @@ impl<R: Wait + Clock + Print + Copy + Drop> LoopWithSenders<Peer<R>, ReadStatist
         }
         Ok(())
     }
-}
-
-/// Another handle on a wire.
-fn clone_wire(wire: &Wire) -> Result<Wire> {
-    wire.try_clone().map_err(Error::EventFd)
 }
