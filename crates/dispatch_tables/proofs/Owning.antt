@@ -1,11 +1,19 @@
 -- Which id owns a descriptor, once an entry is put in or taken out.
-use Rattle.std.proofs.Common.{◌≡◌, ℕ, Bool, true, false, cond, refl, sym, ap, ◌∙◌, Option, Some, None, is_some, nat_cmp, ◌⊎◌, inl, inr}
+use Rattle.std.proofs.Common.{◌≡◌, ℕ, Bool, true, false, cond, refl, sym, ap, ◌∙◌, Option, Some, None, is_some, nat_cmp, ◌⊎◌, inl, inr, option_map, unwrap_or}
 use Rattle.std.specs.Ordering.{eq_by_cmp}
 use Rattle.std.specs.Cmp.{nat_cmp_total}
 use Rattle.std.specs.FinMap.{get, insert, remove, get-insert, get-remove}
-use Rattle.dispatch_tables.specs.Ownership.{Ownership, OwnerMap, owner_id, owner_of}
+use Rattle.dispatch_tables.specs.Priority.{number_of}
+use Rattle.dispatch_tables.specs.Ownership.{Ownership, OwnerMap, owner_of}
 use Rattle.dispatch_tables.proofs.NumberTests.{fd_tells}
 use Rattle.dispatch_tables.proofs.MapEntries.{some_is}
+
+-- of an ownership that may be absent: its id, as in `owner_of`; its class, as in `class_in`
+abbrev pub owner_id : Option Ownership → Option ℕ
+owner_id o = option_map (λ ownership. ownership.id) o
+
+abbrev pub class_by : Option Ownership → ℕ
+class_by o = unwrap_or (option_map (λ ownership. number_of ownership.priority) o) 0
 
 pub owner_id-cond : (b : Bool) (o p : Option Ownership) → owner_id (cond b o p) ≡ cond b (owner_id o) (owner_id p)
 owner_id-cond true o p = refl

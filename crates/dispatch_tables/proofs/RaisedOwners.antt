@@ -5,11 +5,12 @@ use Rattle.std.specs.Ordering.{eq_by_cmp}
 use Rattle.std.specs.Cmp.{nat_cmp_total}
 use Rattle.std.specs.FinMap.{get, insert, remove, len, get-insert, get-remove, get-retain_keys, get-empty, same_map, empty_of_len, nat_cmp-IsAntisymmetric, empty, len-empty}
 use Rattle.dispatch_tables.specs.Priority.{number_of}
-use Rattle.dispatch_tables.specs.Ownership.{Ownership, OwnerMap, class_by, class_in}
+use Rattle.dispatch_tables.specs.Ownership.{Ownership, OwnerMap, class_in}
 use Rattle.dispatch_tables.specs.Owners.{raised_in, AreCounted}
 use Rattle.dispatch_tables.proofs.Counting.{held_one, one_fewer, none_fewer, one_more_owner}
 use Rattle.dispatch_tables.proofs.NumberTests.{nat_tied}
 use Rattle.dispatch_tables.proofs.RetainedKeys.{len-retain_keys}
+use Rattle.dispatch_tables.proofs.Owning.{class_by}
 
 -- an ownership above the lowest priority
 abbrev if_raised : Option Ownership → Option Ownership

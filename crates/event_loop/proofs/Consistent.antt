@@ -5,12 +5,12 @@ use Rattle.std.specs.FinMap.{get, insert, remove, empty, len, get-empty}
 use Rattle.event_loop.specs.Consistency.{AreConsistent, AreWatched, AreDescriptors}
 use Rattle.event_loop.specs.Registry.{is_id}
 use Rattle.event_loop.specs.Releasing.{AreWithout}
-use Rattle.dispatch_tables.specs.Ownership.{Ownership, OwnerMap, owner_id, owner_of}
+use Rattle.dispatch_tables.specs.Ownership.{Ownership, OwnerMap, owner_of}
 use Rattle.dispatch_tables.specs.Owners.{AreCounted}
 use Rattle.dispatch_tables.specs.WatchLists.{times_in, times_watched, AreDistinct, HasOneMore, HasNone}
 use Rattle.dispatch_tables.specs.declared.watch_lists.WatchLists.{WatchLists}
 use Rattle.dispatch_tables.proofs.Counting.{held_one, one_fewer}
-use Rattle.dispatch_tables.proofs.Owning.{owned_is_some}
+use Rattle.dispatch_tables.proofs.Owning.{owned_is_some, owner_id}
 use Rattle.dispatch_tables.proofs.RaisedOwners.{none_counted}
 use Rattle.event_loop.proofs.Watching.{watched_pushed, watched_removed, watched_taken, descriptors_pushed, descriptors_removed, descriptors_taken}
 

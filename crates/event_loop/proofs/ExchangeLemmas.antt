@@ -1,12 +1,12 @@
 -- Lists of exchanges, put together.
-use Rattle.std.proofs.Common.{◌≡◌, ℕ, List, [], ◌∷◌, ◌++◌, refl, sym, ap, subst, ◌∙◌, append_assoc, inl, inr, arith, Ok, Err, Bool, true, false, ◌||◌, ◌==◌, not, cond, map}
+use Rattle.std.proofs.Common.{◌≡◌, ℕ, List, [], ◌∷◌, ◌++◌, refl, sym, ap, subst, ◌∙◌, append_assoc, inl, inr, arith, Ok, Err, Bool, true, false, ◌||◌, ◌==◌, not, cond, map, filter}
 use Rattle.std.proofs.lemmas.List.{append-nil}
 use Rattle.std.proofs.lemmas.List.Folds.{list_any-append}
 use Rattle.std.proofs.lemmas.Bool.Decides.{nat_tests}
 use Rattle.dispatch_tables.specs.Event.{Event}
 use Rattle.event_loop.specs.PollerCall.{PollerCall, Control, Wait}
 use Rattle.event_loop.specs.Exchange.{Exchanges, ExchangesFit, Fits, Answer, IsVacant, IsAdditionRefused, by_manager, by_poller, by_agreement, removes, is_removal}
-use Rattle.event_loop.specs.Registrations.{Registrations, not_on}
+use Rattle.event_loop.specs.Registrations.{Registrations}
 use Rattle.event_loop.specs.RegistrationState.{RegistrationState, not_cancelled, registrations_of, cancel_on, cancel_removed}
 use Rattle.event_loop.specs.PollerCall.{Controls, Waits, Leads}
 use Rattle.event_loop.specs.Requests.{AreMade, AreMadeThrough}
@@ -59,6 +59,10 @@ cancel_removed_other request answer none ((e, m) ∷ ready) =
 pub cancel_removed_one : (e : Event) (ready : List (Event × Bool)) → cancel_on e.fd ready ≡ cancel_removed ((Remove e, Ok tt) ∷ []) ready
 cancel_removed_one e [] = refl
 cancel_removed_one e ((x, m) ∷ ready) = ap (λ b. (x, m || b) ∷ cancel_on e.fd ready) (sym (or_false (e.fd == x.fd))) ∙ ap (λ r. (x, m || ((e.fd == x.fd) || false)) ∷ r) (cancel_removed_one e ready)
+
+-- those of the events that are not on the descriptor
+abbrev pub not_on : ℕ → List Event → List Event
+not_on fd events = filter (λ e. not (e.fd == fd)) events
 
 not_cancelled_more : (fd : ℕ) (x : Event) (ready : List (Event × Bool)) (b : Bool) → b ≡ (x.fd == fd) → not_cancelled (cancel_on fd ready) ≡ not_on fd (not_cancelled ready) → not_cancelled ((x, b) ∷ cancel_on fd ready) ≡ cond (not b) (x ∷ not_on fd (not_cancelled ready)) (not_on fd (not_cancelled ready))
 not_cancelled_more fd x ready true e r = r

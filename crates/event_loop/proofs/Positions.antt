@@ -10,14 +10,14 @@ use Rattle.std.specs.FinMap.{get}
 use Rattle.dispatch_tables.specs.Members.{with_member}
 use Rattle.dispatch_tables.specs.Event.{Event}
 use Rattle.event_loop.specs.Registrations.{Registrations, Owns}
-use Rattle.dispatch_tables.specs.Ownership.{owner_id, owner_of}
+use Rattle.dispatch_tables.specs.Ownership.{owner_of, class_in}
 use Rattle.dispatch_tables.specs.Owners.{ownership_of}
 use Rattle.dispatch_tables.specs.declared.owners.Owner.{Owner}
-use Rattle.event_loop.specs.DispatchOrder.{class_of, IsDispatchOrder}
+use Rattle.event_loop.specs.DispatchOrder.{IsDispatchOrder}
 use Rattle.dispatch_tables.proofs.DispatchOrders.{nil_cons, head_is, tail_is}
 use Rattle.dispatch_tables.proofs.DispatchOrders.{ordered_permutation}
 use Rattle.event_loop.specs.PollerCall.{PollerCall, Wait}
-use Rattle.event_loop.specs.Exchange.{Exchanges, ExchangesFit, removes}
+use Rattle.event_loop.specs.Exchange.{Exchanges, ExchangesFit, removes, Serves}
 use Rattle.event_loop.specs.RegistrationState.{RegistrationState, not_cancelled, registrations_of, cancel_removed, all_pending, HasWaited}
 use Rattle.event_loop.specs.Registry.{HasId}
 use Rattle.event_loop.specs.Dispatch.{Outcome, Nobody, To, Position, exchanges_of, is_removed, still_pending, events_of, IsOutcome, AreDispatched}
@@ -28,8 +28,9 @@ use Rattle.event_loop.specs.PollerCall.{Controls, Waits, Leads}
 use Rattle.event_loop.specs.Subscribers.{registry_of, idle, loop_state, HasOutcome, TakesPosition, IsDispatched, IsBatch}
 use Rattle.event_loop.specs.declared.registry.Registry.{Registry}
 use Rattle.event_loop.proofs.ExchangeLemmas.{or_false, cancel_removed_marks, marked, leads_join, exchanges_keep_endpoint}
+use Rattle.dispatch_tables.proofs.Owning.{owner_id}
 
-module _ {S P : Type 0} {controls : Controls P} {waits : Waits P} (serves : S → Event → Exchanges → S → Type 0) where
+module _ {S P : Type 0} {controls : Controls P} {waits : Waits P} (serves : Serves S) where
   pub nobody_position : (before after : Registry S P) (event : Event) (cancelled is_endpoint : Bool) (rest : List (Event × Bool))
       → before.ops.epoll.registrations.ready ≡ (event, cancelled) ∷ rest → after.ops.epoll.registrations ≡ record before.ops.epoll.registrations { ready = rest } → after.subscribers ≡ before.subscribers
       → ((cancelled ≡ true) ⊎ ((i : ℕ) (value : S) → ¬ (Owns i (registrations_of before.ops.epoll.registrations) event.fd × HasId (registry_of before) i value)))
@@ -136,7 +137,7 @@ reported_more {V} fd positions d =
 
 -- an order of dispatch reports what the report does
 reported_in_order : (registrations : Registrations) (fd : ℕ) (report ordered : List Event) → IsDispatchOrder registrations report ordered → is_reported fd ordered ≡ is_reported fd report
-reported_in_order registrations fd report ordered h = sym (list_any-IsPermutation (λ (e : Event). e.fd == fd) report ordered (ordered_permutation (λ q. class_of registrations q) report ordered h))
+reported_in_order registrations fd report ordered h = sym (list_any-IsPermutation (λ (e : Event). e.fd == fd) report ordered (ordered_permutation (λ q. class_in registrations.owners q) report ordered h))
 
 no_events : {V : Type 0} (positions : List (Position V)) (later : List Event) → cancelled_by positions later ≡ [] → later ≡ []
 no_events positions [] e = refl
@@ -145,7 +146,7 @@ no_events positions (x ∷ later) e = absurd (nil_cons _ _ (sym e))
 true_false : (b : Bool) → b ≡ true → b ≡ false → ⊥
 true_false b e f = cc
 
-module _ {S P : Type 0} (serves : S → Event → Exchanges → S → Type 0) where
+module _ {S P : Type 0} (serves : Serves S) where
   is_outcome : (before after : Registry S P) (positions : List (Position S)) (event : Event) (es : List Event) (outcome : Outcome S)
       → HasOutcome serves before event (is_removed event.fd positions) (cancelled_by positions es) outcome after → IsOutcome serves (registry_of before) positions event es outcome (registry_of after)
   is_outcome before after positions event es Nobody h = (
@@ -231,7 +232,7 @@ waited_all_pending s t (Ok report) result n h is =
     came ∙ ap all_pending (sym (ap (map (λ (p : Event × Bool). p.0)) came ∙ fst_all_pending h.0))
 waited_all_pending s t (Err e) result n h is = absurd (ok_err result n e is h.0)
 
-module _ {V : Type 0} (serves : V → Event → Exchanges → V → Type 0) where
+module _ {V : Type 0} (serves : Serves V) where
   from_any_pending_one : (b : model.Registry V) (x : List Event) (e : Event) (es : List Event) (outcome : Outcome V) (a : model.Registry V) → IsOutcome serves (record b { registrations = record b.registrations { pending = x } }) [] e es outcome a → IsOutcome serves b [] e es outcome a
   from_any_pending_one b x e es Nobody a h = h
   from_any_pending_one b x e es (To i exchanges calls held) a h = h
@@ -240,7 +241,7 @@ module _ {V : Type 0} (serves : V → Event → Exchanges → V → Type 0) wher
   from_any_pending b x [] a h = h
   from_any_pending b x (position ∷ positions) a h = (h.0, from_any_pending_one b x position.event (events_of positions) position.outcome h.0 h.1, h.2)
 
-module _ {S P : Type 0} (serves : S → Event → Exchanges → S → Type 0) (controls : Controls P) (waits : Waits P) where
+module _ {S P : Type 0} (serves : Serves S) (controls : Controls P) (waits : Waits P) where
   pub batch_ok : (start after : Registry S P) (registrations : RegistrationState) (poller : P) (ms : ℤ) (answer : Result (List Event) Errno) (result : Result ℕ Errno) (n : ℕ) (endpoint_ready : Bool)
       → Leads controls waits start.ops.epoll.poller (Wait ms start.ops.epoll.registrations.capacity answer ∷ []) poller → HasWaited start.ops.epoll.registrations answer result registrations → result ≡ Ok n
       → IsDispatched serves controls waits (record { subscribers = start.subscribers; ops = record { epoll = record { registrations = registrations; poller = poller }; id = start.ops.id; place = start.ops.place } }) after (map (λ (p : Event × Bool). p.0) registrations.ready) endpoint_ready

@@ -4,19 +4,25 @@ use Rattle.std.proofs.lemmas.List.{take_more, take_all}
 use Rattle.vmm_sys.specs.declared.errno.Errno.{Errno}
 use Rattle.vmm_sys.specs.declared.entries.ControlOperation.TheVariants as operation
 use Rattle.event_loop.specs.PollerCall.{PollerCall, Control, Controls, Waits, Leads}
-use Rattle.event_loop.specs.Registry.{AreDeletes, AreOwnedBy, empty_event}
+use Rattle.event_loop.specs.Registry.{AreDeletes, AreOwnedBy}
 use Rattle.event_loop.specs.RegistrationState.{registrations_of, left_in}
 use Rattle.event_loop.specs.Releasing.{HasReleased}
 use Rattle.event_loop.specs.declared.epoll.EpollWrapper.{EpollWrapper}
 use Rattle.event_loop.proofs.ExchangeLemmas.{leads_join}
+use Rattle.dispatch_tables.specs.Event.{Event}
+
+-- the event that a Delete is asked with
+abbrev pub empty_event : Event
+empty_event = record { fd = 0; payload = 0; set = 0 }
 
 abbrev delete : ℕ → Result (Unit {0}) Errno → PollerCall
 delete fd answer = Control operation.Delete fd empty_event answer
 
 deletes_push : (fds : List ℕ) (calls : List PollerCall) (fd : ℕ) (answer : Result (Unit {0}) Errno) → AreDeletes fds calls → AreDeletes (fds ++ fd ∷ []) (calls ++ delete fd answer ∷ [])
-deletes_push [] calls fd answer h = (answer, [], ap (λ xs. xs ++ delete fd answer ∷ []) h, refl)
-deletes_push (x ∷ fds) calls fd answer h =
-    (h.0, h.1 ++ delete fd answer ∷ [], ap (λ xs. xs ++ delete fd answer ∷ []) h.2, deletes_push fds h.1 fd answer h.3)
+deletes_push [] [] fd answer h = ((answer, refl), tt)
+deletes_push [] (call ∷ calls) fd answer h = absurd h
+deletes_push (x ∷ fds) [] fd answer h = absurd h
+deletes_push (x ∷ fds) (call ∷ calls) fd answer h = (h.0, deletes_push fds calls fd answer h.1)
 
 -- what was asked for the first k descriptors
 pub record DeletedSoFar {P : Type 0} (controls : Controls P) (waits : Waits P) (fds : List ℕ) (k : ℕ) (before after : P) : Type 0 where
@@ -26,7 +32,7 @@ pub record DeletedSoFar {P : Type 0} (controls : Controls P) (waits : Waits P) (
 
 module _ {P : Type 0} (controls : Controls P) (waits : Waits P) (fds : List ℕ) where
   pub deleted_none : (poller : P) → DeletedSoFar controls waits fds 0 poller poller
-  deleted_none poller = record { calls = []; deletes = refl; led = refl }
+  deleted_none poller = record { calls = []; deletes = tt; led = refl }
 
   pub deleted_more : (k : ℕ) (before now after : P) (answer : Result (Unit {0}) Errno) → k < length fds → controls now operation.Delete (get_or fds k 0) empty_event answer after
       → DeletedSoFar controls waits fds k before now → DeletedSoFar controls waits fds (k + 1) before after

@@ -4,22 +4,22 @@ use Rattle.std.proofs.lemmas.List.{append-nil}
 use Rattle.vmm_sys.specs.declared.errno.Errno.{Errno}
 use Rattle.dispatch_tables.specs.Event.{Event}
 use Rattle.event_loop.specs.PollerCall.{Wait, Controls, Waits, Leads}
-use Rattle.event_loop.specs.Exchange.{Exchanges}
-use Rattle.event_loop.specs.Registry.{Registry, Step}
+use Rattle.event_loop.specs.Exchange.{Begins, Serves}
+use Rattle.event_loop.specs.Registry.{Registry, May}
 use Rattle.event_loop.specs.Dispatch.{Position}
-use Rattle.event_loop.specs.Iteration.{IsAfterWait, calls_of_positions}
+use Rattle.event_loop.specs.Iteration.{IsIteration, calls_of_positions}
 use Rattle.event_loop.specs.LoopState.{LoopState, IsDispatchedAfter, IsLoopIteration}
 use Rattle.event_loop.specs.Subscribers.{IsBatch, count_of}
 use Rattle.event_loop.specs.declared.registry.Batch.{Batch}
 use Rattle.event_loop.specs.declared.error.Error.{Error}
 
-module _ {S J R : Type 0} (begins : S → Exchanges → S → Type 0) (serves : S → Event → Exchanges → S → Type 0) (may : J → List (Step S) → R → Type 0) where
+module _ {S J R : Type 0} (begins : Begins S) (serves : Serves S) (may : May S J R) where
   no_jobs : (n : ℕ) (before after : Registry S) (waited : Result (List Event) Errno) (positions : List (Position S)) → IsDispatchedAfter serves waited positions before after
-      → IsAfterWait begins serves may (record { registry = before; taken = n }) waited positions [] (record { registry = after; taken = n })
+      → IsIteration begins serves may (record { registry = before; taken = n }) waited positions [] (record { registry = after; taken = n })
   no_jobs n before after (Ok report) positions dispatched = (after, dispatched, λ _. refl, refl)
   no_jobs n before after (Err errno) positions dispatched = (dispatched.0, refl, ap (λ r. record { registry = r; taken = n }) dispatched.1)
 
-module _ {S P J R : Type 0} (begins : S → Exchanges → S → Type 0) (serves : S → Event → Exchanges → S → Type 0) (may : J → List (Step S) → R → Type 0) (controls : Controls P) (waits : Waits P) where
+module _ {S P J R : Type 0} (begins : Begins S) (serves : Serves S) (may : May S J R) (controls : Controls P) (waits : Waits P) where
   -- a batch after which no jobs are taken
   pub without_jobs : (n : ℕ) (before after : LoopState S P) (ms : ℤ) (result : Result Batch Error) → IsBatch serves controls waits before ms result after
       → IsLoopIteration begins serves may controls waits (record before { taken = n }) ms (count_of result) (record after { taken = n })

@@ -6,7 +6,7 @@ use Rattle.dispatch_tables.specs.Event.{Event}
 use Rattle.event_loop.specs.Registrations.{Registrations, Owns}
 use Rattle.event_loop.specs.DispatchOrder.{IsDispatchOrder}
 use Rattle.event_loop.specs.PollerCall.{PollerCall}
-use Rattle.event_loop.specs.Exchange.{Exchanges, ExchangesFit, removes}
+use Rattle.event_loop.specs.Exchange.{Exchanges, ExchangesFit, removes, Serves}
 use Rattle.event_loop.specs.Registry.{Registry, HasId}
 
 -- what became of an event: nobody got it; or this id did, with its exchanges, their poller calls, and its value after
@@ -38,8 +38,7 @@ events_of positions = map (λ position. position.event) positions
 abbrev pub IsFor : {V : Type 0} → Registry V → List (Position V) → Event → ℕ → V → Type 0
 IsFor registry earlier event i value = Owns i registry.registrations event.fd × (is_removed event.fd earlier ≡ false) × HasId registry i value
 
--- serves: which exchanges a subscriber may have on an event, from its value before to its value after.
-module _ {V : Type 0} (serves : V → Event → Exchanges → V → Type 0) where
+module _ {V : Type 0} (serves : Serves V) where
   -- the outcome of one position, between the earlier ones and the later events
   abbrev pub IsOutcome : Registry V → List (Position V) → Event → List Event → Outcome V → Registry V → Type 0
   IsOutcome before earlier event later Nobody after =

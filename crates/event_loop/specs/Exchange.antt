@@ -1,11 +1,11 @@
 -- Requests of a subscriber, their answers, and what they do to the registrations.
-use Rattle.std.specs.Prelude.{◌≡◌, ℕ, ◌+◌, ◌==◌, ℤ, Bool, false, List, [], ◌∷◌, ◌++◌, map, ◌⊎◌, Result, Ok, Err, pos}
+use Rattle.std.specs.Prelude.{◌≡◌, ℕ, ◌+◌, ◌==◌, ℤ, Bool, false, not, List, [], ◌∷◌, ◌++◌, map, filter, ◌⊎◌, Option, Some, None, unwrap_or, MatchOption, Result, Ok, Err, pos}
 use Rattle.std.specs.List.{list_any}
 use Rattle.std.specs.Result.{result_and}
 use Rattle.std.specs.FinMap as finite
 use Rattle.dispatch_tables.specs.Event.{Event}
 use Rattle.event_loop.specs.PollerCall.{PollerCall, Control}
-use Rattle.event_loop.specs.Registrations.{Registrations, Owns, IsFree, not_on}
+use Rattle.event_loop.specs.Registrations.{Registrations, Owns, IsFree}
 use Rattle.dispatch_tables.specs.declared.priority.Priority.{Priority}
 use Rattle.dispatch_tables.specs.declared.priority.Priority.TheVariants.{Lowest}
 use Rattle.vmm_sys.specs.declared.errno.Errno.{Errno}
@@ -21,9 +21,6 @@ use Rattle.event_loop.specs.declared.events.Request.TheVariants.{Add, AddWithPri
 abbrev pub Answer : Type 0
 Answer = Result (Unit {0}) Error
 
-abbrev pub agreed : Answer
-agreed = Ok tt
-
 -- refused with the number n
 abbrev pub refused : ℤ → Answer
 refused n = Err (Epoll (record { 0 = n }))
@@ -33,6 +30,12 @@ event_of (Add e) = e
 event_of (AddWithPriority e priority) = e
 event_of (Modify e) = e
 event_of (Remove e) = e
+
+-- the priority at which a request adds its descriptor, if it adds one: the lowest where it names none
+abbrev pub added : Request → Option Priority
+added (Add e) = Some Lowest
+added (AddWithPriority e priority) = Some priority
+added request = None
 
 abbrev pub operation_of : Request → ControlOperation
 operation_of (Modify e) = operation.Modify
@@ -58,36 +61,38 @@ IsAdditionRefused registrations e answer =
 
 -- what id i is answered without the poller being asked: as said of an addition; a descriptor that is not its own
 abbrev pub IsRefusedByManager : ℕ → Registrations → Request → Answer → Type 0
-IsRefusedByManager i registrations (Add e) answer = IsAdditionRefused registrations e answer
-IsRefusedByManager i registrations (AddWithPriority e priority) answer = IsAdditionRefused registrations e answer
-IsRefusedByManager i registrations request answer = ¬ Owns i registrations (event_of request).fd × (answer ≡ refused (pos 2))
+IsRefusedByManager i registrations request answer =
+    MatchOption (added request) (¬ Owns i registrations (event_of request).fd × (answer ≡ refused (pos 2))) (λ priority. IsAdditionRefused registrations (event_of request) answer)
 
 -- whether the request reaches the poller
 abbrev pub ReachesPoller : ℕ → Registrations → Request → Type 0
-ReachesPoller i registrations (Add e) = IsFree registrations e.fd × ¬ (e.fd ≡ registrations.endpoint)
-ReachesPoller i registrations (AddWithPriority e priority) = IsFree registrations e.fd × ¬ (e.fd ≡ registrations.endpoint)
-ReachesPoller i registrations request = Owns i registrations (event_of request).fd
+ReachesPoller i registrations request =
+    MatchOption (added request) (Owns i registrations (event_of request).fd) (λ priority. IsFree registrations (event_of request).fd × ¬ ((event_of request).fd ≡ registrations.endpoint))
 
--- with the descriptor of an event owned by id i, at this priority
-abbrev pub entered : ℕ → Event → Priority → Registrations → Registrations
-entered i e priority registrations = record registrations { owners = finite.insert registrations.owners e.fd (record { id = i; priority = priority }) }
-
--- the registrations once the poller agreed: an addition without a priority is one at the lowest
+-- the registrations once the poller agreed: id i owns what it added; what it removed is free, and its events are pending no more
 abbrev pub registrations_after : ℕ → Request → Registrations → Registrations
-registrations_after i (Add e) registrations = entered i e Lowest registrations
-registrations_after i (AddWithPriority e priority) registrations = entered i e priority registrations
 registrations_after i (Modify e) registrations = registrations
-registrations_after i (Remove e) registrations = record registrations { owners = finite.remove registrations.owners e.fd; pending = not_on e.fd registrations.pending }
+registrations_after i (Remove e) registrations =
+    record registrations { owners = finite.remove registrations.owners e.fd; pending = filter (λ pending. not (pending.fd == e.fd)) registrations.pending }
+registrations_after i request registrations =
+    record registrations { owners = finite.insert registrations.owners (event_of request).fd (record { id = i; priority = unwrap_or (added request) Lowest }) }
 
 -- From these registrations, id i may get this answer to the request after these poller calls, and leave the registrations after.
 pub data Fits (i : ℕ) (registrations : Registrations) (request : Request) (answer : Answer) (calls : List PollerCall) (after : Registrations) : Type 0 where
   by_manager : IsRefusedByManager i registrations request answer → calls ≡ [] → after ≡ registrations → Fits i registrations request answer calls after
   by_poller : (number : ℤ) → ReachesPoller i registrations request → calls ≡ call_for request (Err (record { 0 = number })) ∷ [] → answer ≡ refused number → after ≡ registrations → Fits i registrations request answer calls after
-  by_agreement : ReachesPoller i registrations request → calls ≡ call_for request (Ok tt) ∷ [] → answer ≡ agreed → after ≡ registrations_after i request registrations → Fits i registrations request answer calls after
+  by_agreement : ReachesPoller i registrations request → calls ≡ call_for request (Ok tt) ∷ [] → answer ≡ Ok tt → after ≡ registrations_after i request registrations → Fits i registrations request answer calls after
 
 -- a list of requests with their answers
 abbrev pub Exchanges : Type 0
 Exchanges = List (Request × Answer)
+
+-- begins: which exchanges a subscriber may have in its init, from its value before to its value after; serves: which on an event
+abbrev pub Begins : Type 0 → Type 1
+Begins V = V → Exchanges → V → Type 0
+
+abbrev pub Serves : Type 0 → Type 1
+Serves V = V → Event → Exchanges → V → Type 0
 
 -- just this request was made, whatever its answer
 abbrev pub Asks : Request → Exchanges → Type 0

@@ -4,8 +4,8 @@ use Rattle.std.specs.List.{list_any, flat_map}
 use Rattle.std.specs.Ordering.{int_eq}
 use Rattle.dispatch_tables.specs.Event.{Event}
 use Rattle.event_loop.specs.PollerCall.{PollerCall, Wait}
-use Rattle.event_loop.specs.Exchange.{Exchanges}
-use Rattle.event_loop.specs.Registry.{Registry, Step, Steps, calls_of}
+use Rattle.event_loop.specs.Exchange.{Begins, Serves}
+use Rattle.event_loop.specs.Registry.{Registry, Step, Steps, calls_of, May}
 use Rattle.event_loop.specs.Dispatch.{Outcome, Nobody, To, Position, IsDispatch}
 use Rattle.vmm_sys.specs.declared.errno.Errno.{Errno}
 use Rattle.event_loop.specs.declared.error.Error.{Error}
@@ -39,13 +39,13 @@ answer_of (Err errno) = if int_eq errno.0 (pos 4) then Ok 0 else Err (Epoll errn
 abbrev pub is_reported : ℕ → List Event → Bool
 is_reported fd report = list_any (λ e. e.fd == fd) report
 
-module _ {V : Type 0} (begins : V → Exchanges → V → Type 0) where
+module _ {V : Type 0} (begins : Begins V) where
   -- the steps, one after another
   abbrev pub AllSteps : Registry V → List (Step V) → Registry V → Type 0
   AllSteps before [] after = after ≡ before
   AllSteps before (step ∷ steps) after = (mid : Registry V) × Steps begins before step mid × AllSteps mid steps after
 
-module _ {V J R : Type 0} (begins : V → Exchanges → V → Type 0) (serves : V → Event → Exchanges → V → Type 0) (may : J → List (Step V) → R → Type 0) where
+module _ {V J R : Type 0} (begins : Begins V) (serves : Serves V) (may : May V J R) where
   -- the jobs, one after another, with the tickets that follow the jobs taken so far
   abbrev pub AreRun : ManagerState V → List (JobRun V J R) → ManagerState V → Type 0
   AreRun before [] after = after ≡ before
@@ -54,17 +54,11 @@ module _ {V J R : Type 0} (begins : V → Exchanges → V → Type 0) (serves : 
       × AreRun (record { registry = mid; taken = before.taken + 1 }) jobs after
 
   -- a refused wait changes nothing; after another its report is dispatched, and then jobs may run if the endpoint was reported
-  abbrev pub IsAfterWait : ManagerState V → Result (List Event) Errno → List (Position V) → List (JobRun V J R) → ManagerState V → Type 0
-  IsAfterWait before (Err errno) positions jobs after = (positions ≡ []) × (jobs ≡ []) × (after ≡ before)
-  IsAfterWait before (Ok report) positions jobs after =
+  abbrev pub IsIteration : ManagerState V → Result (List Event) Errno → List (Position V) → List (JobRun V J R) → ManagerState V → Type 0
+  IsIteration before (Err errno) positions jobs after = (positions ≡ []) × (jobs ≡ []) × (after ≡ before)
+  IsIteration before (Ok report) positions jobs after =
       (mid : Registry V) × IsDispatch serves before.registry report positions mid × (All (λ e. e.fd ≢ before.registry.registrations.endpoint) report → jobs ≡ [])
       × AreRun (record before { registry = mid }) jobs after
-
-  abbrev pub IsIteration : ManagerState V → Iteration V J R → ManagerState V → Type 0
-  IsIteration before iteration after = IsAfterWait before iteration.waited iteration.positions iteration.jobs after
-
-abbrev pub calls_of_steps : {V : Type 0} → List (Step V) → List PollerCall
-calls_of_steps steps = flat_map calls_of steps
 
 abbrev pub calls_of_outcome : {V : Type 0} → Outcome V → List PollerCall
 calls_of_outcome Nobody = []
@@ -74,7 +68,7 @@ abbrev pub calls_of_positions : {V : Type 0} → List (Position V) → List Poll
 calls_of_positions positions = flat_map (λ position. calls_of_outcome position.outcome) positions
 
 abbrev pub calls_of_jobs : {V J R : Type 0} → List (JobRun V J R) → List PollerCall
-calls_of_jobs jobs = flat_map (λ job_run. calls_of_steps job_run.steps) jobs
+calls_of_jobs jobs = flat_map (λ job_run. flat_map calls_of job_run.steps) jobs
 
 -- the poller calls of an iteration, by the manager's capacity
 abbrev pub calls_of_iteration : {V J R : Type 0} → ℕ → Iteration V J R → List PollerCall

@@ -7,10 +7,11 @@ use Rattle.event_loop.specs.declared.error.Error.TheVariants.{InvalidId}
 use Rattle.event_loop.specs.declared.events.Request.{Request}
 use Rattle.dispatch_tables.specs.Event.{Event}
 use Rattle.event_loop.specs.PollerCall.{PollerCall, Controls, Waits, Leads}
-use Rattle.event_loop.specs.Exchange.{Exchanges, Answer}
-use Rattle.event_loop.specs.Registry.{Registry, Step, Steps, Joined, NotJoined, Left, Requested, Refused, calls_of, new_registry}
+use Rattle.event_loop.specs.Exchange.{Exchanges, Answer, Begins, Serves}
+use Rattle.event_loop.specs.Registry.{Registry, Step, Steps, Joined, NotJoined, Left, Requested, Refused, calls_of, new_registry, May}
 use Rattle.event_loop.specs.Dispatch.{Position, IsDispatch}
-use Rattle.event_loop.specs.Iteration.{ManagerState, Iteration, AllSteps, IsIteration, calls_of_steps, calls_of_iteration, answer_of}
+use Rattle.event_loop.specs.Iteration.{ManagerState, Iteration, AllSteps, IsIteration, calls_of_iteration, answer_of}
+use Rattle.std.specs.List.{flat_map}
 
 -- the subscribers, the next id and the registrations; how many jobs were taken; the poller; the capacity of a batch
 pub record LoopState (S P : Type 0) : Type 0 where
@@ -48,7 +49,7 @@ manager_state state = record { registry = state.registry; taken = state.taken }
 abbrev pub with_value : {S P : Type 0} → LoopState S P → ℕ → S → LoopState S P
 with_value state id value = record state { registry = record state.registry { values = map.insert state.registry.values id value } }
 
-module _ {S P : Type 0} (begins : S → Exchanges → S → Type 0) (controls : Controls P) (waits : Waits P) where
+module _ {S P : Type 0} (begins : Begins S) (controls : Controls P) (waits : Waits P) where
   -- the step was made, and its calls led the poller from the value before to the value after
   pub record HasStepped (before : LoopState S P) (step : Step S) (after : LoopState S P) : Type 0 where
     pub stepped : Steps begins before.registry step after.registry
@@ -59,7 +60,7 @@ module _ {S P : Type 0} (begins : S → Exchanges → S → Type 0) (controls : 
   -- the steps were made, one after another
   pub record HaveStepped (before : LoopState S P) (steps : List (Step S)) (after : LoopState S P) : Type 0 where
     pub stepped : AllSteps begins before.registry steps after.registry
-    pub led : Leads controls waits before.poller (calls_of_steps steps) after.poller
+    pub led : Leads controls waits before.poller (flat_map calls_of steps) after.poller
     pub same_taken : after.taken ≡ before.taken
     pub same_capacity : after.capacity ≡ before.capacity
 
@@ -78,18 +79,18 @@ abbrev pub IsRequest : {S : Type 0} → ℕ → Request → Result Answer Error 
 IsRequest id request (Ok answer) step = (calls : List PollerCall) × (step ≡ Requested id ((request, answer) ∷ []) calls)
 IsRequest id request (Err error) step = (error ≡ InvalidId) × (step ≡ Refused id)
 
-module _ {S : Type 0} (serves : S → Event → Exchanges → S → Type 0) where
+module _ {S : Type 0} (serves : Serves S) where
   -- a refused wait changes nothing; after another its report is dispatched
   abbrev pub IsDispatchedAfter : Result (List Event) Errno → List (Position S) → Registry S → Registry S → Type 0
   IsDispatchedAfter (Ok report) positions before after = IsDispatch serves before report positions after
   IsDispatchedAfter (Err errno) positions before after = (positions ≡ []) × (after ≡ before)
 
-module _ {S J R : Type 0} (begins : S → Exchanges → S → Type 0) (serves : S → Event → Exchanges → S → Type 0) (may : J → List (Step S) → R → Type 0) where
+module _ {S J R : Type 0} (begins : Begins S) (serves : Serves S) (may : May S J R) where
   -- An iteration of the loop: one wait with the capacity, the dispatch of what that wait reported, and the jobs after it.
   pub record IsLoopIteration {P : Type 0} (controls : Controls P) (waits : Waits P) (before : LoopState S P) (ms : ℤ) (result : Result ℕ Error) (after : LoopState S P) : Type 0 where
     pub iteration : Iteration S J R
     pub milliseconds : iteration.ms ≡ ms
     pub answer : result ≡ answer_of iteration.waited
-    pub iterated : IsIteration begins serves may (manager_state before) iteration (manager_state after)
+    pub iterated : IsIteration begins serves may (manager_state before) iteration.waited iteration.positions iteration.jobs (manager_state after)
     pub led : Leads controls waits before.poller (calls_of_iteration before.capacity iteration) after.poller
     pub same_capacity : after.capacity ≡ before.capacity

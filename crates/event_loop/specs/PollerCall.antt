@@ -1,5 +1,5 @@
 -- Calls of a poller, and where they lead it.
-use Rattle.std.specs.Prelude.{◌≡◌, ℕ, ◌≤◌, ℤ, List, [], ◌∷◌, length, Result, Ok, Err}
+use Rattle.std.specs.Prelude.{◌≡◌, ℕ, ◌≤◌, ℤ, List, [], ◌∷◌, length, Result, IfOk}
 use Rattle.dispatch_tables.specs.Event.{Event}
 use Rattle.vmm_sys.specs.declared.errno.Errno.{Errno}
 use Rattle.vmm_sys.specs.declared.entries.ControlOperation.{ControlOperation}
@@ -17,14 +17,9 @@ Controls P = P → ControlOperation → ℕ → Event → Result (Unit {0}) Errn
 abbrev pub Waits : Type 0 → Type 1
 Waits P = P → ℤ → ℕ → Result (List Event) Errno → P → Type 0
 
--- a report has at most as many events as a batch holds
-abbrev pub IsWithin : ℕ → Result (List Event) Errno → Type 0
-IsWithin capacity (Ok report) = length report ≤ capacity
-IsWithin capacity (Err errno) = Unit {0}
-
 module _ {P : Type 0} (controls : Controls P) (waits : Waits P) where
-  -- the calls, in order, lead from the first state to the last
+  -- the calls, in order, lead from the first state to the last; a report has at most as many events as a batch holds
   abbrev pub Leads : P → List PollerCall → P → Type 0
   Leads before [] after = after ≡ before
   Leads before (Control operation fd event answer ∷ calls) after = (mid : P) × controls before operation fd event answer mid × Leads mid calls after
-  Leads before (Wait ms capacity answer ∷ calls) after = (mid : P) × waits before ms capacity answer mid × IsWithin capacity answer × Leads mid calls after
+  Leads before (Wait ms capacity answer ∷ calls) after = (mid : P) × waits before ms capacity answer mid × IfOk answer (λ report. length report ≤ capacity) × Leads mid calls after

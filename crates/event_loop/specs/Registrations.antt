@@ -1,5 +1,5 @@
 -- Who owns which descriptor and at which priority, and which events of the current batch are pending.
-use Rattle.std.specs.Prelude.{◌≡◌, ℕ, ◌==◌, not, List, filter, Some, None}
+use Rattle.std.specs.Prelude.{◌≡◌, ℕ, List, Some, None}
 use Rattle.std.specs.FinMap as map
 use Rattle.dispatch_tables.specs.Event.{Event}
 use Rattle.dispatch_tables.specs.Ownership.{OwnerMap, owner_of}
@@ -18,7 +18,3 @@ Owns i registrations fd = owner_of registrations.owners fd ≡ Some i
 -- nobody owns the descriptor
 abbrev pub IsFree : Registrations → ℕ → Type 0
 IsFree registrations fd = map.get registrations.owners fd ≡ None
-
--- those of the events that are not on the descriptor
-abbrev pub not_on : ℕ → List Event → List Event
-not_on fd events = filter (λ e. not (e.fd == fd)) events

@@ -1,12 +1,12 @@
 -- Subscribers by id, and the steps: a join, a leave, another value, a list of requests.
 use Rattle.std.specs.Prelude.{◌≡◌, ℕ, ◌+◌, ◌-◌, ◌^◌, ◌<◌, ◌==◌, Bool, false, not, List, [], ◌∷◌, ◌⊎◌, ◌↔◌, Option, Some, None, Result, Contains, AllPairs}
+use Rattle.std.specs.List.{AllZip}
 use Rattle.std.specs.FinMap as map
 use Rattle.std.specs.Ordering.{nat_cmp}
-use Rattle.dispatch_tables.specs.Event.{Event}
 use Rattle.dispatch_tables.specs.Ownership.{OwnerMap, owner_of}
 use Rattle.event_loop.specs.Registrations.{Registrations, Owns}
 use Rattle.event_loop.specs.PollerCall.{PollerCall, Control}
-use Rattle.event_loop.specs.Exchange.{Exchanges, ExchangesFit}
+use Rattle.event_loop.specs.Exchange.{Exchanges, ExchangesFit, Begins}
 use Rattle.vmm_sys.specs.declared.errno.Errno.{Errno}
 use Rattle.event_loop.specs.declared.error.Error.{Error}
 use Rattle.event_loop.specs.declared.error.Error.TheVariants.{IdsUsedUp, OutOfMemory}
@@ -27,26 +27,22 @@ pub data Step (V : Type 0) : Type 0 where
   Requested : (id : ℕ) (exchanges : Exchanges) (calls : List PollerCall) → Step V
   Refused : ℕ → Step V
 
+-- may: which steps, with their answers, a job may take in a manager, and which reply it then gives
+abbrev pub May : Type 0 → Type 0 → Type 0 → Type 1
+May V J R = J → List (Step V) → R → Type 0
+
 -- is the owner id i?
 abbrev pub is_id : ℕ → Option ℕ → Bool
 is_id i None = false
 is_id i (Some j) = j == i
 
--- the owners without id i; the registrations once id i left
+-- the owners without id i
 abbrev pub without_owner : ℕ → OwnerMap → OwnerMap
 without_owner i owners = map.retain_keys owners (λ fd. not (is_id i (owner_of owners fd)))
 
-abbrev pub left_by : ℕ → Registrations → Registrations
-left_by i registrations = record registrations { owners = without_owner i registrations.owners }
-
-abbrev pub empty_event : Event
-empty_event = record { fd = 0; payload = 0; set = 0 }
-
 -- one Delete for each of the descriptors, in this order, whatever it answers
 abbrev pub AreDeletes : List ℕ → List PollerCall → Type 0
-AreDeletes [] calls = calls ≡ []
-AreDeletes (fd ∷ fds) calls =
-    (answer : Result (Unit {0}) Errno) × (rest : List PollerCall) × (calls ≡ Control operation.Delete fd empty_event answer ∷ rest) × AreDeletes fds rest
+AreDeletes fds calls = AllZip (λ fd call. (answer : Result (Unit {0}) Errno) × (call ≡ Control operation.Delete fd (record { fd = 0; payload = 0; set = 0 }) answer)) fds calls
 
 -- the descriptors of id i, in ascending order
 abbrev pub AreOwnedBy : ℕ → Registrations → List ℕ → Type 0
@@ -70,8 +66,7 @@ AreBelow {V} next values = (id : ℕ) (value : V) → map.get values id ≡ Some
 abbrev pub ids_end : ℕ
 ids_end = 2 ^ 64 - 1
 
--- begins: which exchanges a subscriber may have in its init, from its value before to its value after.
-module _ {V : Type 0} (begins : V → Exchanges → V → Type 0) where
+module _ {V : Type 0} (begins : Begins V) where
   abbrev pub Steps : Registry V → Step V → Registry V → Type 0
   Steps before (Joined value id exchanges calls held) after =
       (registrations : Registrations) × (before.next < ids_end) × (id ≡ before.next) × ExchangesFit id before.registrations exchanges calls registrations × begins value exchanges held
@@ -80,7 +75,7 @@ module _ {V : Type 0} (begins : V → Exchanges → V → Type 0) where
       (((before.next ≡ ids_end) × (error ≡ IdsUsedUp)) ⊎ ((before.next < ids_end) × (error ≡ OutOfMemory))) × (after ≡ before)
   Steps before (Left id value calls) after =
       (fds : List ℕ) × HasId before id value × AreOwnedBy id before.registrations fds × AreDeletes fds calls
-      × (after ≡ record before { values = map.remove before.values id; registrations = left_by id before.registrations })
+      × (after ≡ record before { values = map.remove before.values id; registrations = record before.registrations { owners = without_owner id before.registrations.owners } })
   Steps before (Replaced id old new) after = HasId before id old × (after ≡ record before { values = map.insert before.values id new })
   Steps before (Requested id exchanges calls) after =
       (value : V) × (registrations : Registrations) × HasId before id value × ExchangesFit id before.registrations exchanges calls registrations × (after ≡ record before { registrations = registrations })
@@ -101,17 +96,3 @@ id_of (Replaced id old new) = Some id
 id_of (Requested id exchanges calls) = Some id
 id_of (Refused id) = Some id
 id_of (NotJoined value error) = None
-
--- the id that it acts on; none where it is refused
-abbrev pub acts_on : {V : Type 0} → Step V → Option ℕ
-acts_on (Refused id) = None
-acts_on step = id_of step
-
--- the id that it gives; the id that it removes
-abbrev pub given_by : {V : Type 0} → Step V → Option ℕ
-given_by (Joined value id exchanges calls held) = Some id
-given_by step = None
-
-abbrev pub removed_by : {V : Type 0} → Step V → Option ℕ
-removed_by (Left id value calls) = Some id
-removed_by step = None

@@ -3,7 +3,7 @@ use Rattle.std.specs.Prelude.{◌≡◌, ℕ, ℤ, ◌==◌, List, Bool, true, f
 use Rattle.std.specs.FinMap as map
 use Rattle.dispatch_tables.specs.Event.{Event}
 use Rattle.event_loop.specs.PollerCall.{Wait, Controls, Waits, Leads}
-use Rattle.event_loop.specs.Exchange.{Exchanges, ExchangesFit}
+use Rattle.event_loop.specs.Exchange.{ExchangesFit, Serves}
 use Rattle.event_loop.specs.Registrations.{Owns}
 use Rattle.event_loop.specs.Registry.{HasId}
 use Rattle.event_loop.specs.Registry as model
@@ -31,7 +31,7 @@ module _ {S P : Type 0} where
   abbrev pub loop_state : Registry S P → LoopState S P
   loop_state r = record { registry = idle (registry_of r); taken = 0; poller = r.ops.epoll.poller; capacity = r.ops.epoll.registrations.capacity }
 
-  module _ (serves : S → Event → Exchanges → S → Type 0) where
+  module _ (serves : Serves S) where
     -- the position had this outcome; `cancelled` says whether it was cancelled before, `later` is what comes after it
     abbrev pub HasOutcome : Registry S P → Event → Bool → List (Event × Bool) → Outcome S → Registry S P → Type 0
     HasOutcome before event cancelled later Nobody after =
@@ -78,7 +78,7 @@ Notices endpoint (Err errno) (Ok batch) = batch.endpoint_ready ≡ false
 Notices endpoint waited (Err error) = Unit {0}
 
 -- one wait with the capacity, and the dispatch of what that wait reported
-pub record IsBatch {S P : Type 0} (serves : S → Event → Exchanges → S → Type 0) (controls : Controls P) (waits : Waits P) (before : LoopState S P) (ms : ℤ) (result : Result Batch Error) (after : LoopState S P) : Type 0 where
+pub record IsBatch {S P : Type 0} (serves : Serves S) (controls : Controls P) (waits : Waits P) (before : LoopState S P) (ms : ℤ) (result : Result Batch Error) (after : LoopState S P) : Type 0 where
   pub waited : Result (List Event) Errno
   pub positions : List (Position S)
   pub answer : count_of result ≡ answer_of waited

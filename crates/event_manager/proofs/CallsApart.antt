@@ -1,10 +1,9 @@
 -- A list of calls that was driven, taken apart: each call did what the single call promises.
 use Rattle.std.proofs.Common.{◌≡◌, ℕ, List, [], ◌∷◌, ◌++◌, refl, sym, ap, subst, ◌∙◌, map, Vec, Result, Ok, Err, Some, None}
 use Rattle.std.specs.declared.alloc.Global.{Global}
-use Rattle.dispatch_tables.specs.Event.{Event}
 use Rattle.event_loop.specs.PollerCall.{PollerCall, Control, Wait, Controls, Waits, Leads}
-use Rattle.event_loop.specs.Exchange.{Exchanges, Answer}
-use Rattle.event_loop.specs.Registry.{Step, Joined, NotJoined, Left, Replaced, Requested, Refused, AreBelow, Registry, Steps, LacksId}
+use Rattle.event_loop.specs.Exchange.{Answer, Begins, Serves}
+use Rattle.event_loop.specs.Registry.{Step, Joined, NotJoined, Left, Replaced, Requested, Refused, AreBelow, Registry, Steps, LacksId, May}
 use Rattle.event_loop.specs.Iteration.{ManagerState, answer_of}
 use Rattle.event_loop.specs.LoopState.{LoopState, HasStepped, IsJoin, IsLeave, IsLoopIteration, manager_state}
 use Rattle.event_loop.specs.declared.error.Error.{Error}
@@ -22,6 +21,7 @@ use Rattle.event_loop.specs.declared.events.Request.{Request}
 use Rattle.event_manager.proofs.HeldIds.{removed_value}
 use Rattle.event_manager.proofs.Soundness.{trace_follows}
 use Rattle.event_manager.proofs.TraceSoFar.{driven_by}
+use Rattle.event_manager.proofs.UnknownIds.{removed_unknown}
 
 -- this holds of a list with one reply to each of the calls
 abbrev pub HasReplies : {V : Type 0} → List (Call V) → (List (Reply V) → Type 0) → Type 0
@@ -29,14 +29,14 @@ HasReplies [] holds = holds []
 HasReplies {V} (c ∷ calls) holds = (r : Reply V) × HasReplies calls (λ replies. holds (r ∷ replies))
 
 -- a call was made by itself: it answered by a step, and its reply is that answer
-pub record IsAnswered {S P A : Type 0} (begins : S → Exchanges → S → Type 0) (controls : Controls P) (waits : Waits P) (replies : Result A Error → Reply S) (is_step : Result A Error → Step S → Type 0) (before : LoopState S P) (r : Reply S) (after : LoopState S P) : Type 0 where
+pub record IsAnswered {S P A : Type 0} (begins : Begins S) (controls : Controls P) (waits : Waits P) (replies : Result A Error → Reply S) (is_step : Result A Error → Step S → Type 0) (before : LoopState S P) (r : Reply S) (after : LoopState S P) : Type 0 where
   pub result : Result A Error
   pub replied : r ≡ replies result
   pub step : Step S
   pub is_step_of : is_step result step
   pub has_stepped : HasStepped begins controls waits before step after
 
-module _ {S J R : Type 0} (begins : S → Exchanges → S → Type 0) (serves : S → Event → Exchanges → S → Type 0) (may : J → List (Step S) → R → Type 0) where
+module _ {S J R : Type 0} (begins : Begins S) (serves : Serves S) (may : May S J R) where
   module _ {P : Type 0} (controls : Controls P) (waits : Waits P) where
     -- each call by itself
     abbrev pub IsCalled : LoopState S P → Call S → Reply S → LoopState S P → Type 0
@@ -73,7 +73,7 @@ module _ {P : Type 0} (controls : Controls P) (waits : Waits P) where
   leads_apart before (Control operation fd event answer ∷ first) more after (next, did, rest) = let k = leads_apart next first more after rest in (k.0, (next, did, k.1), k.2)
   leads_apart before (Wait ms capacity answer ∷ first) more after (next, did, within, rest) = let k = leads_apart next first more after rest in (k.0, (next, did, within, k.1), k.2)
 
-module _ {S J R P : Type 0} {begins : S → Exchanges → S → Type 0} {serves : S → Event → Exchanges → S → Type 0} {may : J → List (Step S) → R → Type 0} {controls : Controls P} {waits : Waits P} where
+module _ {S J R P : Type 0} {begins : Begins S} {serves : Serves S} {may : May S J R} {controls : Controls P} {waits : Waits P} where
   answered : {A : Type 0} {before after : LoopState S P} {replies : Result A Error → Reply S} {is_step : Result A Error → Step S → Type 0} {r : Reply S} (result : Result A Error) (step : Step S) → r ≡ replies result → is_step result step → HasCalled begins serves may controls waits before (Stepped step) after
       → IsAnswered begins controls waits replies is_step before r after
   answered result step replied is did = record { result = result; replied = replied; step = step; is_step_of = is; has_stepped = record { stepped = did.had.0; led = did.led; same_taken = did.had.1; same_capacity = did.same_capacity } }
@@ -140,9 +140,9 @@ module _ {S J R P : Type 0} {begins : S → Exchanges → S → Type 0} {serves 
   unknown_to {known = known} {replies} driven are =
       let of = driven.is_trace_of in
       with_replies driven are (λ told. (replies ≡ told) × RemovedStayUnknown known told)
-      (refl, subst (λ rs. RemovedStayUnknown known rs) of.replies_are (subst (λ cs. RemovedStayUnknown cs (map (λ e. e.reply) driven.trace)) (of.calls_are ∙ are) (driven.guaranteed.unknown)))
+      (refl, subst (λ rs. RemovedStayUnknown known rs) of.replies_are (subst (λ cs. RemovedStayUnknown cs (map (λ e. e.reply) driven.trace)) (of.calls_are ∙ are) (removed_unknown begins serves may _ driven.trace _ of.is_trace driven.guaranteed.removed)))
 
-module _ {S P : Type 0} {begins : S → Exchanges → S → Type 0} {controls : Controls P} {waits : Waits P} {before after : LoopState S P} {r : Reply S} where
+module _ {S P : Type 0} {begins : Begins S} {controls : Controls P} {waits : Waits P} {before after : LoopState S P} {r : Reply S} where
   -- after a Remove of it, whatever it was answered, nobody has the id
   pub lacked_after_remove : (id : ℕ) → IsAnswered begins controls waits reply.Removed (IsLeave id) before r after → LacksId after.registry id
   lacked_after_remove id did = by_answer did.result did.step did.is_step_of did.has_stepped.stepped

@@ -3,12 +3,19 @@ use Rattle.std.proofs.Common.{◌≡◌, ◌≢◌, ℕ, ◌==◌, cond, Bool, t
 use Rattle.std.specs.Ordering.{eq_by_cmp}
 use Rattle.std.specs.FinMap.{FinMap, get, insert, remove, same_map, get-insert, get-remove, get-retain_keys, nat_cmp-IsAntisymmetric}
 use Rattle.std.specs.Cmp.{nat_cmp_total}
-use Rattle.dispatch_tables.specs.Ownership.{Ownership, OwnerMap, owner_id, owner_of}
+use Rattle.dispatch_tables.specs.Ownership.{Ownership, OwnerMap, owner_of}
 use Rattle.dispatch_tables.proofs.NumberTests.{nat_tied}
-use Rattle.dispatch_tables.proofs.Owning.{owner_id-cond}
+use Rattle.dispatch_tables.proofs.Owning.{owner_id-cond, owner_id}
 use Rattle.event_loop.specs.Registry.{is_id, without_owner}
 use Rattle.event_loop.proofs.WithoutOwner.{get-without_owner}
 use Rattle.event_manager.specs.Projection.{owned_by, only_values}
+use Rattle.dispatch_tables.specs.Event.{Event}
+use Rattle.dispatch_tables.specs.declared.priority.Priority.{Priority}
+use Rattle.event_loop.specs.Registrations.{Registrations}
+
+-- with the descriptor of an event owned by id i, at this priority
+abbrev pub entered : ℕ → Event → Priority → Registrations → Registrations
+entered i e priority registrations = record registrations { owners = insert registrations.owners e.fd (record { id = i; priority = priority }) }
 
 -- an ownership, if it is id i's; if it isn't id j's
 abbrev if_own : ℕ → Option Ownership → Option Ownership

@@ -5,21 +5,23 @@ use Rattle.std.specs.Ordering.{eq_by_cmp}
 use Rattle.std.specs.Cmp.{nat_cmp_total}
 use Rattle.std.proofs.lemmas.Bool.Decides.{eqb_tells, nat_tests}
 use Rattle.dispatch_tables.specs.Event.{Event}
-use Rattle.event_loop.specs.Registrations.{Registrations, IsFree, not_on}
-use Rattle.dispatch_tables.specs.Ownership.{Ownership, OwnerMap, owner_id, owner_of}
+use Rattle.event_loop.specs.Registrations.{Registrations, IsFree}
+use Rattle.dispatch_tables.specs.Ownership.{Ownership, OwnerMap, owner_of}
 use Rattle.dispatch_tables.specs.declared.priority.Priority.{Priority}
 use Rattle.dispatch_tables.specs.declared.priority.Priority.TheVariants.{Lowest}
 use Rattle.event_loop.specs.PollerCall.{PollerCall}
-use Rattle.event_loop.specs.Exchange.{Answer, Exchanges, Fits, by_manager, by_poller, by_agreement, ExchangesFit, ReachesPoller, entered, registrations_after}
-use Rattle.event_loop.specs.Registry.{Registry, Step, Joined, NotJoined, Left, Replaced, Requested, Refused, Steps, is_id, left_by}
-use Rattle.event_loop.specs.Dispatch.{Position, To, IsOutcome, still_pending}
-use Rattle.event_manager.specs.Projection.{names, owned_by}
+use Rattle.event_loop.specs.Exchange.{Answer, Exchanges, Fits, by_manager, by_poller, by_agreement, ExchangesFit, ReachesPoller, registrations_after, Begins, Serves}
+use Rattle.event_loop.specs.Registry.{Registry, Step, Joined, NotJoined, Left, Replaced, Requested, Refused, Steps, is_id, without_owner}
+use Rattle.event_loop.specs.Dispatch.{Position, Outcome, Nobody, To, IsOutcome, still_pending}
+use Rattle.event_manager.specs.Projection.{names, is_to, owned_by}
 use Rattle.event_manager.specs.Guarantees.{pending_of, IsUntouched, FreesExactly}
 use Rattle.event_loop.specs.declared.events.Request.{Request}
 use Rattle.event_loop.specs.declared.events.Request.TheVariants.{Add, AddWithPriority, Modify, Remove}
 use Rattle.dispatch_tables.proofs.NumberTests.{fd_tells, nat_tied}
 use Rattle.event_loop.proofs.WithoutOwner.{get-without_owner}
-use Rattle.event_manager.proofs.FiniteMaps.{owner_of-owned_by, owned_by-insert_other, owned_by-remove_other, owned_by-disowned_other}
+use Rattle.event_manager.proofs.FiniteMaps.{owner_of-owned_by, owned_by-insert_other, owned_by-remove_other, owned_by-disowned_other, entered}
+use Rattle.dispatch_tables.proofs.Owning.{owner_id}
+use Rattle.event_loop.proofs.ExchangeLemmas.{not_on}
 
 -- exchanges join
 pub exchanges_join : (i : ℕ) (before mid after : Registrations) (exchanges more : Exchanges) (calls rest : List PollerCall) → ExchangesFit i before exchanges calls mid → ExchangesFit i mid more rest after → ExchangesFit i before (exchanges ++ more) (calls ++ rest) after
@@ -32,6 +34,10 @@ exchanges_join i before mid after (exchange ∷ exchanges) more calls rest (firs
 frees_answer : (i : ℕ) (o : Option Ownership) → cond (not (is_id i (owner_id o))) o None ≡ (if is_id i (owner_id o) then None else o)
 frees_answer i None = refl
 frees_answer i (Some one) = elim (one.id == i) as (λ b. cond (not b) (Some one) None ≡ (if b then None else Some one)) [ true ↦ refl | false ↦ refl ]
+
+-- once id i left
+abbrev left_by : ℕ → Registrations → Registrations
+left_by i registrations = record registrations { owners = without_owner i registrations.owners }
 
 pub frees_exactly : (i : ℕ) (registrations : Registrations) → FreesExactly i registrations (left_by i registrations)
 frees_exactly i registrations fd = get-without_owner i registrations.owners fd ∙ frees_answer i (get registrations.owners fd)
@@ -121,7 +127,7 @@ module _ {V : Type 0} where
   untouched_at : (j : ℕ) (before made after : Registry V) → after ≡ made → get made.values j ≡ get before.values j → IsKept j before.registrations made.registrations → IsUntouched j before after
   untouched_at j before made after e v k = subst (IsUntouched j before) (sym e) (untouched j before made v k)
 
-  pub isolated_step : (begins : V → Exchanges → V → Type 0) (before : Registry V) (step : Step V) (after : Registry V) → Steps begins before step after → (j : ℕ) → names j step ≡ false → IsUntouched j before after
+  pub isolated_step : (begins : Begins V) (before : Registry V) (step : Step V) (after : Registry V) → Steps begins before step after → (j : ℕ) → names j step ≡ false → IsUntouched j before after
   isolated_step begins before (Joined value id exchanges calls held) after (registrations, capacity, is, fits, beg, e) j named =
       untouched_at j before _ after e (insert_other_value id j before.values held (unnamed id j named)) (kept_exchanges id j before.registrations exchanges calls registrations (unnamed id j named) fits)
   isolated_step begins before (NotJoined value error) after h j named = untouched_at j before _ after h.1 refl (kept_refl j before.registrations)
@@ -131,10 +137,13 @@ module _ {V : Type 0} where
   isolated_step begins before (Requested id exchanges calls) after (value, registrations, has, fits, e) j named = untouched_at j before _ after e refl (kept_exchanges id j before.registrations exchanges calls registrations (unnamed id j named) fits)
   isolated_step begins before (Refused id) after h j named = untouched_at j before _ after h.1 refl (kept_refl j before.registrations)
 
-  -- a delivery to i, from the registrations in which its own event is no longer pending
-  pub isolated_delivery : (serves : V → Event → Exchanges → V → Type 0) (before : Registry V) (earlier : List (Position V)) (e : Event) (later : List Event) (i : ℕ) (exchanges : Exchanges) (calls : List PollerCall) (held : V) (after : Registry V) → IsOutcome serves before earlier e later (To i exchanges calls held) after → (j : ℕ) → j ≢ i → IsUntouched j (record before { registrations = record before.registrations { pending = still_pending earlier later } }) after
-  isolated_delivery serves before earlier e later i exchanges calls held after (value, registrations, for, serving, fits, is) j differ =
+  -- an event leaves those who don't get it as they were, from the registrations in which it is no longer pending
+  pub isolated_delivery : (serves : Serves V) (before : Registry V) (earlier : List (Position V)) (e : Event) (later : List Event) (outcome : Outcome V) (after : Registry V) → IsOutcome serves before earlier e later outcome after → (j : ℕ) → is_to j outcome ≡ false → IsUntouched j (record before { registrations = record before.registrations { pending = still_pending earlier later } }) after
+  isolated_delivery serves before earlier e later Nobody after (nobody, is) j other =
+      untouched_at j (record before { registrations = record before.registrations { pending = still_pending earlier later } }) _ after is refl (kept_refl j (record before.registrations { pending = still_pending earlier later }))
+  isolated_delivery serves before earlier e later (To i exchanges calls held) after (value, registrations, for, serving, fits, is) j other =
+      let differ = unnamed i j other in
       untouched_at j (record before { registrations = record before.registrations { pending = still_pending earlier later } }) _ after is (insert_other_value i j before.values held differ) (kept_exchanges i j (record before.registrations { pending = still_pending earlier later }) exchanges calls registrations differ fits)
 
-  pub left_frees : (begins : V → Exchanges → V → Type 0) (before after : Registry V) (i : ℕ) (value : V) (calls : List PollerCall) → Steps begins before (Left i value calls) after → FreesExactly i before.registrations after.registrations
+  pub left_frees : (begins : Begins V) (before after : Registry V) (i : ℕ) (value : V) (calls : List PollerCall) → Steps begins before (Left i value calls) after → FreesExactly i before.registrations after.registrations
   left_frees begins before after i value calls (fds, has, is_owner, deletes, e) = subst (λ (r : Registry V). FreesExactly i before.registrations r.registrations) (sym e) (frees_exactly i before.registrations)

@@ -5,25 +5,26 @@ use Rattle.std.proofs.lemmas.List.Folds.{list_any_none}
 use Rattle.vmm_sys.specs.declared.errno.Errno.{Errno}
 use Rattle.dispatch_tables.specs.Event.{Event}
 use Rattle.event_loop.specs.PollerCall.{Wait, Controls, Waits}
-use Rattle.event_loop.specs.Exchange.{Exchanges}
-use Rattle.event_loop.specs.Registry.{Step}
+use Rattle.event_loop.specs.Exchange.{Begins, Serves}
+use Rattle.event_loop.specs.Registry.{Step, calls_of, May}
 use Rattle.event_loop.specs.Dispatch.{Position}
-use Rattle.event_loop.specs.Iteration.{IsAfterWait, is_reported, calls_of_steps, calls_of_positions, calls_of_jobs}
+use Rattle.event_loop.specs.Iteration.{IsIteration, is_reported, calls_of_positions, calls_of_jobs}
 use Rattle.event_loop.specs.LoopState.{LoopState, HasStepped, IsDispatchedAfter, IsLoopIteration}
 use Rattle.event_manager.specs.JobRuns.{HasRun, JobsAreRun}
 use Rattle.event_loop.specs.Subscribers.{IsBatch, Notices}
 use Rattle.event_loop.specs.declared.registry.Batch.{Batch}
 use Rattle.event_loop.proofs.ExchangeLemmas.{leads_join}
+use Rattle.std.specs.List.{flat_map}
 
 -- a step of the registry is the manager's, whatever it has taken
-pub with_taken : {S P : Type 0} {begins : S → Exchanges → S → Type 0} {controls : Controls P} {waits : Waits P} (n : ℕ) {before after : LoopState S P} {step : Step S}
+pub with_taken : {S P : Type 0} {begins : Begins S} {controls : Controls P} {waits : Waits P} (n : ℕ) {before after : LoopState S P} {step : Step S}
     → HasStepped begins controls waits before step after → HasStepped begins controls waits (record before { taken = n }) step (record after { taken = n })
 with_taken n did = record { stepped = did.stepped; led = did.led; same_taken = refl; same_capacity = did.same_capacity }
 
 none_reported : (fd : ℕ) (report : List Event) → All (λ e. e.fd ≢ fd) report → is_reported fd report ≡ false
 none_reported fd report all = list_any_none (λ (e : Event). e.fd == fd) report (λ k d within. ne_eqb (get_or report k d).fd fd (all k d within))
 
-module _ {S P J R : Type 0} (begins : S → Exchanges → S → Type 0) (serves : S → Event → Exchanges → S → Type 0) (may : J → List (Step S) → R → Type 0) (controls : Controls P) (waits : Waits P) where
+module _ {S P J R : Type 0} (begins : Begins S) (serves : Serves S) (may : May S J R) (controls : Controls P) (waits : Waits P) where
   -- none of no jobs
   pub no_job_ran : (n : ℕ) (before : LoopState S P) → JobsAreRun begins serves may controls waits before n [] before n
   no_job_ran n before = record { jobs = []; are_those = refl; ran = refl; led = refl; same_capacity = refl }
@@ -35,14 +36,14 @@ module _ {S P J R : Type 0} (begins : S → Exchanges → S → Type 0) (serves 
     jobs = record { ticket = ticket; job = job; steps = did.steps; reply = did.reply } ∷ rest.jobs;
     are_those = ap (λ those. (ticket, job) ∷ those) rest.are_those;
     ran = (mid.registry, follows, did.might, did.stepped.stepped, rest.ran);
-    led = leads_join controls waits before.poller mid.poller after.poller (calls_of_steps did.steps) (calls_of_jobs rest.jobs) did.stepped.led rest.led;
+    led = leads_join controls waits before.poller mid.poller after.poller (flat_map calls_of did.steps) (calls_of_jobs rest.jobs) did.stepped.led rest.led;
     same_capacity = rest.same_capacity ∙ did.stepped.same_capacity;
   }
 
   then_jobs : (n m : ℕ) (before mid after : LoopState S P) (waited : Result (List Event) Errno) (positions : List (Position S)) (batch : Batch)
       → IsDispatchedAfter serves waited positions before.registry mid.registry → Notices before.registry.registrations.endpoint waited (Ok batch) → batch.endpoint_ready ≡ true
       → (handed_out : List (ℕ × J)) (jobs : JobsAreRun begins serves may controls waits mid n handed_out after m)
-      → IsAfterWait begins serves may (record { registry = before.registry; taken = n }) waited positions jobs.jobs (record { registry = after.registry; taken = m })
+      → IsIteration begins serves may (record { registry = before.registry; taken = n }) waited positions jobs.jobs (record { registry = after.registry; taken = m })
   then_jobs n m before mid after (Ok report) positions batch dispatched noticed ready handed_out jobs =
       (mid.registry, dispatched, λ all. absurd (false≢true (sym (none_reported before.registry.registrations.endpoint report all) ∙ sym noticed ∙ ready)), jobs.ran)
   then_jobs n m before mid after (Err errno) positions batch dispatched noticed ready handed_out jobs = absurd (false≢true (sym noticed ∙ ready))

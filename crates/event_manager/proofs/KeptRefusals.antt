@@ -7,10 +7,10 @@ use Rattle.std.proofs.lemmas.Bool.Decides.{eqb_tells}
 use Rattle.std.proofs.lemmas.List.Elements.{Contains-append_cases}
 use Rattle.vmm_sys.specs.declared.errno.Errno.{Errno}
 use Rattle.dispatch_tables.specs.Event.{Event}
-use Rattle.event_loop.specs.Exchange.{Exchanges, Answer, answers_of}
+use Rattle.event_loop.specs.Exchange.{Exchanges, Answer, answers_of, Begins, Serves}
 use Rattle.event_loop.specs.Registry.{Registry, Joined, NotJoined, Left, Replaced, Requested, Refused, HasId, AreBelow}
 use Rattle.event_loop.specs.Dispatch.{Position, Outcome, Nobody, To, IsOutcome, AreDispatched, events_of, exchanges_of}
-use Rattle.event_loop.specs.Iteration.{ManagerState, JobRun, IsAfterWait}
+use Rattle.event_loop.specs.Iteration.{ManagerState, JobRun, IsIteration}
 use Rattle.event_loop.specs.LoopState.{no_job}
 use Rattle.event_manager.specs.Trace.{Effect, Stepped, Iterated, Entry, Matches, HasEffect, IsTrace}
 use Rattle.event_manager.specs.Determinism.{HaveMemory, answers_of_positions, answers_of_jobs, answers_of_effect, answers_in}
@@ -68,7 +68,7 @@ module _ {V : Type 0} where
   same_values : (P : ℕ → V → Type 0) (before after : Registry V) → after.values ≡ before.values → AllHeld P after → AllHeld P before
   same_values P before after same all i v has = all i v (ap (λ values. get values i) same ∙ has)
 
-module _ {V : Type 0} (begins : V → Exchanges → V → Type 0) (serves : V → Event → Exchanges → V → Type 0) (ids : ℕ → Type 0) where
+module _ {V : Type 0} (begins : Begins V) (serves : Serves V) (ids : ℕ → Type 0) where
   -- each id that is held is one of these
   abbrev pub AreWithin : Registry V → Type 0
   AreWithin registry = AllHeld (λ i v. ids i) registry
@@ -86,7 +86,7 @@ module _ {V : Type 0} (begins : V → Exchanges → V → Type 0) (serves : V �
   dispatch_within before earlier (position ∷ later) after (mid, outcome, rest) within =
       dispatch_within mid (earlier ++ position ∷ []) later after rest (outcome_within before earlier position.event (events_of later) position.outcome mid outcome within)
 
-  wait_within : (before : ManagerState V) (waited : Result (List Event) Errno) (positions : List (Position V)) (jobs : List (JobRun V ⊥ (Unit {0}))) (after : ManagerState V) → IsAfterWait begins serves no_job before waited positions jobs after → AreWithin before.registry → AreWithin after.registry
+  wait_within : (before : ManagerState V) (waited : Result (List Event) Errno) (positions : List (Position V)) (jobs : List (JobRun V ⊥ (Unit {0}))) (after : ManagerState V) → IsIteration begins serves no_job before waited positions jobs after → AreWithin before.registry → AreWithin after.registry
   wait_within before (Err errno) positions jobs after (no_positions, no_jobs, is) within = subst (λ (s : ManagerState V). AreWithin s.registry) (sym is) within
   wait_within before (Ok report) positions (job_run ∷ jobs) after is within = absurd job_run.job
   wait_within before (Ok report) positions [] after (mid, dispatch, idle, is) within =
@@ -136,7 +136,7 @@ module _ {V : Type 0} (begins : V → Exchanges → V → Type 0) (serves : V �
         let here = outcome_agrees before earlier position.event (events_of later) position.outcome mid outcome behind.0 in
         (here.0, both_have (answers_of (exchanges_of position.outcome)) (answers_of_positions later) here.1 behind.1)
 
-    wait_agrees : (before : ManagerState V) (waited : Result (List Event) Errno) (positions : List (Position V)) (jobs : List (JobRun V ⊥ (Unit {0}))) (after : ManagerState V) → IsAfterWait begins serves no_job before waited positions jobs after → AllAgree after.registry
+    wait_agrees : (before : ManagerState V) (waited : Result (List Event) Errno) (positions : List (Position V)) (jobs : List (JobRun V ⊥ (Unit {0}))) (after : ManagerState V) → IsIteration begins serves no_job before waited positions jobs after → AllAgree after.registry
         → AllAgree before.registry × HaveMemory (answers_of_positions positions ++ answers_of_jobs jobs)
     wait_agrees before (Err errno) positions jobs after (no_positions, no_jobs, is) all = (subst (λ (s : ManagerState V). AllAgree s.registry) is all, rw (no_positions, no_jobs) none_lacking)
     wait_agrees before (Ok report) positions (job_run ∷ jobs) after is all = absurd job_run.job

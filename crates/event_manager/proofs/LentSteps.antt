@@ -1,6 +1,6 @@
 -- Requests through what `event_ops` lent, as a step of the lender.
 use Rattle.std.proofs.Common.{◌≡◌, ℕ, List, sym, subst, refl, ◌∙◌, []}
-use Rattle.event_loop.specs.Exchange.{Exchanges, ExchangesFit}
+use Rattle.event_loop.specs.Exchange.{Exchanges, ExchangesFit, Begins}
 use Rattle.event_loop.specs.PollerCall.{PollerCall, Controls, Waits, Leads}
 use Rattle.event_loop.specs.RegistrationState.{registrations_of}
 use Rattle.event_loop.specs.Registry.{HasId, Requested}
@@ -9,7 +9,7 @@ use Rattle.event_loop.specs.Requests.{AreMadeThrough, StandsFor, with_ops}
 use Rattle.event_loop.specs.declared.ops.EventOps.{EventOps}
 use Rattle.event_loop.proofs.ExchangeLemmas.{idle_fits}
 
-module _ {S P : Type 0} {begins : S → Exchanges → S → Type 0} {controls : Controls P} {waits : Waits P} where
+module _ {S P : Type 0} {begins : Begins S} {controls : Controls P} {waits : Waits P} where
   pub lent_step : (before after : LoopState S P) (lent left : EventOps P) (id : ℕ) (value : S) (exchanges : Exchanges) (calls : List PollerCall)
       → StandsFor lent id before → HasId before.registry id value → AreMadeThrough controls waits lent left exchanges calls → after ≡ with_ops before left
       → HasStepped begins controls waits before (Requested id exchanges calls) after

@@ -2,9 +2,8 @@
 use Rattle.std.proofs.Common.{◌≡◌, ℕ, ℤ, List, [], ◌∷◌, ◌++◌, refl, sym, ap, ◌∙◌, map, Result}
 use Rattle.std.specs.List.{AllZip}
 use Rattle.std.proofs.lemmas.List.{append-nil}
-use Rattle.dispatch_tables.specs.Event.{Event}
 use Rattle.event_loop.specs.PollerCall.{Controls, Waits}
-use Rattle.event_loop.specs.Exchange.{Exchanges}
+use Rattle.event_loop.specs.Exchange.{Begins, Serves}
 use Rattle.event_loop.specs.Registry.{Step}
 use Rattle.event_loop.specs.Iteration.{JobRun}
 use Rattle.event_loop.specs.LoopState.{LoopState, HasStepped, IsJoin, IsLeave, IsLoopIteration, no_job}
@@ -20,7 +19,7 @@ use Rattle.event_manager.specs.declared.calls.Reply.{Reply}
 use Rattle.event_manager.specs.declared.calls.Reply.TheVariants as reply
 use Rattle.event_manager.proofs.TraceSoFar.{IsTracedSoFar, one_more_traced, join_matches, leave_matches, step_called, iteration_called}
 
-module _ {S P : Type 0} (begins : S → Exchanges → S → Type 0) (serves : S → Event → Exchanges → S → Type 0) (controls : Controls P) (waits : Waits P) where
+module _ {S P : Type 0} (begins : Begins S) (serves : Serves S) (controls : Controls P) (waits : Waits P) where
   -- these calls were made and replied so
   pub record AreMade (before : LoopState S P) (calls : List (Call S)) (replies : List (Reply S)) (after : LoopState S P) : Type 0 where
     pub trace : List (Entry S ⊥ (Unit {0}))

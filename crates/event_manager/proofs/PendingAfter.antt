@@ -1,9 +1,9 @@
 -- What is pending after a position.
-use Rattle.std.proofs.Common.{eq-eqb, ne_eqb, ◌==◌, ◌≡◌, ℕ, cond, Bool, true, false, not, ◌||◌, refl, sym, ◌∙◌, ap, List, [], ◌∷◌, ◌++◌, filter, Err, inl, inr}
+use Rattle.std.proofs.Common.{Ok, eq-eqb, ne_eqb, ◌==◌, ◌≡◌, ℕ, cond, Bool, true, false, not, ◌||◌, refl, sym, ◌∙◌, ap, List, [], ◌∷◌, ◌++◌, filter, Err, inl, inr}
 use Rattle.dispatch_tables.specs.Event.{Event}
 use Rattle.event_loop.specs.Registrations.{Registrations}
 use Rattle.event_loop.specs.PollerCall.{PollerCall}
-use Rattle.event_loop.specs.Exchange.{Answer, Exchanges, Fits, by_manager, by_poller, by_agreement, ExchangesFit, registrations_after, removes, is_removal, agreed}
+use Rattle.event_loop.specs.Exchange.{Answer, Exchanges, Fits, by_manager, by_poller, by_agreement, ExchangesFit, registrations_after, removes, is_removal, Serves}
 use Rattle.event_loop.specs.Registry.{Registry}
 use Rattle.event_loop.specs.Dispatch.{Position, Outcome, Nobody, To, is_removed, still_pending, IsOutcome}
 use Rattle.event_loop.specs.declared.events.Request.{Request}
@@ -38,7 +38,7 @@ eq_swapped a b = elim (fd_tells a b) [
   | inr p ↦ p.2 ∙ sym (ne_eqb b a (λ q. p.1 (sym q)))
 ]
 
-agreed_pending : (i : ℕ) (registrations : Registrations) (request : Request) → (registrations_after i request registrations).pending ≡ filter (λ e. not (is_removal e.fd request agreed)) registrations.pending
+agreed_pending : (i : ℕ) (registrations : Registrations) (request : Request) → (registrations_after i request registrations).pending ≡ filter (λ e. not (is_removal e.fd request (Ok tt))) registrations.pending
 agreed_pending i registrations (Add e) = sym (filter_all _ registrations.pending (λ x. refl))
 agreed_pending i registrations (AddWithPriority e priority) = sym (filter_all _ registrations.pending (λ x. refl))
 agreed_pending i registrations (Modify e) = sym (filter_all _ registrations.pending (λ x. refl))
@@ -59,7 +59,7 @@ ends : (a : Bool) → (a || false) ≡ a
 ends true = refl
 ends false = refl
 
-pub pending_after : {V : Type 0} (serves : V → Event → Exchanges → V → Type 0) (before : Registry V) (earlier : List (Position V)) (event : Event) (later : List Event) (outcome : Outcome V) (after : Registry V) → IsOutcome serves before earlier event later outcome after → after.registrations.pending ≡ still_pending (earlier ++ record { event = event; outcome = outcome } ∷ []) later
+pub pending_after : {V : Type 0} (serves : Serves V) (before : Registry V) (earlier : List (Position V)) (event : Event) (later : List Event) (outcome : Outcome V) (after : Registry V) → IsOutcome serves before earlier event later outcome after → after.registrations.pending ≡ still_pending (earlier ++ record { event = event; outcome = outcome } ∷ []) later
 pending_after {V} serves before earlier event later Nobody after (nobody, is) =
     ap (λ (r : Registry V). r.registrations.pending) is ∙ filter_alike _ _ later (λ e. ap not (sym (is_removed-push e.fd earlier (record { event = event; outcome = Nobody }) ∙ ends (is_removed e.fd earlier))))
 pending_after {V} serves before earlier event later (To i exchanges calls held) after (value, registrations, for, serving, fits, is) =

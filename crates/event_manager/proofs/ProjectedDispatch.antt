@@ -5,10 +5,10 @@ use Rattle.std.proofs.lemmas.Bool.Decides.{eqb_tells}
 use Rattle.dispatch_tables.specs.Event.{Event}
 use Rattle.dispatch_tables.specs.Ownership.{owner_of}
 use Rattle.event_loop.specs.PollerCall.{PollerCall}
-use Rattle.event_loop.specs.Exchange.{Exchanges, removes}
+use Rattle.event_loop.specs.Exchange.{Exchanges, removes, Serves}
 use Rattle.event_loop.specs.Registry.{Registry}
 use Rattle.event_loop.specs.Dispatch.{Outcome, Nobody, To, Position, exchanges_of, is_removed, still_pending, events_of, IsFor, IsOutcome, AreDispatched}
-use Rattle.event_manager.specs.Projection.{owned_by, only_values, projected_registrations, projected_registry, is_to, receiver_of, outcome_exchanges, positions_exchanges, asks_to_add, adds}
+use Rattle.event_manager.specs.Projection.{owned_by, only_values, projected_registrations, projected_registry, is_to, receiver_of, asks_to_add, adds}
 use Rattle.std.proofs.lemmas.List.Elements.{All-nil, All-cons}
 use Rattle.dispatch_tables.proofs.DispatchOrders.{nil_cons, head_is, tail_is}
 use Rattle.event_manager.proofs.FiniteMaps.{only_outcome-insert_own, only_outcome-insert_other}
@@ -16,6 +16,14 @@ use Rattle.event_manager.proofs.ProjectedExchanges.{IsMine, own_exchanges, other
 use Rattle.event_loop.proofs.ExchangeLemmas.{or_false}
 use Rattle.event_loop.proofs.Positions.{is_removed-push}
 use Rattle.event_manager.proofs.ProjectedSteps.{has_projected, has_from_projected}
+use Rattle.std.specs.List.{flat_map}
+
+-- the exchanges of id i in an outcome; in positions
+abbrev pub outcome_exchanges : {V : Type 0} → ℕ → Outcome V → Exchanges
+outcome_exchanges i outcome = if is_to i outcome then exchanges_of outcome else []
+
+abbrev pub positions_exchanges : {V : Type 0} → ℕ → List (Position V) → Exchanges
+positions_exchanges i positions = flat_map (λ position. outcome_exchanges i position.outcome) positions
 
 -- what other ids got becomes nobody's
 abbrev pub only_outcome : {V : Type 0} → ℕ → Outcome V → Outcome V
@@ -46,7 +54,7 @@ pub data Woven {V : Type 0} (i : ℕ) (mine : ℕ → Bool) : List (Position V) 
 abbrev projected_with : {V : Type 0} → ℕ → ℕ → List Event → Registry V → Registry V
 projected_with i n pending r = record { values = only_values i r.values; next = n; registrations = projected_registrations i pending r.registrations }
 
-module _ {V : Type 0} (serves : V → Event → Exchanges → V → Type 0) (i : ℕ) (mine : ℕ → Bool) (n : ℕ) where
+module _ {V : Type 0} (serves : Serves V) (i : ℕ) (mine : ℕ → Bool) (n : ℕ) where
   abbrev IsClaimed : Exchanges → Type 0
   IsClaimed exchanges = (fd : ℕ) → asks_to_add fd exchanges ≡ true → mine fd ≡ true
 

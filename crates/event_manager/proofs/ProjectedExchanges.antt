@@ -1,13 +1,13 @@
 -- The projection of one id's exchanges, and of a neighbour's.
-use Rattle.std.proofs.Common.{is_ok, ◌≡◌, ◌≢◌, ℕ, cond, Bool, true, false, ◌||◌, refl, sym, ◌∙◌, ap, subst, arith, Some, None, Option, inl, inr, Err, List, [], ◌∷◌, ◌++◌, true≢false, if◌then◌else◌, ◌==◌, eq-eqb}
+use Rattle.std.proofs.Common.{Ok, is_ok, ◌≡◌, ◌≢◌, ℕ, cond, Bool, true, false, ◌||◌, refl, sym, ◌∙◌, ap, subst, arith, Some, None, Option, inl, inr, Err, List, [], ◌∷◌, ◌++◌, true≢false, if◌then◌else◌, ◌==◌, eq-eqb}
 use Rattle.std.specs.FinMap.{get, insert, remove}
 use Rattle.std.proofs.lemmas.Bool.Decides.{nat_tests, eqb_tells}
 use Rattle.std.proofs.lemmas.List.Folds.{list_any-append}
 use Rattle.dispatch_tables.specs.Event.{Event}
-use Rattle.event_loop.specs.Registrations.{Registrations, not_on}
+use Rattle.event_loop.specs.Registrations.{Registrations}
 use Rattle.event_loop.specs.PollerCall.{PollerCall}
-use Rattle.event_loop.specs.Exchange.{Answer, Exchanges, Fits, by_manager, by_poller, by_agreement, ExchangesFit, IsAdditionRefused, IsRefusedByManager, ReachesPoller, entered, registrations_after, removes, is_removal, agreed}
-use Rattle.dispatch_tables.specs.Ownership.{Ownership, OwnerMap, owner_id, owner_of}
+use Rattle.event_loop.specs.Exchange.{Answer, Exchanges, Fits, by_manager, by_poller, by_agreement, ExchangesFit, IsAdditionRefused, IsRefusedByManager, ReachesPoller, registrations_after, removes, is_removal}
+use Rattle.dispatch_tables.specs.Ownership.{Ownership, OwnerMap, owner_of}
 use Rattle.dispatch_tables.specs.declared.priority.Priority.{Priority}
 use Rattle.dispatch_tables.specs.declared.priority.Priority.TheVariants.{Lowest}
 use Rattle.event_loop.specs.Registry.{is_id}
@@ -15,8 +15,9 @@ use Rattle.event_manager.specs.Projection.{owned_by, projected_registrations, is
 use Rattle.event_loop.specs.declared.events.Request.{Request}
 use Rattle.event_loop.specs.declared.events.Request.TheVariants.{Add, AddWithPriority, Modify, Remove}
 use Rattle.dispatch_tables.proofs.NumberTests.{fd_tells}
-use Rattle.dispatch_tables.proofs.Owning.{from_insert, from_remove}
-use Rattle.event_manager.proofs.FiniteMaps.{get-owned_by, owner_of-owned_by, owned_by-insert_own, owned_by-insert_other, owned_by-remove, owned_by-remove_other}
+use Rattle.dispatch_tables.proofs.Owning.{from_insert, from_remove, owner_id}
+use Rattle.event_manager.proofs.FiniteMaps.{get-owned_by, owner_of-owned_by, owned_by-insert_own, owned_by-insert_other, owned_by-remove, owned_by-remove_other, entered}
+use Rattle.event_loop.proofs.ExchangeLemmas.{not_on}
 
 pub int_eq_same : (fd : ℕ) → (fd == fd) ≡ true
 int_eq_same fd = eq-eqb fd fd refl
@@ -173,14 +174,14 @@ other_unchanged i mine registrations request answer after m error r e = record {
   apart = λ fd t. no_removal fd request answer error r;
 }
 
-other_entered : (i j : ℕ) (mine : ℕ → Bool) (registrations : Registrations) (e : Event) (priority : Priority) (request : Request) → j ≢ i → IsMine i mine registrations.owners → mine e.fd ≡ false → get registrations.owners e.fd ≡ None → ((fd : ℕ) → is_removal fd request agreed ≡ false) → OtherFits i mine registrations request agreed (entered j e priority registrations)
+other_entered : (i j : ℕ) (mine : ℕ → Bool) (registrations : Registrations) (e : Event) (priority : Priority) (request : Request) → j ≢ i → IsMine i mine registrations.owners → mine e.fd ≡ false → get registrations.owners e.fd ≡ None → ((fd : ℕ) → is_removal fd request (Ok tt) ≡ false) → OtherFits i mine registrations request (Ok tt) (entered j e priority registrations)
 other_entered i j mine registrations e priority request differ m foreign free none = record {
   same = λ p k. record { owners = owned_by-insert_other i registrations.owners e.fd (record { id = j; priority = priority }) differ free k; endpoint = registrations.endpoint; pending = p };
   still = mine-insert i mine registrations.owners e.fd (record { id = j; priority = priority }) m (λ s. absurd (differ s)) (λ s. foreign);
   apart = λ fd t. none fd;
 }
 
-other_agreed : (i j : ℕ) (mine : ℕ → Bool) (registrations : Registrations) (request : Request) → j ≢ i → IsMine i mine registrations.owners → ((fd : ℕ) → is_add fd request ≡ true → mine fd ≡ false) → ReachesPoller j registrations request → OtherFits i mine registrations request agreed (registrations_after j request registrations)
+other_agreed : (i j : ℕ) (mine : ℕ → Bool) (registrations : Registrations) (request : Request) → j ≢ i → IsMine i mine registrations.owners → ((fd : ℕ) → is_add fd request ≡ true → mine fd ≡ false) → ReachesPoller j registrations request → OtherFits i mine registrations request (Ok tt) (registrations_after j request registrations)
 other_agreed i j mine registrations (Add e) differ m foreign h = other_entered i j mine registrations e Lowest (Add e) differ m (foreign e.fd (int_eq_same e.fd)) h.0 (λ fd. refl)
 other_agreed i j mine registrations (AddWithPriority e priority) differ m foreign h = other_entered i j mine registrations e priority (AddWithPriority e priority) differ m (foreign e.fd (int_eq_same e.fd)) h.0 (λ fd. refl)
 other_agreed i j mine registrations (Modify e) differ m foreign h = record { same = λ p. refl; still = m; apart = λ fd t. refl }

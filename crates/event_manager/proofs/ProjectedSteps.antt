@@ -5,7 +5,7 @@ use Rattle.std.proofs.lemmas.Bool.Decides.{eqb_tells}
 use Rattle.dispatch_tables.specs.Ownership.{OwnerMap, owner_of}
 use Rattle.event_loop.specs.Registrations.{Registrations}
 use Rattle.event_loop.specs.PollerCall.{PollerCall}
-use Rattle.event_loop.specs.Exchange.{Exchanges, ExchangesFit}
+use Rattle.event_loop.specs.Exchange.{Exchanges, ExchangesFit, Begins}
 use Rattle.event_loop.specs.Registry.{Registry, Step, Joined, NotJoined, Left, Replaced, Requested, Refused, Steps, is_id, without_owner, ids_end}
 use Rattle.event_manager.specs.Projection.{only_values, projected_registrations, projected_registry, names, step_exchanges, asks_to_add, adds}
 use Rattle.event_loop.proofs.WithoutOwner.{owner_of-without_owner}
@@ -36,7 +36,7 @@ lacks_projected i values h = get_only i values i ∙ ap (λ b. cond b (get value
 pub has_from_projected : {V : Type 0} (i : ℕ) (values : FinMap nat_cmp V) (v : V) → get (only_values i values) i ≡ Some v → get values i ≡ Some v
 has_from_projected i values v h = sym (get_only i values i ∙ ap (λ b. cond b (get values i) None) (eq-eqb i i refl)) ∙ h
 
-module _ {V : Type 0} (begins : V → Exchanges → V → Type 0) where
+module _ {V : Type 0} (begins : Begins V) where
   -- a step of i's own
   pub record OwnStep (i : ℕ) (mine : ℕ → Bool) (n : ℕ) (before : Registry V) (step : Step V) (after : Registry V) : Type 0 where
     pub next : ℕ

@@ -2,23 +2,24 @@
 use Rattle.std.proofs.Common.{◌≡◌, ◌≢◌, ℕ, ◌+◌, ◌≤◌, Bool, true, false, ◌||◌, refl, sym, ◌∙◌, ap, ap₂, subst, cond, map, filter, Some, None, Option, ◌⊎◌, inl, inr, List, [], ◌∷◌, true≢false, if◌then◌else◌, eq-eqb, eqb-true, le-ltb, le_of_eq, arith, Ok, Err, Result}
 use Rattle.std.proofs.lemmas.List.Elements.{All-nil, All-cons}
 use Rattle.dispatch_tables.specs.Event.{Event}
-use Rattle.event_loop.specs.Exchange.{Exchanges}
+use Rattle.event_loop.specs.Exchange.{Exchanges, Begins, Serves}
 use Rattle.event_loop.specs.Registrations.{Registrations, Owns}
-use Rattle.dispatch_tables.specs.Ownership.{class_by, owner_of}
-use Rattle.event_loop.specs.DispatchOrder.{class_of, IsDispatchOrder}
-use Rattle.event_loop.specs.Registry.{Step, is_id}
+use Rattle.dispatch_tables.specs.Ownership.{owner_of, class_in}
+use Rattle.event_loop.specs.DispatchOrder.{IsDispatchOrder}
+use Rattle.event_loop.specs.Registry.{is_id, May}
 use Rattle.event_loop.specs.Dispatch.{Position, events_of}
-use Rattle.event_loop.specs.Iteration.{ManagerState, JobRun, IsAfterWait, AreRun}
+use Rattle.event_loop.specs.Iteration.{ManagerState, JobRun, IsIteration, AreRun}
 use Rattle.event_manager.specs.Trace.{Effect, Stepped, Iterated, Entry, Matches, HasEffect, IsTrace}
-use Rattle.event_manager.specs.Projection.{projected_registrations, projected_registry, projected_state, positions_exchanges, effect_exchanges, exchanges_in, asks_to_add, adds, stays, names, seen_of, seen_in, IsOnly, IsProjection, projected_next, NonInterference}
+use Rattle.event_manager.specs.Projection.{projected_registrations, projected_registry, projected_state, effect_exchanges, exchanges_in, asks_to_add, adds, stays, names, seen_of, seen_in, IsOnly, IsProjection, projected_next, NonInterference}
 use Rattle.vmm_sys.specs.declared.errno.Errno.{Errno}
 use Rattle.event_manager.proofs.ProjectedExchanges.{IsMine, same_at_mine, calls_first, calls_then, adds_first, adds_then, or_left, or_right}
 use Rattle.event_manager.proofs.ProjectedSteps.{own_step, other_step}
 use Rattle.dispatch_tables.proofs.DispatchOrders.{by_class, ordered_by_class, one_order_of_mine}
-use Rattle.event_manager.proofs.ProjectedDispatch.{AreProjected, projected_dispatch, foreign_positions, weave, woven_projected}
+use Rattle.event_manager.proofs.ProjectedDispatch.{AreProjected, projected_dispatch, foreign_positions, weave, woven_projected, positions_exchanges}
+use Rattle.dispatch_tables.proofs.Owning.{class_by}
 
 -- at a descriptor of i's, i's own registrations give the class that all give
-own_class : (i : ℕ) (mine : ℕ → Bool) (pending : List Event) (registrations : Registrations) → IsMine i mine registrations.owners → (fd : ℕ) → mine fd ≡ true → class_of (projected_registrations i pending registrations) fd ≡ class_of registrations fd
+own_class : (i : ℕ) (mine : ℕ → Bool) (pending : List Event) (registrations : Registrations) → IsMine i mine registrations.owners → (fd : ℕ) → mine fd ≡ true → class_in (projected_registrations i pending registrations).owners fd ≡ class_in registrations.owners fd
 own_class i mine pending registrations m fd e = ap class_by (same_at_mine i mine registrations.owners fd m e)
 
 module _ {V J R : Type 0} (i : ℕ) where
@@ -59,7 +60,7 @@ module _ {V J R : Type 0} (i : ℕ) where
     All-cons (λ (e : Entry V J R). IsOnly i e.effect) (record entry { effect = shown }) projected (shown_only entry.effect shown is stay) h.1,
   )
 
-module _ {V J R : Type 0} (begins : V → Exchanges → V → Type 0) (serves : V → Event → Exchanges → V → Type 0) (may : J → List (Step V) → R → Type 0) where
+module _ {V J R : Type 0} (begins : Begins V) (serves : Serves V) (may : May V J R) where
   -- jobs are counted
   jobs_grow : (before : ManagerState V) (jobs : List (JobRun V J R)) (after : ManagerState V) → AreRun begins serves may before jobs after → before.taken ≤ after.taken
   jobs_grow before [] after is = le_of_eq (sym (ap (λ (s : ManagerState V). s.taken) is))
@@ -69,7 +70,7 @@ module _ {V J R : Type 0} (begins : V → Exchanges → V → Type 0) (serves : 
   no_jobs before [] after same is = (refl, is)
   no_jobs before (job_run ∷ jobs) after same (mid, ticket, chosen, steps, more) = let m = jobs_grow (record { registry = mid; taken = before.taken + 1 }) jobs after more in absurd (omega arith)
 
-  wait_grows : (before : ManagerState V) (waited : Result (List Event) Errno) (positions : List (Position V)) (jobs : List (JobRun V J R)) (after : ManagerState V) → IsAfterWait begins serves may before waited positions jobs after → before.taken ≤ after.taken
+  wait_grows : (before : ManagerState V) (waited : Result (List Event) Errno) (positions : List (Position V)) (jobs : List (JobRun V J R)) (after : ManagerState V) → IsIteration begins serves may before waited positions jobs after → before.taken ≤ after.taken
   wait_grows before (Ok report) positions jobs after (mid, dispatch, none, job_run) = jobs_grow (record before { registry = mid }) jobs after job_run
   wait_grows before (Err errno) positions jobs after (no_positions, none, is) = le_of_eq (sym (ap (λ (s : ManagerState V). s.taken) is))
 
@@ -92,11 +93,11 @@ module _ {V J R : Type 0} (begins : V → Exchanges → V → Type 0) (serves : 
     record TurnAlone (n : ℕ) (before : ManagerState V) (waited : Result (List Event) Errno) (positions : List (Position V)) (jobs : List (JobRun V J R)) (after : ManagerState V) : Type 0 where
       shown : List (Position V)
       projected : AreProjected i positions shown
-      fits : IsAfterWait begins serves may (projected_state i n before) waited shown jobs (projected_state i n after)
+      fits : IsIteration begins serves may (projected_state i n before) waited shown jobs (projected_state i n after)
       still : IsMine i mine after.registry.registrations.owners
       next : after.registry.next ≡ before.registry.next
 
-    wait_projected : (n : ℕ) (before : ManagerState V) (waited : Result (List Event) Errno) (positions : List (Position V)) (jobs : List (JobRun V J R)) (after : ManagerState V) → after.taken ≡ before.taken → IsMine i mine before.registry.registrations.owners → IsClaimed (positions_exchanges i positions) → Apart (λ j. positions_exchanges j positions) → IsAfterWait begins serves may before waited positions jobs after → TurnAlone n before waited positions jobs after
+    wait_projected : (n : ℕ) (before : ManagerState V) (waited : Result (List Event) Errno) (positions : List (Position V)) (jobs : List (JobRun V J R)) (after : ManagerState V) → after.taken ≡ before.taken → IsMine i mine before.registry.registrations.owners → IsClaimed (positions_exchanges i positions) → Apart (λ j. positions_exchanges j positions) → IsIteration begins serves may before waited positions jobs after → TurnAlone n before waited positions jobs after
     wait_projected n before (Err errno) positions jobs after same m claimed apart (no_positions, none, is) = record {
       shown = [];
       projected = subst (λ ps. AreProjected i ps []) (sym no_positions) (record { same = refl; only = All-nil _ });
@@ -107,9 +108,9 @@ module _ {V J R : Type 0} (begins : V → Exchanges → V → Type 0) (serves : 
     wait_projected n before (Ok report) positions jobs after same m claimed apart (mid, dispatch, none, job_run) =
         let idle = no_jobs (record before { registry = mid }) jobs after same job_run in
         let registrations = before.registry.registrations in
-        let own : ℕ → ℕ = λ fd. class_of (projected_registrations i [] registrations) fd in
+        let own : ℕ → ℕ = λ fd. class_in (projected_registrations i [] registrations).owners fd in
         let order = ordered_by_class own report in
-        let mine_alike = one_order_of_mine (λ fd. class_of registrations fd) own mine (own_class i mine [] registrations m) report (events_of positions) (by_class own report) dispatch.0 order in
+        let mine_alike = one_order_of_mine (λ fd. class_in registrations.owners fd) own mine (own_class i mine [] registrations m) report (events_of positions) (by_class own report) dispatch.0 order in
         let w = weave serves i mine n (by_class own report) positions (foreign_positions serves i mine n before.registry [] positions mid m claimed apart dispatch.1) mine_alike in
         let d = projected_dispatch serves i mine n [] before.registry [] [] positions w.shown mid w.woven m claimed apart (λ fd h. refl) dispatch.1 in
         record {

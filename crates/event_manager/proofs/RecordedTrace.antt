@@ -5,9 +5,8 @@ use base.Stored.{Gv}
 use Rattle.vmm_sys.specs.Poller.{CtlRelation, WaitRelation}
 use Rattle.vmm_sys.specs.Recording.{Recording}
 use Rattle.vmm_sys.specs.Replay.{Replay}
-use Rattle.dispatch_tables.specs.Event.{Event}
-use Rattle.event_loop.specs.Exchange.{Exchanges}
-use Rattle.event_loop.specs.Registry.{Step}
+use Rattle.event_loop.specs.Exchange.{Begins, Serves}
+use Rattle.event_loop.specs.Registry.{May}
 use Rattle.event_loop.specs.LoopState.{LoopState, manager_state}
 use Rattle.event_loop.specs.PollerCall.{Leads}
 use Rattle.event_manager.specs.Trace.{Entry, IsTrace, calls_of_trace}
@@ -17,7 +16,7 @@ use Rattle.event_manager.proofs.SameExchanges.{AreSameCalls, eventless}
 use Rattle.event_manager.proofs.SameTrace.{trace_alike}
 use Rattle.event_manager.proofs.RecordedCalls.{recording_controls, recording_waits, recorded_calls, replay_controls, replay_waits, passed_calls, same_fronts}
 
-module _ {V J R P : Type 0} (begins : V → Exchanges → V → Type 0) (serves : V → Event → Exchanges → V → Type 0) (may : J → List (Step V) → R → Type 0) where
+module _ {V J R P : Type 0} (begins : Begins V) (serves : Serves V) (may : May V J R) where
   module _ (functions : AreFunctions begins serves may) (meaning : P → Gv) (may_ctl : CtlRelation) (may_wait : WaitRelation) where
     pub made_again : (before after : LoopState V (Recording P)) (trace : List (Entry V J R)) (start end : LoopState V Replay) (again : List (Entry V J R))
         → IsTrace begins serves may (manager_state before) trace (manager_state after)

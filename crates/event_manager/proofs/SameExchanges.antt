@@ -7,12 +7,12 @@ use Rattle.event_loop.specs.PollerCall.{PollerCall, Control, Wait}
 use Rattle.event_loop.specs.Registrations.{Registrations, IsFree}
 use Rattle.event_loop.specs.Exchange.{Exchanges, Answer, refused, requests_of, answers_of, call_for, IsAdditionRefused, IsRefusedByManager, ReachesPoller}
 use Rattle.event_loop.specs.Exchange.{Fits, by_manager, by_poller, by_agreement, ExchangesFit}
-use Rattle.event_loop.specs.Registry.{empty_event}
 use Rattle.event_loop.specs.declared.error.Error.TheVariants.{OutOfMemory}
 use Rattle.event_loop.specs.declared.events.Request.{Request}
 use Rattle.event_loop.specs.declared.events.Request.TheVariants.{Add, AddWithPriority, Modify, Remove}
 use Rattle.vmm_sys.specs.declared.errno.Errno.{Errno}
 use Rattle.event_manager.specs.Determinism.{AskAlike, HaveMemory}
+use Rattle.event_loop.proofs.Releasing.{empty_event}
 
 -- memory of a part
 pub memory_first : (xs ys : List Answer) → HaveMemory (xs ++ ys) → HaveMemory xs

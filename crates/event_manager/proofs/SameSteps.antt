@@ -8,10 +8,10 @@ use Rattle.std.proofs.lemmas.Bool.Decides.{Decides-eqb}
 use Rattle.std.proofs.lemmas.Map.Made.{length-le_from_is_member, is_member-Decides, IsDistinct-from_AllPairs}
 use Rattle.event_loop.specs.PollerCall.{PollerCall, Control}
 use Rattle.event_loop.specs.Registrations.{Registrations}
-use Rattle.event_loop.specs.Exchange.{Exchanges, ExchangesFit, answers_of}
+use Rattle.event_loop.specs.Exchange.{Exchanges, ExchangesFit, answers_of, Begins}
 use Rattle.event_loop.specs.Registry.{Registry, Step, Joined, NotJoined, Left, Replaced, Requested, Refused}
-use Rattle.event_loop.specs.Registry.{Steps, AreDeletes, AreOwnedBy, empty_event, ids_end, calls_of}
-use Rattle.event_loop.specs.Iteration.{AllSteps, calls_of_steps}
+use Rattle.event_loop.specs.Registry.{Steps, AreDeletes, AreOwnedBy, ids_end, calls_of}
+use Rattle.event_loop.specs.Iteration.{AllSteps}
 use Rattle.event_loop.specs.declared.error.Error.{Error}
 use Rattle.event_loop.specs.declared.error.Error.TheVariants.{OutOfMemory, IdsUsedUp}
 use Rattle.vmm_sys.specs.declared.errno.Errno.{Errno}
@@ -23,6 +23,7 @@ use Rattle.event_manager.specs.declared.calls.Call.{Call}
 use Rattle.event_manager.specs.declared.calls.Call.TheVariants as call
 use Rattle.event_manager.specs.declared.calls.Reply.{Reply}
 use Rattle.event_manager.proofs.SameExchanges.{memory_first, memory_then, memory_at, AreSameCalls, eventless, in_parts, behind_same, asks_of_requests, exchanges_alike}
+use Rattle.event_loop.proofs.Releasing.{empty_event}
 
 abbrev delete_of : ℕ → Result (Unit {0}) Errno → PollerCall
 delete_of fd answer = Control operation.Delete fd empty_event answer
@@ -45,16 +46,20 @@ as_long i registrations xs ys h k =
 -- as many deletes at the front of the same calls are the same
 same_deletes : (fds gds : List ℕ) (calls made rest more : List PollerCall) → length fds ≡ length gds → AreDeletes fds calls → AreDeletes gds made
     → AreSameCalls (calls ++ rest) (made ++ more) → calls ≡ made
-same_deletes [] [] calls made rest more long h k same = h ∙ sym k
+same_deletes [] [] [] [] rest more long h k same = refl
+same_deletes [] [] (call ∷ calls) made rest more long h k same = absurd h
+same_deletes [] [] [] (call ∷ made) rest more long h k same = absurd k
 same_deletes [] (gd ∷ gds) calls made rest more long h k same = absurd (omega arith)
 same_deletes (fd ∷ fds) [] calls made rest more long h k same = absurd (omega arith)
-same_deletes (fd ∷ fds) (gd ∷ gds) calls made rest more long (answer, tail, e, h) (other, end, f, k) same =
+same_deletes (fd ∷ fds) (gd ∷ gds) [] made rest more long h k same = absurd h
+same_deletes (fd ∷ fds) (gd ∷ gds) (call ∷ calls) [] rest more long h k same = absurd k
+same_deletes (fd ∷ fds) (gd ∷ gds) (call ∷ tail) (one ∷ end) rest more long ((answer, e), h) ((other, f), k) same =
     let parts : eventless (delete_of fd answer) ∷ map eventless (tail ++ rest) ≡ eventless (delete_of gd other) ∷ map eventless (end ++ more) =
-    ap (λ l. map eventless (l ++ rest)) (sym e) ∙ same ∙ ap (λ l. map eventless (l ++ more)) f in
+    ap (λ c. eventless c ∷ map eventless (tail ++ rest)) (sym e) ∙ same ∙ ap (λ c. eventless c ∷ map eventless (end ++ more)) f in
     let first : delete_of fd answer ≡ delete_of gd other = cc in
     let behind : AreSameCalls (tail ++ rest) (end ++ more) = cc in
     let all = same_deletes fds gds tail end rest more (omega arith) h k behind in
-    e ∙ (λ j. first j ∷ all j) ∙ sym f
+    (λ j. (e ∙ first ∙ sym f) j ∷ all j)
 
 module _ {V : Type 0} where
   -- what a call asks for, where it is one step
@@ -129,7 +134,7 @@ module _ {V : Type 0} where
   no_room : (before : Registry V) (error : Error) → HaveMemory (Err error ∷ []) → IsJoinRefused before error → before.next < ids_end → ⊥
   no_room before error m h room = lt_irrefl _ (subst (λ n. n < ids_end) (used_up before error m h).0 room)
 
-  module _ (begins : V → Exchanges → V → Type 0) where
+  module _ (begins : Begins V) where
     left_alike : (before : Registry V) (id : ℕ) (value older : V) (calls made rest more : List PollerCall) (after onto : Registry V)
         → AreSameCalls (calls ++ rest) (made ++ more) → Steps begins before (Left id value calls) after → Steps begins before (Left id older made) onto
         → (Left id value calls ≡ Left id older made) × (after ≡ onto)
@@ -200,14 +205,14 @@ module _ {V : Type 0} where
 
       pub steps_alike : (before : Registry V) (steps others : List (Step V)) (rest more : List PollerCall) (after onto : Registry V)
           → StepsAlike steps others → HaveMemory (flat_map answers_of_step steps) → HaveMemory (flat_map answers_of_step others)
-          → AreSameCalls (calls_of_steps steps ++ rest) (calls_of_steps others ++ more)
+          → AreSameCalls (flat_map calls_of steps ++ rest) (flat_map calls_of others ++ more)
           → AllSteps begins before steps after → AllSteps begins before others onto → (steps ≡ others) × (after ≡ onto)
       steps_alike before [] [] rest more after onto a m n same h k = (refl, h ∙ sym k)
       steps_alike before [] (other ∷ others) rest more after onto a m n same h k = absurd a
       steps_alike before (step ∷ steps) [] rest more after onto a m n same h k = absurd a
       steps_alike before (step ∷ steps) (other ∷ others) rest more after onto a m n same (mid, h, then_steps) (between, k, then_others) =
-          let parts = in_parts (calls_of step) (calls_of_steps steps) (calls_of other) (calls_of_steps others) _ _ rest more refl refl same in
-          let one = step_alike before step other (calls_of_steps steps ++ rest) (calls_of_steps others ++ more) mid between a.0
+          let parts = in_parts (calls_of step) (flat_map calls_of steps) (calls_of other) (flat_map calls_of others) _ _ rest more refl refl same in
+          let one = step_alike before step other (flat_map calls_of steps ++ rest) (flat_map calls_of others ++ more) mid between a.0
           (memory_first (answers_of_step step) _ m) (memory_first (answers_of_step other) _ n) parts h k in
           let then_here = subst (λ r. AllSteps begins r others onto) (sym one.1) then_others in
           let all = steps_alike mid steps others rest more after onto (a.1 one.0)

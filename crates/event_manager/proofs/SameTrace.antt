@@ -5,12 +5,11 @@ use Rattle.std.specs.FinMap.{insert}
 use Rattle.dispatch_tables.specs.Event.{Event}
 use Rattle.dispatch_tables.proofs.DispatchOrders.{head_is, tail_is, one_order}
 use Rattle.event_loop.specs.PollerCall.{PollerCall, Wait}
-use Rattle.event_loop.specs.DispatchOrder.{class_of}
-use Rattle.event_loop.specs.Exchange.{Exchanges, answers_of}
-use Rattle.event_loop.specs.Registry.{Registry, Step, Joined, NotJoined, Left, Replaced, Requested, Refused}
+use Rattle.event_loop.specs.Exchange.{Exchanges, answers_of, Begins, Serves}
+use Rattle.event_loop.specs.Registry.{Registry, Joined, NotJoined, Left, Replaced, Requested, Refused, calls_of, May}
 use Rattle.event_loop.specs.Dispatch.{Outcome, Nobody, To, Position, IsOutcome, AreDispatched, events_of, exchanges_of, still_pending}
-use Rattle.event_loop.specs.Iteration.{ManagerState, JobRun, AreRun, IsAfterWait}
-use Rattle.event_loop.specs.Iteration.{calls_of_steps, calls_of_outcome, calls_of_positions, calls_of_jobs}
+use Rattle.event_loop.specs.Iteration.{ManagerState, JobRun, AreRun, IsIteration}
+use Rattle.event_loop.specs.Iteration.{calls_of_outcome, calls_of_positions, calls_of_jobs}
 use Rattle.vmm_sys.specs.declared.errno.Errno.{Errno}
 use Rattle.event_manager.specs.Trace.{Effect, Stepped, Iterated, Entry, Matches, HasEffect, IsTrace, calls_of_effect, calls_of_trace}
 use Rattle.event_manager.specs.Determinism.{Asked, IsFunction, AreFunctions, IsSameCall, IsSameReply, IsReplay, IsTheRun}
@@ -21,8 +20,9 @@ use Rattle.event_manager.specs.declared.calls.Call.TheVariants as call
 use Rattle.event_manager.specs.declared.calls.Reply.{Reply}
 use Rattle.event_manager.proofs.SameExchanges.{AreSameCalls, eventless, memory_first, memory_then, in_parts, behind_same, exchanges_alike}
 use Rattle.event_manager.proofs.SameSteps.{asked_by, same_asked, asked_for, asked_alike, step_alike, steps_alike}
+use Rattle.dispatch_tables.specs.Ownership.{class_in}
 
-module _ {V : Type 0} (serves : V → Event → Exchanges → V → Type 0) where
+module _ {V : Type 0} (serves : Serves V) where
   abbrev DecidesAnswers : Type 0
   DecidesAnswers = (event : Event) → IsFunction (λ v exchanges w. serves v event exchanges w)
 
@@ -84,7 +84,7 @@ module _ {V : Type 0} (serves : V → Event → Exchanges → V → Type 0) wher
       (behind_same calls made _ _ (ap calls_of_outcome one.0) parts) ours theirs_here in
       ((λ j. position j ∷ all.0 j), all.1)
 
-module _ {V J R : Type 0} (begins : V → Exchanges → V → Type 0) (serves : V → Event → Exchanges → V → Type 0) (may : J → List (Step V) → R → Type 0) where
+module _ {V J R : Type 0} (begins : Begins V) (serves : Serves V) (may : May V J R) where
   abbrev jobs_of : List (JobRun V J R) → List J
   jobs_of runs = map (λ job_run. job_run.job) runs
 
@@ -100,14 +100,14 @@ module _ {V J R : Type 0} (begins : V → Exchanges → V → Type 0) (serves : 
         let first = flat_map answers_of_step p.steps in
         let front = flat_map answers_of_step q.steps in
         let job = head_is p.job q.job (jobs_of jobs) (jobs_of others) taken in
-        let parts = in_parts (calls_of_steps p.steps) (calls_of_jobs jobs) (calls_of_steps q.steps) (calls_of_jobs others) _ _ rest more refl refl same in
+        let parts = in_parts (flat_map calls_of p.steps) (calls_of_jobs jobs) (flat_map calls_of q.steps) (calls_of_jobs others) _ _ rest more refl refl same in
         let alike = functions.jobs p.job p.steps q.steps p.reply q.reply might (subst (λ x. may x q.steps q.reply) (sym job) may_be) in
         let one = steps_alike begins functions.init before.registry p.steps q.steps (calls_of_jobs jobs ++ rest) (calls_of_jobs others ++ more)
         mid between alike.0 (memory_first first _ m) (memory_first front _ n) parts steps stepped in
         let theirs_here = subst (λ r. AreRun begins serves may (record { registry = r; taken = before.taken + 1 }) others onto) (sym one.1) theirs in
         let all = jobs_alike (record { registry = mid; taken = before.taken + 1 }) jobs others rest more after onto
         (tail_is p.job q.job (jobs_of jobs) (jobs_of others) taken) (memory_then first _ m) (memory_then front _ n)
-        (behind_same (calls_of_steps p.steps) (calls_of_steps q.steps) _ _ (ap calls_of_steps one.0) parts) ours theirs_here in
+        (behind_same (flat_map calls_of p.steps) (flat_map calls_of q.steps) _ _ (ap (λ steps. flat_map calls_of steps) one.0) parts) ours theirs_here in
         let tickets = ticket ∙ sym number in
         let replies = alike.1 one.0 in
         ((λ j. record { ticket = tickets j; job = job j; steps = one.0 j; reply = replies j } ∷ all.0 j), all.1)
@@ -116,7 +116,7 @@ module _ {V J R : Type 0} (begins : V → Exchanges → V → Type 0) (serves : 
         (rest more : List PollerCall) (after onto : ManagerState V) → jobs_of jobs ≡ jobs_of runs
         → HaveMemory (answers_of_positions positions ++ answers_of_jobs jobs) → HaveMemory (answers_of_positions others ++ answers_of_jobs runs)
         → AreSameCalls ((calls_of_positions positions ++ calls_of_jobs jobs) ++ rest) ((calls_of_positions others ++ calls_of_jobs runs) ++ more)
-        → IsAfterWait begins serves may before waited positions jobs after → IsAfterWait begins serves may before waited others runs onto
+        → IsIteration begins serves may before waited positions jobs after → IsIteration begins serves may before waited others runs onto
         → (positions ≡ others) × (jobs ≡ runs) × (after ≡ onto)
     wait_alike before (Err errno) positions others jobs runs rest more after onto taken m n same h k = (h.0 ∙ sym k.0, h.1 ∙ sym k.1, h.2 ∙ sym k.2)
     wait_alike before (Ok report) positions others jobs runs rest more after onto taken m n same
@@ -124,7 +124,7 @@ module _ {V J R : Type 0} (begins : V → Exchanges → V → Type 0) (serves : 
         let calls = calls_of_positions positions in
         let made = calls_of_positions others in
         let parts = in_parts calls (calls_of_jobs jobs) made (calls_of_jobs runs) _ _ rest more refl refl same in
-        let events = one_order (λ fd. class_of before.registry.registrations fd) report (events_of positions) (events_of others) dispatch.0 dispatched.0 in
+        let events = one_order (λ fd. class_in before.registry.registrations.owners fd) report (events_of positions) (events_of others) dispatch.0 dispatched.0 in
         let one = positions_alike serves functions.process before.registry [] positions others (calls_of_jobs jobs ++ rest) (calls_of_jobs runs ++ more)
         mid between events (memory_first (answers_of_positions positions) _ m) (memory_first (answers_of_positions others) _ n) parts dispatch.1 dispatched.1 in
         let theirs_here = subst (λ r. AreRun begins serves may (record before { registry = r }) runs onto) (sym one.1) theirs in
@@ -156,7 +156,7 @@ module _ {V J R : Type 0} (begins : V → Exchanges → V → Type 0) (serves : 
         let e : ◌≡◌ {A = Option (Asked V)} None (Some a.0) = sym (ap asked_by matches.0) ∙ same_asked c d asked ∙ a.1 in cc
     effect_alike capacity before (Iterated iteration) (Iterated other) c d r q rest more after onto asked matches matched jobs m n same h k =
         let w = same_wait iteration.ms other.ms capacity iteration.waited other.waited _ _ same in
-        let here = subst (λ x. IsAfterWait begins serves may before x other.positions other.jobs onto) (sym w.1) k in
+        let here = subst (λ x. IsIteration begins serves may before x other.positions other.jobs onto) (sym w.1) k in
         let all = wait_alike before iteration.waited iteration.positions other.positions iteration.jobs other.jobs rest more after onto jobs m n w.2 h here in
         ((λ j. Iterated (record { ms = w.0 j; waited = w.1 j; positions = all.0 j; jobs = all.1 j })), all.2)
 

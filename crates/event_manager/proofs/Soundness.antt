@@ -7,24 +7,26 @@ use Rattle.std.proofs.lemmas.Bool.Decides.{eqb_tells}
 use Rattle.dispatch_tables.specs.Event.{Event}
 use Rattle.event_loop.specs.Registrations.{Registrations, Owns, IsFree}
 use Rattle.event_loop.specs.PollerCall.{PollerCall}
-use Rattle.event_loop.specs.Exchange.{Answer, Exchanges, Fits, by_manager, by_poller, by_agreement, ExchangesFit, ReachesPoller, entered, registrations_after}
-use Rattle.event_loop.specs.Registry.{acts_on, removed_by, Registry, Step, Joined, NotJoined, Left, Replaced, Requested, Refused, Steps, is_id, without_owner, HasId, LacksId, AreBelow}
+use Rattle.event_loop.specs.Exchange.{Answer, Exchanges, Fits, by_manager, by_poller, by_agreement, ExchangesFit, ReachesPoller, registrations_after, Begins, Serves}
+use Rattle.event_loop.specs.Registry.{Registry, Step, Joined, NotJoined, Left, Replaced, Requested, Refused, Steps, is_id, without_owner, HasId, LacksId, AreBelow, May}
 use Rattle.event_loop.specs.Dispatch.{Outcome, Nobody, To, Position, IsOutcome, AreDispatched, still_pending, events_of}
-use Rattle.event_loop.specs.Iteration.{ManagerState, JobRun, IsAfterWait, AreRun, AllSteps}
+use Rattle.event_loop.specs.Iteration.{ManagerState, JobRun, IsIteration, AreRun, AllSteps}
 use Rattle.event_manager.specs.Trace.{Effect, Stepped, Iterated, Entry, HasEffect, IsTrace, new_state}
-use Rattle.event_manager.specs.Guarantees.{IsSound, steps_of_jobs, steps_of_effect, steps_of, AreGiven, AreRefusedTo, RemovedStayGone}
+use Rattle.event_manager.specs.Guarantees.{IsSound, steps_of_effect, steps_of, AreGiven, AreRefusedTo, RemovedStayGone}
 use Rattle.vmm_sys.specs.declared.errno.Errno.{Errno}
 use Rattle.event_loop.specs.declared.events.Request.{Request}
 use Rattle.event_loop.specs.declared.events.Request.TheVariants.{Add, AddWithPriority, Modify, Remove}
-use Rattle.dispatch_tables.specs.Ownership.{Ownership, OwnerMap, owner_id, owner_of}
+use Rattle.dispatch_tables.specs.Ownership.{Ownership, OwnerMap, owner_of}
 use Rattle.dispatch_tables.specs.declared.priority.Priority.{Priority}
 use Rattle.dispatch_tables.specs.declared.priority.Priority.TheVariants.{Lowest}
 use Rattle.dispatch_tables.proofs.NumberTests.{fd_tells}
 use Rattle.event_loop.proofs.WithoutOwner.{get-without_owner, owner_of-without_owner}
 use Rattle.event_manager.proofs.ProjectedSteps.{from_disowned}
-use Rattle.dispatch_tables.proofs.Owning.{from_insert, from_remove}
+use Rattle.dispatch_tables.proofs.Owning.{from_insert, from_remove, owner_id}
 use Rattle.event_manager.proofs.HeldIds.{removed_value, below_insert, below_joined, below_removed}
 use Rattle.event_manager.proofs.Isolation.{insert_other_value, remove_other_value}
+use Rattle.event_manager.proofs.FiniteMaps.{entered}
+use Rattle.std.specs.List.{flat_map}
 
 -- what the exchanges of id i do to the owners
 record OwnersAfter (i : ℕ) (before after : Registrations) : Type 0 where
@@ -123,7 +125,7 @@ module _ {V : Type 0} where
         endpoint_free = o.endpoint_free ((λ k. get (same k) (same_end k)) ∙ s.endpoint_free);
       }
 
-  sound_step : (begins : V → Exchanges → V → Type 0) (before : Registry V) (step : Step V) (after : Registry V) → IsSound before → Steps begins before step after → IsSound after
+  sound_step : (begins : Begins V) (before : Registry V) (step : Step V) (after : Registry V) → IsSound before → Steps begins before step after → IsSound after
   sound_step begins before (Joined value id exchanges calls held) after s (registrations, capacity, is, fits, beg, e) =
       sound_at after _ e (sound_exchanges before id (before.next + 1) held exchanges calls before.registrations registrations s refl refl fits)
   sound_step begins before (NotJoined value error) after s h = sound_at after before h.1 s
@@ -146,12 +148,12 @@ module _ {V : Type 0} where
       })
   sound_step begins before (Refused id) after s h = sound_at after before h.1 s
 
-  sound_outcome : (serves : V → Event → Exchanges → V → Type 0) (before : Registry V) (earlier : List (Position V)) (e : Event) (later : List Event) (outcome : Outcome V) (after : Registry V) → IsSound before → IsOutcome serves before earlier e later outcome after → IsSound after
+  sound_outcome : (serves : Serves V) (before : Registry V) (earlier : List (Position V)) (e : Event) (later : List Event) (outcome : Outcome V) (after : Registry V) → IsSound before → IsOutcome serves before earlier e later outcome after → IsSound after
   sound_outcome serves before earlier e later Nobody after s (nobody, is) = sound_at after _ is (record { owners = s.owners; endpoint_free = s.endpoint_free })
   sound_outcome serves before earlier e later (To i exchanges calls held) after s (value, registrations, for, serving, fits, is) =
       sound_at after _ is (sound_exchanges before i before.next held exchanges calls (record before.registrations { pending = still_pending earlier later }) registrations s refl refl fits)
 
-  sound_positions : (serves : V → Event → Exchanges → V → Type 0) (before : Registry V) (earlier positions : List (Position V)) (after : Registry V) → IsSound before → AreDispatched serves before earlier positions after → IsSound after
+  sound_positions : (serves : Serves V) (before : Registry V) (earlier positions : List (Position V)) (after : Registry V) → IsSound before → AreDispatched serves before earlier positions after → IsSound after
   sound_positions serves before earlier [] after s is = sound_at after _ is (record { owners = s.owners; endpoint_free = s.endpoint_free })
   sound_positions serves before earlier (d ∷ positions) after s (mid, out, more) = sound_positions serves mid (earlier ++ d ∷ []) positions after (sound_outcome serves before earlier d.event (events_of positions) d.outcome mid s out) more
 
@@ -159,7 +161,7 @@ module _ {V : Type 0} where
   below_at : (after made : Registry V) → after ≡ made → AreBelow made.next made.values → AreBelow after.next after.values
   below_at after made e h = subst (λ (r : Registry V). AreBelow r.next r.values) (sym e) h
 
-  below_step : (begins : V → Exchanges → V → Type 0) (before : Registry V) (step : Step V) (after : Registry V) → AreBelow before.next before.values → Steps begins before step after → AreBelow after.next after.values
+  below_step : (begins : Begins V) (before : Registry V) (step : Step V) (after : Registry V) → AreBelow before.next before.values → Steps begins before step after → AreBelow after.next after.values
   below_step begins before (Joined value id exchanges calls held) after h (registrations, capacity, is, fits, beg, e) =
       below_at after _ e (below_joined id before.next before.values held is h)
   below_step begins before (NotJoined value error) after h s = below_at after before s.1 h
@@ -168,24 +170,24 @@ module _ {V : Type 0} where
   below_step begins before (Requested id exchanges calls) after h (value, registrations, has, fits, e) = below_at after _ e h
   below_step begins before (Refused id) after h s = below_at after before s.1 h
 
-  below_outcome : (serves : V → Event → Exchanges → V → Type 0) (before : Registry V) (earlier : List (Position V)) (e : Event) (later : List Event) (outcome : Outcome V) (after : Registry V) → AreBelow before.next before.values → IsOutcome serves before earlier e later outcome after → AreBelow after.next after.values
+  below_outcome : (serves : Serves V) (before : Registry V) (earlier : List (Position V)) (e : Event) (later : List Event) (outcome : Outcome V) (after : Registry V) → AreBelow before.next before.values → IsOutcome serves before earlier e later outcome after → AreBelow after.next after.values
   below_outcome serves before earlier e later Nobody after h (nobody, is) = below_at after _ is h
   below_outcome serves before earlier e later (To i exchanges calls held) after h (value, registrations, for, serving, fits, is) = below_at after _ is (below_insert i before.next before.values held (h i value for.2) h)
 
-  below_positions : (serves : V → Event → Exchanges → V → Type 0) (before : Registry V) (earlier positions : List (Position V)) (after : Registry V) → AreBelow before.next before.values → AreDispatched serves before earlier positions after → AreBelow after.next after.values
+  below_positions : (serves : Serves V) (before : Registry V) (earlier positions : List (Position V)) (after : Registry V) → AreBelow before.next before.values → AreDispatched serves before earlier positions after → AreBelow after.next after.values
   below_positions serves before earlier [] after h is = below_at after _ is h
   below_positions serves before earlier (d ∷ positions) after h (mid, out, more) = below_positions serves mid (earlier ++ d ∷ []) positions after (below_outcome serves before earlier d.event (events_of positions) d.outcome mid h out) more
 
   -- the next id
-  next_outcome : (serves : V → Event → Exchanges → V → Type 0) (before : Registry V) (earlier : List (Position V)) (e : Event) (later : List Event) (outcome : Outcome V) (after : Registry V) → IsOutcome serves before earlier e later outcome after → after.next ≡ before.next
+  next_outcome : (serves : Serves V) (before : Registry V) (earlier : List (Position V)) (e : Event) (later : List Event) (outcome : Outcome V) (after : Registry V) → IsOutcome serves before earlier e later outcome after → after.next ≡ before.next
   next_outcome serves before earlier e later Nobody after (nobody, is) = ap (λ (r : Registry V). r.next) is
   next_outcome serves before earlier e later (To i exchanges calls held) after (value, registrations, for, serving, fits, is) = ap (λ (r : Registry V). r.next) is
 
-  next_positions : (serves : V → Event → Exchanges → V → Type 0) (before : Registry V) (earlier positions : List (Position V)) (after : Registry V) → AreDispatched serves before earlier positions after → after.next ≡ before.next
+  next_positions : (serves : Serves V) (before : Registry V) (earlier positions : List (Position V)) (after : Registry V) → AreDispatched serves before earlier positions after → after.next ≡ before.next
   next_positions serves before earlier [] after is = ap (λ (r : Registry V). r.next) is
   next_positions serves before earlier (d ∷ positions) after (mid, out, more) = next_positions serves mid (earlier ++ d ∷ []) positions after more ∙ next_outcome serves before earlier d.event (events_of positions) d.outcome mid out
 
-  given_step : (begins : V → Exchanges → V → Type 0) (before : Registry V) (step : Step V) (after : Registry V) → Steps begins before step after → AreGiven before.next (step ∷ []) after.next
+  given_step : (begins : Begins V) (before : Registry V) (step : Step V) (after : Registry V) → Steps begins before step after → AreGiven before.next (step ∷ []) after.next
   given_step begins before (Joined value id exchanges calls held) after (registrations, capacity, is, fits, beg, e) = (is, ap (λ (r : Registry V). r.next) e)
   given_step begins before (NotJoined value error) after h = ap (λ (r : Registry V). r.next) h.1
   given_step begins before (Left id value calls) after (fds, has, is_owner, deletes, e) = ap (λ (r : Registry V). r.next) e
@@ -216,41 +218,45 @@ module _ {V : Type 0} where
   differs : (i id : ℕ) (r : Registry V) (v : V) → IsGone i r → HasId r id v → id ≢ i
   differs i id r v g has = λ e. some_none v (get r.values id) (ap (get r.values) e ∙ g.lacks) has
 
-  gone_step : (begins : V → Exchanges → V → Type 0) (i : ℕ) (before : Registry V) (step : Step V) (after : Registry V) → IsGone i before → Steps begins before step after → IfSome (acts_on step) (λ id. id ≢ i) × IsGone i after
+  gone_step : (begins : Begins V) (i : ℕ) (before : Registry V) (step : Step V) (after : Registry V) → IsGone i before → Steps begins before step after → ((steps : List (Step V)) → AreRefusedTo i steps → AreRefusedTo i (step ∷ steps)) × IsGone i after
   gone_step begins i before (Joined value id exchanges calls held) after g (registrations, capacity, is, fits, beg, e) =
       let differ : id ≢ i = λ t. lt_irrefl before.next (subst (λ k. k < before.next) (sym t ∙ is) g.given) in
-      (differ, gone_at i after _ e (record { lacks = lacks_insert i id before.values held (λ t. differ (sym t)) g.lacks; given = (let b = g.given in omega arith) }))
-  gone_step begins i before (NotJoined value error) after g h = (tt, gone_at i after before h.1 g)
-  gone_step begins i before (Left id value calls) after g (fds, has, is_owner, deletes, e) = (differs i id before value g has, gone_at i after _ e (record { lacks = lacks_remove i id before.values g.lacks; given = g.given }))
+      (λ steps rest. (differ, rest), gone_at i after _ e (record { lacks = lacks_insert i id before.values held (λ t. differ (sym t)) g.lacks; given = (let b = g.given in omega arith) }))
+  gone_step begins i before (NotJoined value error) after g h = (λ steps rest. (tt, rest), gone_at i after before h.1 g)
+  gone_step begins i before (Left id value calls) after g (fds, has, is_owner, deletes, e) = (λ steps rest. (differs i id before value g has, rest), gone_at i after _ e (record { lacks = lacks_remove i id before.values g.lacks; given = g.given }))
   gone_step begins i before (Replaced id old new) after g (has, e) =
       let differ = differs i id before old g has in
-      (differ, gone_at i after _ e (record { lacks = lacks_insert i id before.values new (λ t. differ (sym t)) g.lacks; given = g.given }))
-  gone_step begins i before (Requested id exchanges calls) after g (value, registrations, has, fits, e) = (differs i id before value g has, gone_at i after _ e (record { lacks = g.lacks; given = g.given }))
-  gone_step begins i before (Refused id) after g h = (tt, gone_at i after before h.1 g)
+      (λ steps rest. (differ, rest), gone_at i after _ e (record { lacks = lacks_insert i id before.values new (λ t. differ (sym t)) g.lacks; given = g.given }))
+  gone_step begins i before (Requested id exchanges calls) after g (value, registrations, has, fits, e) = (λ steps rest. (differs i id before value g has, rest), gone_at i after _ e (record { lacks = g.lacks; given = g.given }))
+  gone_step begins i before (Refused id) after g h = (λ steps rest. rest, gone_at i after before h.1 g)
 
-  gone_outcome : (serves : V → Event → Exchanges → V → Type 0) (i : ℕ) (before : Registry V) (earlier : List (Position V)) (e : Event) (later : List Event) (outcome : Outcome V) (after : Registry V) → IsGone i before → IsOutcome serves before earlier e later outcome after → IsGone i after
+  gone_outcome : (serves : Serves V) (i : ℕ) (before : Registry V) (earlier : List (Position V)) (e : Event) (later : List Event) (outcome : Outcome V) (after : Registry V) → IsGone i before → IsOutcome serves before earlier e later outcome after → IsGone i after
   gone_outcome serves i before earlier e later Nobody after g (nobody, is) = gone_at i after _ is (record { lacks = g.lacks; given = g.given })
   gone_outcome serves i before earlier e later (To id exchanges calls held) after g (value, registrations, for, serving, fits, is) =
       let differ = differs i id before value g for.2 in
       gone_at i after _ is (record { lacks = lacks_insert i id before.values held (λ t. differ (sym t)) g.lacks; given = g.given })
 
-  gone_positions : (serves : V → Event → Exchanges → V → Type 0) (i : ℕ) (before : Registry V) (earlier positions : List (Position V)) (after : Registry V) → IsGone i before → AreDispatched serves before earlier positions after → IsGone i after
+  gone_positions : (serves : Serves V) (i : ℕ) (before : Registry V) (earlier positions : List (Position V)) (after : Registry V) → IsGone i before → AreDispatched serves before earlier positions after → IsGone i after
   gone_positions serves i before earlier [] after g is = gone_at i after _ is (record { lacks = g.lacks; given = g.given })
   gone_positions serves i before earlier (d ∷ positions) after g (mid, out, more) = gone_positions serves i mid (earlier ++ d ∷ []) positions after (gone_outcome serves i before earlier d.event (events_of positions) d.outcome mid g out) more
 
-  left_is_gone : (begins : V → Exchanges → V → Type 0) (before : Registry V) (id : ℕ) (value : V) (calls : List PollerCall) (after : Registry V) → AreBelow before.next before.values → Steps begins before (Left id value calls) after → IsGone id after
+  left_is_gone : (begins : Begins V) (before : Registry V) (id : ℕ) (value : V) (calls : List PollerCall) (after : Registry V) → AreBelow before.next before.values → Steps begins before (Left id value calls) after → IsGone id after
   left_is_gone begins before id value calls after s (fds, has, is_owner, deletes, e) = gone_at id after _ e (record { lacks = removed_value id before.values; given = s id value has })
 
   -- each step's removal stays, where what follows refuses all that is gone after it
-  stays_gone : (begins : V → Exchanges → V → Type 0) (before : Registry V) (step : Step V) (after : Registry V) (steps : List (Step V)) → AreBelow before.next before.values → Steps begins before step after → ((i : ℕ) → IsGone i after → AreRefusedTo i steps) → IfSome (removed_by step) (λ id. AreRefusedTo id steps)
-  stays_gone begins before (Joined value id exchanges calls held) after steps s h k = tt
-  stays_gone begins before (NotJoined value error) after steps s h k = tt
-  stays_gone begins before (Left id value calls) after steps s h k = k id (left_is_gone begins before id value calls after s h)
-  stays_gone begins before (Replaced id old new) after steps s h k = tt
-  stays_gone begins before (Requested id exchanges calls) after steps s h k = tt
-  stays_gone begins before (Refused id) after steps s h k = tt
+  stays_gone : (begins : Begins V) (before : Registry V) (step : Step V) (after : Registry V) (steps : List (Step V)) → AreBelow before.next before.values → Steps begins before step after → ((i : ℕ) → IsGone i after → AreRefusedTo i steps) → RemovedStayGone steps → RemovedStayGone (step ∷ steps)
+  stays_gone begins before (Joined value id exchanges calls held) after steps s h k gone = gone
+  stays_gone begins before (NotJoined value error) after steps s h k gone = gone
+  stays_gone begins before (Left id value calls) after steps s h k gone = (k id (left_is_gone begins before id value calls after s h), gone)
+  stays_gone begins before (Replaced id old new) after steps s h k gone = gone
+  stays_gone begins before (Requested id exchanges calls) after steps s h k gone = gone
+  stays_gone begins before (Refused id) after steps s h k gone = gone
 
-module _ {V J R : Type 0} (begins : V → Exchanges → V → Type 0) (serves : V → Event → Exchanges → V → Type 0) (may : J → List (Step V) → R → Type 0) where
+-- the steps of jobs, one after another
+abbrev pub steps_of_jobs : {V J R : Type 0} → List (JobRun V J R) → List (Step V)
+steps_of_jobs jobs = flat_map (λ job_run. job_run.steps) jobs
+
+module _ {V J R : Type 0} (begins : Begins V) (serves : Serves V) (may : May V J R) where
   -- what the steps between two registries are, and what stays true
   pub record Follows (before : Registry V) (steps : List (Step V)) (after : Registry V) : Type 0 where
     pub sound : IsSound before → IsSound after
@@ -273,9 +279,9 @@ module _ {V J R : Type 0} (begins : V → Exchanges → V → Type 0) (serves : 
   follows_cons before step mid steps after h k = record {
     sound = λ s. k.sound (sound_step begins before step mid s h);
     given = given_join before.next mid.next after.next (step ∷ []) steps (given_step begins before step mid h) k.given;
-    gone = λ i g. let a = gone_step begins i before step mid g h in let b = k.gone i a.1 in ((a.0, b.0), b.1);
+    gone = λ i g. let a = gone_step begins i before step mid g h in let b = k.gone i a.1 in (a.0 steps b.0, b.1);
     below = λ b. k.below (below_step begins before step mid b h);
-    removed = λ b. (stays_gone begins before step mid steps b h (λ i g. (k.gone i g).0), k.removed (below_step begins before step mid b h));
+    removed = λ b. stays_gone begins before step mid steps b h (λ i g. (k.gone i g).0) (k.removed (below_step begins before step mid b h));
   }
 
   -- what leads to any continuation
@@ -298,7 +304,7 @@ module _ {V J R : Type 0} (begins : V → Exchanges → V → Type 0) (serves : 
       subst (λ xs. Follows before.registry xs after) (sym (append_assoc job_run.steps (steps_of_jobs jobs) more))
       (follows_steps before.registry job_run.steps next (steps_of_jobs jobs ++ more) after steps (follows_jobs (record { registry = next; taken = before.taken + 1 }) jobs mid more after others k))
 
-  follows_wait : (before : ManagerState V) (waited : Result (List Event) Errno) (positions : List (Position V)) (jobs : List (JobRun V J R)) (mid : ManagerState V) (more : List (Step V)) (after : Registry V) → IsAfterWait begins serves may before waited positions jobs mid → Follows mid.registry more after → Follows before.registry (steps_of_jobs jobs ++ more) after
+  follows_wait : (before : ManagerState V) (waited : Result (List Event) Errno) (positions : List (Position V)) (jobs : List (JobRun V J R)) (mid : ManagerState V) (more : List (Step V)) (after : Registry V) → IsIteration begins serves may before waited positions jobs mid → Follows mid.registry more after → Follows before.registry (steps_of_jobs jobs ++ more) after
   follows_wait before (Ok report) positions jobs mid more after (dispatched, dispatch, idle, job_run) k =
       follows_positions_then before.registry positions dispatched (steps_of_jobs jobs ++ more) after dispatch.1 (follows_jobs (record before { registry = dispatched }) jobs mid more after job_run k)
   follows_wait before (Err errno) positions jobs mid more after (no_positions, no_jobs, is) k =

@@ -3,10 +3,9 @@ use Rattle.std.proofs.Common.{◌≡◌, ℕ, ℤ, List, [], ◌∷◌, ◌++◌
 use Rattle.std.proofs.lemmas.List.{append-nil, map-append}
 use Rattle.std.proofs.lemmas.List.Concat.{flat_map-append}
 use Rattle.std.specs.declared.alloc.Global.{Global}
-use Rattle.dispatch_tables.specs.Event.{Event}
 use Rattle.event_loop.specs.PollerCall.{Controls, Waits, Leads}
-use Rattle.event_loop.specs.Exchange.{Exchanges, Answer}
-use Rattle.event_loop.specs.Registry.{Step, AreBelow}
+use Rattle.event_loop.specs.Exchange.{Answer, Begins, Serves}
+use Rattle.event_loop.specs.Registry.{Step, AreBelow, May}
 use Rattle.event_loop.specs.Iteration.{ManagerState}
 use Rattle.event_loop.specs.LoopState.{LoopState, HasStepped, IsJoin, IsLeave, IsLoopIteration, manager_state}
 use Rattle.event_manager.specs.Trace.{Effect, Stepped, Iterated, Entry, Matches, IsTrace, calls_of_effect, calls_of_trace}
@@ -22,7 +21,6 @@ use Rattle.event_loop.proofs.ExchangeLemmas.{leads_join}
 use Rattle.event_manager.proofs.Isolation.{isolated_step, isolated_delivery, left_frees}
 use Rattle.event_manager.proofs.Soundness.{trace_follows}
 use Rattle.event_manager.proofs.ProjectedTrace.{non_interference}
-use Rattle.event_manager.proofs.UnknownIds.{removed_unknown}
 
 -- call and reply of each step are those of the call that made it
 module _ {V : Type 0} (J R : Type 0) where
@@ -42,7 +40,7 @@ module _ {V : Type 0} (J R : Type 0) where
   ask_matches id requests (Ok answers) step h = subst (λ (s : Step V). Matches {V = V} {J = J} {R = R} (Stepped s) (call.Ask id requests) (reply.Asked (Ok answers))) (sym h.2) (requests, answers, refl, refl, h.3, h.4)
   ask_matches id requests (Err error) step h = subst (λ (s : Step V). Matches {V = V} {J = J} {R = R} (Stepped s) (call.Ask id requests) (reply.Asked (Err error))) (sym h.1) (refl, ap (λ e. reply.Asked (Err e)) h.0)
 
-module _ {S J R P : Type 0} (begins : S → Exchanges → S → Type 0) (serves : S → Event → Exchanges → S → Type 0) (may : J → List (Step S) → R → Type 0) (controls : Controls P) (waits : Waits P) where
+module _ {S J R P : Type 0} (begins : Begins S) (serves : Serves S) (may : May S J R) (controls : Controls P) (waits : Waits P) where
   -- a step of the registry is a call of the manager
   pub step_called : {before after : LoopState S P} {step : Step S} → HasStepped begins controls waits before step after → HasCalled begins serves may controls waits before (Stepped step) after
   step_called did = record { had = (did.stepped, did.same_taken); led = did.led; same_capacity = did.same_capacity }
@@ -92,11 +90,10 @@ module _ {S J R P : Type 0} (begins : S → Exchanges → S → Type 0) (serves 
         given = follows.given;
         below = (below, follows.below below);
         removed = follows.removed below;
-        unknown = removed_unknown begins serves may before trace after is (follows.removed below);
         sound = follows.sound;
         non_interference = non_interference begins serves may before trace after is;
         isolated_step = λ from step onto h. isolated_step begins from step onto h;
-        isolated_delivery = λ from earlier event later i exchanges calls held onto h j differ. isolated_delivery serves from earlier event later i exchanges calls held onto h j differ;
+        isolated_delivery = λ from earlier event later outcome onto h j other. isolated_delivery serves from earlier event later outcome onto h j other;
         leave_frees = λ from onto i value calls h. left_frees begins from onto i value calls h;
       }
 

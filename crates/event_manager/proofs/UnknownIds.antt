@@ -1,9 +1,8 @@
 -- What was removed is unknown: by the replies of a trace.
 use Rattle.std.proofs.Common.{◌≡◌, ℕ, List, [], ◌∷◌, ◌++◌, refl, sym, subst, ◌∙◌, map, Ok, Err}
 use Rattle.std.specs.List.{AllZip}
-use Rattle.dispatch_tables.specs.Event.{Event}
-use Rattle.event_loop.specs.Exchange.{Exchanges}
-use Rattle.event_loop.specs.Registry.{Step, Joined, NotJoined, Left, Replaced, Requested, Refused}
+use Rattle.event_loop.specs.Exchange.{Begins, Serves}
+use Rattle.event_loop.specs.Registry.{Step, Joined, NotJoined, Left, Replaced, Requested, Refused, May}
 use Rattle.event_loop.specs.Iteration.{ManagerState}
 use Rattle.event_manager.specs.Trace.{Effect, Stepped, Iterated, Entry, Matches, IsTrace}
 use Rattle.event_manager.specs.Guarantees.{AreRefusedTo, RemovedStayGone, IsUnknown, RemovedStayUnknown, steps_of, steps_of_effect}
@@ -16,11 +15,13 @@ use Rattle.event_manager.specs.declared.calls.Reply.TheVariants as reply
 module _ {V : Type 0} where
   refused_apart : (i : ℕ) (steps more : List (Step V)) → AreRefusedTo i (steps ++ more) → AreRefusedTo i steps × AreRefusedTo i more
   refused_apart i [] more h = (tt, h)
+  refused_apart i (Refused id ∷ steps) more h = refused_apart i steps more h
   refused_apart i (step ∷ steps) more h = let k = refused_apart i steps more h.1 in ((h.0, k.0), k.1)
 
   gone_behind : (steps more : List (Step V)) → RemovedStayGone (steps ++ more) → RemovedStayGone more
   gone_behind [] more h = h
-  gone_behind (step ∷ steps) more h = gone_behind steps more h.1
+  gone_behind (Left id value calls ∷ steps) more h = gone_behind steps more h.1
+  gone_behind (step ∷ steps) more h = gone_behind steps more h
 
 module _ {V J R : Type 0} where
   -- where its step doesn't act on the id
@@ -46,7 +47,7 @@ module _ {V J R : Type 0} where
   refused_behind (Stepped (Refused i)) more id value m h = let s : ◌≡◌ {A = Reply V} (reply.Removed (Ok value)) (reply.Removed (Err InvalidId)) = m.1 in cc
   refused_behind (Iterated iteration) more id value m h = let s : ◌≡◌ {A = Call V} (call.Remove id) (call.Run iteration.ms) = m.0 in cc
 
-module _ {V J R : Type 0} (begins : V → Exchanges → V → Type 0) (serves : V → Event → Exchanges → V → Type 0) (may : J → List (Step V) → R → Type 0) where
+module _ {V J R : Type 0} (begins : Begins V) (serves : Serves V) (may : May V J R) where
   unknown_in : (i : ℕ) (before : ManagerState V) (trace : List (Entry V J R)) (after : ManagerState V) → IsTrace begins serves may before trace after → AreRefusedTo i (steps_of trace) → AllZip (IsUnknown i) (map (λ e. e.call) trace) (map (λ e. e.reply) trace)
   unknown_in i before [] after is h = tt
   unknown_in i before (entry ∷ trace) after (mid, matches, had, more) h =

@@ -2,8 +2,8 @@
 use Rattle.std.specs.Prelude.{◌≡◌, ℕ, List, [], ◌∷◌, ◌++◌, ◌⊎◌, map, Contains, Ok, Err}
 use Rattle.std.specs.List.{AllZip, flat_map}
 use Rattle.dispatch_tables.specs.Event.{Event}
-use Rattle.event_loop.specs.Exchange.{Exchanges, Answer, answers_of}
-use Rattle.event_loop.specs.Registry.{Step, Joined, NotJoined, Left, Replaced, Requested, Refused}
+use Rattle.event_loop.specs.Exchange.{Exchanges, Answer, answers_of, Begins, Serves}
+use Rattle.event_loop.specs.Registry.{Step, Joined, NotJoined, Left, Replaced, Requested, Refused, May}
 use Rattle.event_loop.specs.Dispatch.{Position, exchanges_of}
 use Rattle.event_loop.specs.Iteration.{ManagerState, JobRun}
 use Rattle.event_loop.specs.declared.error.Error.TheVariants.{OutOfMemory}
@@ -21,7 +21,7 @@ AskAlike [] (other ∷ others) = ⊥
 AskAlike (exchange ∷ exchanges) [] = ⊥
 
 -- from each value the answers so far decide what is asked next, and all of them the value after
-abbrev pub IsFunction : {V : Type 0} → (V → Exchanges → V → Type 0) → Type 0
+abbrev pub IsFunction : {V : Type 0} → Begins V → Type 0
 IsFunction {V} relates =
     (before : V) (exchanges others : Exchanges) (after onto : V) → relates before exchanges after → relates before others onto
     → AskAlike exchanges others × (exchanges ≡ others → after ≡ onto)
@@ -65,7 +65,7 @@ abbrev pub IsJobFunction : {V J R : Type 0} → (J → List (Step V) → R → T
 IsJobFunction {V} {J} {R} may =
     (job : J) (steps others : List (Step V)) (r q : R) → may job steps r → may job others q → StepsAlike steps others × (steps ≡ others → r ≡ q)
 
-module _ {V J R : Type 0} (begins : V → Exchanges → V → Type 0) (serves : V → Event → Exchanges → V → Type 0) (may : J → List (Step V) → R → Type 0) where
+module _ {V J R : Type 0} (begins : Begins V) (serves : Serves V) (may : May V J R) where
   -- a subscriber's `init`, its `process` of each event, and its jobs
   pub record AreFunctions : Type 0 where
     pub init : IsFunction begins

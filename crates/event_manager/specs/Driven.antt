@@ -2,18 +2,18 @@
 use Rattle.std.specs.Prelude.{◌≡◌, ◌≢◌, ℕ, false, List, map}
 use Rattle.dispatch_tables.specs.Event.{Event}
 use Rattle.event_loop.specs.PollerCall.{PollerCall, Controls, Waits, Leads}
-use Rattle.event_loop.specs.Exchange.{Exchanges}
-use Rattle.event_loop.specs.Registry.{Registry, Step, Steps, AreBelow, Left}
-use Rattle.event_loop.specs.Dispatch.{Position, To, IsOutcome, still_pending}
+use Rattle.event_loop.specs.Exchange.{Begins, Serves}
+use Rattle.event_loop.specs.Registry.{Registry, Step, Steps, AreBelow, Left, May}
+use Rattle.event_loop.specs.Dispatch.{Position, Outcome, IsOutcome, still_pending}
 use Rattle.event_loop.specs.Iteration.{ManagerState}
 use Rattle.event_loop.specs.LoopState.{LoopState, manager_state}
 use Rattle.event_manager.specs.Trace.{Entry, IsTrace, calls_of_trace}
-use Rattle.event_manager.specs.Projection.{NonInterference, names}
-use Rattle.event_manager.specs.Guarantees.{IsSound, AreGiven, RemovedStayGone, RemovedStayUnknown, IsUntouched, FreesExactly, steps_of}
+use Rattle.event_manager.specs.Projection.{NonInterference, names, is_to}
+use Rattle.event_manager.specs.Guarantees.{IsSound, AreGiven, RemovedStayGone, IsUntouched, FreesExactly, steps_of}
 use Rattle.event_manager.specs.declared.calls.Call.{Call}
 use Rattle.event_manager.specs.declared.calls.Reply.{Reply}
 
-module _ {S J R : Type 0} (begins : S → Exchanges → S → Type 0) (serves : S → Event → Exchanges → S → Type 0) (may : J → List (Step S) → R → Type 0) where
+module _ {S J R : Type 0} (begins : Begins S) (serves : Serves S) (may : May S J R) where
   module _ {P : Type 0} (controls : Controls P) (waits : Waits P) where
     -- the calls with their replies are this trace, and its poller calls lead the poller from the value before to the value after
     pub record IsTraceOf (before : LoopState S P) (calls : List (Call S)) (replies : List (Reply S)) (after : LoopState S P) (trace : List (Entry S J R)) : Type 0 where
@@ -23,20 +23,18 @@ module _ {S J R : Type 0} (begins : S → Exchanges → S → Type 0) (serves : 
       pub led : Leads controls waits before.poller (calls_of_trace before.capacity trace) after.poller
       pub same_capacity : after.capacity ≡ before.capacity
 
-  -- Of a trace: ids are given in order, each once; each held id is below the next, before and after; what was removed is refused from then on, as the replies alone say
-  -- too; each owner is held, and the endpoint is never owned; a projection to an id that is apart is itself a trace, up to the
+  -- Of a trace: ids are given in order, each once; each held id is below the next, before and after; what was removed is refused from then on;
+  -- each owner is held, and the endpoint is never owned; a projection to an id that is apart is itself a trace, up to the
   -- id's own part of the state after. Of each step and delivery in it: the other ids keep their value, descriptors and pending events; a leave frees exactly its descriptors.
   pub record IsGuaranteed (before : ManagerState S) (trace : List (Entry S J R)) (after : ManagerState S) : Type 0 where
     pub given : AreGiven before.registry.next (steps_of trace) after.registry.next
     pub below : AreBelow before.registry.next before.registry.values × AreBelow after.registry.next after.registry.values
     pub removed : RemovedStayGone (steps_of trace)
-    pub unknown : RemovedStayUnknown (map (λ entry. entry.call) trace) (map (λ entry. entry.reply) trace)
     pub sound : IsSound before.registry → IsSound after.registry
     pub non_interference : NonInterference begins serves may before trace after
     pub isolated_step : (from : Registry S) (step : Step S) (onto : Registry S) → Steps begins from step onto → (j : ℕ) → names j step ≡ false → IsUntouched j from onto
-    pub isolated_delivery : (from : Registry S) (earlier : List (Position S)) (event : Event) (later : List Event) (i : ℕ) (exchanges : Exchanges) (calls : List PollerCall) (held : S) (onto : Registry S)
-        → IsOutcome serves from earlier event later (To i exchanges calls held) onto
-        → (j : ℕ) → j ≢ i → IsUntouched j (record from { registrations = record from.registrations { pending = still_pending earlier later } }) onto
+    pub isolated_delivery : (from : Registry S) (earlier : List (Position S)) (event : Event) (later : List Event) (outcome : Outcome S) (onto : Registry S) → IsOutcome serves from earlier event later outcome onto
+        → (j : ℕ) → is_to j outcome ≡ false → IsUntouched j (record from { registrations = record from.registrations { pending = still_pending earlier later } }) onto
     pub leave_frees : (from onto : Registry S) (i : ℕ) (value : S) (calls : List PollerCall) → Steps begins from (Left i value calls) onto → FreesExactly i from.registrations onto.registrations
 
   -- the calls with their replies are a trace, of which the guarantees hold

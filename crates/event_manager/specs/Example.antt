@@ -1,7 +1,7 @@
 -- A repeated report: subscriber 1 owns descriptor 3; at the first event it removes and adds it, and the second event goes to nobody.
 use Rattle.std.specs.Prelude.{ℕ, negsuc, List, [], ◌∷◌, Ok}
 use Rattle.dispatch_tables.specs.Event.{Event}
-use Rattle.event_loop.specs.Exchange.{Exchanges, agreed, call_for}
+use Rattle.event_loop.specs.Exchange.{Exchanges, call_for}
 use Rattle.event_loop.specs.Registry.{Joined, Step}
 use Rattle.event_loop.specs.Dispatch.{To, Nobody}
 use Rattle.event_manager.specs.Trace.{Effect, Stepped, Iterated}
@@ -11,13 +11,13 @@ abbrev pub three : Event
 three = record { fd = 3; payload = 0; set = 1 }
 
 abbrev pub joins : Effect ℕ ℕ ℕ
-joins = Stepped (Joined 0 1 ((Add three, agreed) ∷ []) (call_for (Add three) (Ok tt) ∷ []) 0)
+joins = Stepped (Joined 0 1 ((Add three, Ok tt) ∷ []) (call_for (Add three) (Ok tt) ∷ []) 0)
 
 abbrev pub iterates : Effect ℕ ℕ ℕ
 iterates = Iterated (record {
   ms = negsuc 0;
   waited = Ok (three ∷ three ∷ []);
-  positions = record { event = three; outcome = To 1 ((Remove three, agreed) ∷ (Add three, agreed) ∷ []) (call_for (Remove three) (Ok tt) ∷ call_for (Add three) (Ok tt) ∷ []) 1 }
+  positions = record { event = three; outcome = To 1 ((Remove three, Ok tt) ∷ (Add three, Ok tt) ∷ []) (call_for (Remove three) (Ok tt) ∷ call_for (Add three) (Ok tt) ∷ []) 1 }
       ∷ record { event = three; outcome = Nobody } ∷ [];
   jobs = [];
 })

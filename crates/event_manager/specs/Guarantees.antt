@@ -1,12 +1,11 @@
 -- What users rely on, of every trace.
-use Rattle.std.specs.Prelude.{◌≡◌, ◌≢◌, ℕ, ◌+◌, List, [], ◌∷◌, filter, None, IfSome, MatchOption, if◌then◌else◌, Ok, Err}
+use Rattle.std.specs.Prelude.{◌≡◌, ◌≢◌, ℕ, ◌+◌, List, [], ◌∷◌, filter, None, IfSome, if◌then◌else◌, Ok, Err}
 use Rattle.std.specs.List.{AllZip, flat_map}
 use Rattle.std.specs.FinMap as map
 use Rattle.dispatch_tables.specs.Event.{Event}
 use Rattle.dispatch_tables.specs.Ownership.{owner_of}
 use Rattle.event_loop.specs.Registrations.{Registrations, Owns, IsFree}
-use Rattle.event_loop.specs.Registry.{Registry, Step, HasId, is_id, acts_on, given_by, removed_by}
-use Rattle.event_loop.specs.Iteration.{JobRun}
+use Rattle.event_loop.specs.Registry.{Registry, Step, Joined, Left, Refused, HasId, is_id, id_of}
 use Rattle.event_loop.specs.declared.error.Error.TheVariants.{InvalidId}
 use Rattle.event_manager.specs.Trace.{Effect, Stepped, Iterated, Entry}
 use Rattle.event_manager.specs.Projection.{owned_by}
@@ -30,12 +29,9 @@ pub record IsSound {V : Type 0} (registry : Registry V) : Type 0 where
   pub endpoint_free : IsFree registry.registrations registry.registrations.endpoint
 
 -- all steps of a trace, those of its jobs too
-abbrev pub steps_of_jobs : {V J R : Type 0} → List (JobRun V J R) → List (Step V)
-steps_of_jobs jobs = flat_map (λ job_run. job_run.steps) jobs
-
 abbrev pub steps_of_effect : {V J R : Type 0} → Effect V J R → List (Step V)
 steps_of_effect (Stepped step) = step ∷ []
-steps_of_effect (Iterated iteration) = steps_of_jobs iteration.jobs
+steps_of_effect (Iterated iteration) = flat_map (λ job_run. job_run.steps) iteration.jobs
 
 abbrev pub steps_of : {V J R : Type 0} → List (Entry V J R) → List (Step V)
 steps_of trace = flat_map (λ entry. steps_of_effect entry.effect) trace
@@ -43,17 +39,20 @@ steps_of trace = flat_map (λ entry. steps_of_effect entry.effect) trace
 -- the ids that joins gave are the numbers from the first up to the last, in order, each once
 abbrev pub AreGiven : {V : Type 0} → ℕ → List (Step V) → ℕ → Type 0
 AreGiven first [] last = last ≡ first
-AreGiven first (step ∷ steps) last = MatchOption (given_by step) (AreGiven first steps last) (λ id. (id ≡ first) × AreGiven (first + 1) steps last)
+AreGiven first (Joined value id exchanges calls held ∷ steps) last = (id ≡ first) × AreGiven (first + 1) steps last
+AreGiven first (step ∷ steps) last = AreGiven first steps last
 
 -- the steps name i only where they are refused
 abbrev pub AreRefusedTo : {V : Type 0} → ℕ → List (Step V) → Type 0
 AreRefusedTo i [] = Unit {0}
-AreRefusedTo i (step ∷ steps) = IfSome (acts_on step) (λ id. id ≢ i) × AreRefusedTo i steps
+AreRefusedTo i (Refused id ∷ steps) = AreRefusedTo i steps
+AreRefusedTo i (step ∷ steps) = IfSome (id_of step) (λ id. id ≢ i) × AreRefusedTo i steps
 
--- what a step removed is refused in those that follow
+-- who left is refused in the steps that follow
 abbrev pub RemovedStayGone : {V : Type 0} → List (Step V) → Type 0
 RemovedStayGone [] = Unit {0}
-RemovedStayGone (step ∷ steps) = IfSome (removed_by step) (λ id. AreRefusedTo id steps) × RemovedStayGone steps
+RemovedStayGone (Left id value calls ∷ steps) = AreRefusedTo id steps × RemovedStayGone steps
+RemovedStayGone (step ∷ steps) = RemovedStayGone steps
 
 -- By its reply id i is unknown at the call: one of that id is refused with InvalidId, and no join is given it.
 abbrev pub IsUnknown : {V : Type 0} → ℕ → Call V → Reply V → Type 0

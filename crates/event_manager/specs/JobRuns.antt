@@ -1,9 +1,8 @@
 -- Jobs that ran on a registry of the program.
 use Rattle.std.specs.Prelude.{◌≡◌, ℕ, List, map}
-use Rattle.dispatch_tables.specs.Event.{Event}
 use Rattle.event_loop.specs.PollerCall.{Controls, Waits, Leads}
-use Rattle.event_loop.specs.Exchange.{Exchanges}
-use Rattle.event_loop.specs.Registry.{Step}
+use Rattle.event_loop.specs.Exchange.{Begins, Serves}
+use Rattle.event_loop.specs.Registry.{Step, May}
 use Rattle.event_loop.specs.Iteration.{JobRun, AreRun, calls_of_jobs}
 use Rattle.event_loop.specs.LoopState.{LoopState, HaveStepped}
 use Rattle.event_manager.specs.declared.jobs.queue.Entry.{Entry}
@@ -13,7 +12,7 @@ pub record Taken (J : Type 0) : Type 0 where
   pub ran : ℕ
   pub entries : List (Entry J (Unit {0}))
 
-module _ {S P J R : Type 0} (begins : S → Exchanges → S → Type 0) (may : J → List (Step S) → R → Type 0) (controls : Controls P) (waits : Waits P) where
+module _ {S P J R : Type 0} (begins : Begins S) (may : May S J R) (controls : Controls P) (waits : Waits P) where
   -- one job ran: it made steps that it may make, and gave a reply that it may then give
   pub record HasRun (before : LoopState S P) (job : J) (after : LoopState S P) : Type 0 where
     pub steps : List (Step S)
@@ -22,7 +21,7 @@ module _ {S P J R : Type 0} (begins : S → Exchanges → S → Type 0) (may : J
     pub stepped : HaveStepped begins controls waits before steps after
 
 -- these jobs, which follow those taken so far, ran one after another, each under its own ticket, and were counted
-pub record JobsAreRun {S P J R : Type 0} (begins : S → Exchanges → S → Type 0) (serves : S → Event → Exchanges → S → Type 0) (may : J → List (Step S) → R → Type 0) (controls : Controls P) (waits : Waits P)
+pub record JobsAreRun {S P J R : Type 0} (begins : Begins S) (serves : Serves S) (may : May S J R) (controls : Controls P) (waits : Waits P)
     (before : LoopState S P) (taken : ℕ) (handed_out : List (ℕ × J)) (after : LoopState S P) (taken_after : ℕ) : Type 0 where
   pub jobs : List (JobRun S J R)
   pub are_those : map (λ job_run. (job_run.ticket, job_run.job)) jobs ≡ handed_out

@@ -1,18 +1,17 @@
 -- The projection of a trace to one id: all that belongs to other ids is taken out.
-use Rattle.std.specs.Prelude.{◌≡◌, ◌≢◌, ℕ, nat_lt, ◌==◌, Bool, true, false, List, [], map, filter, All, Option, Some, None, IfSome, is_ok, IsTrue, ◌⊎◌, if◌then◌else◌}
+use Rattle.std.specs.Prelude.{◌≡◌, ◌≢◌, ℕ, nat_lt, ◌==◌, Bool, true, false, List, [], map, filter, All, Option, Some, None, IfSome, is_ok, IsTrue, ◌⊎◌, if◌then◌else◌, is_some, ◌&&◌}
 use Rattle.std.specs.List.{list_any, flat_map}
 use Rattle.std.specs.FinMap as finite
 use Rattle.std.specs.Ordering.{nat_cmp}
 use Rattle.dispatch_tables.specs.Event.{Event}
 use Rattle.dispatch_tables.specs.Ownership.{OwnerMap, owner_of}
 use Rattle.event_loop.specs.Registrations.{Registrations, Owns}
-use Rattle.event_loop.specs.Exchange.{Exchanges, event_of}
-use Rattle.event_loop.specs.Registry.{Registry, Step, Joined, Requested, is_id, id_of}
-use Rattle.event_loop.specs.Dispatch.{Outcome, Nobody, To, Position, exchanges_of}
+use Rattle.event_loop.specs.Exchange.{Exchanges, event_of, added, Begins, Serves}
+use Rattle.event_loop.specs.Registry.{Registry, Step, Joined, Requested, is_id, id_of, May}
+use Rattle.event_loop.specs.Dispatch.{Outcome, Nobody, To, exchanges_of}
 use Rattle.event_loop.specs.Iteration.{ManagerState}
 use Rattle.event_manager.specs.Trace.{Effect, Stepped, Iterated, Entry, IsTrace}
 use Rattle.event_loop.specs.declared.events.Request.{Request}
-use Rattle.event_loop.specs.declared.events.Request.TheVariants.{Modify, Remove}
 
 -- only the descriptors of id i
 abbrev pub owned_by : ℕ → OwnerMap → OwnerMap
@@ -75,24 +74,16 @@ step_exchanges i (Joined value id exchanges calls held) = if id == i then exchan
 step_exchanges i (Requested id exchanges calls) = if id == i then exchanges else []
 step_exchanges i step = []
 
-abbrev pub outcome_exchanges : {V : Type 0} → ℕ → Outcome V → Exchanges
-outcome_exchanges i outcome = if is_to i outcome then exchanges_of outcome else []
-
-abbrev pub positions_exchanges : {V : Type 0} → ℕ → List (Position V) → Exchanges
-positions_exchanges i positions = flat_map (λ position. outcome_exchanges i position.outcome) positions
-
 abbrev pub effect_exchanges : {V J R : Type 0} → ℕ → Effect V J R → Exchanges
 effect_exchanges i (Stepped step) = step_exchanges i step
-effect_exchanges i (Iterated iteration) = positions_exchanges i iteration.positions
+effect_exchanges i (Iterated iteration) = flat_map (λ position. if is_to i position.outcome then exchanges_of position.outcome else []) iteration.positions
 
 abbrev pub exchanges_in : {V J R : Type 0} → ℕ → List (Entry V J R) → Exchanges
 exchanges_in i trace = flat_map (λ entry. effect_exchanges i entry.effect) trace
 
 -- whether an Add of the descriptor is asked; whether one is agreed
 abbrev pub is_add : ℕ → Request → Bool
-is_add fd (Modify e) = false
-is_add fd (Remove e) = false
-is_add fd request = (event_of request).fd == fd
+is_add fd request = is_some (added request) && ((event_of request).fd == fd)
 
 abbrev pub asks_to_add : ℕ → Exchanges → Bool
 asks_to_add fd exchanges = list_any (λ exchange. is_add fd exchange.0) exchanges
@@ -108,7 +99,7 @@ IsApart i before trace =
     → ¬ Owns j before.registry.registrations fd × (adds fd (exchanges_in j trace) ≡ false)
 
 -- Non-interference: of a trace in which no job ran, a projection to each i that is apart is itself a trace.
-abbrev pub NonInterference : {V J R : Type 0} → (V → Exchanges → V → Type 0) → (V → Event → Exchanges → V → Type 0) → (J → List (Step V) → R → Type 0) → ManagerState V → List (Entry V J R) → ManagerState V → Type 0
+abbrev pub NonInterference : {V J R : Type 0} → Begins V → Serves V → May V J R → ManagerState V → List (Entry V J R) → ManagerState V → Type 0
 NonInterference {V} {J} {R} begins serves may before trace after =
     (i : ℕ) → after.taken ≡ before.taken → IsApart i before trace
     → (next : ℕ) × (projected : List (Entry V J R)) × IsProjection i trace projected × IsTrace begins serves may (projected_state i (projected_next i before) before) projected (projected_state i next after)

@@ -1,10 +1,9 @@
 -- What one call of a list did.
 use Rattle.std.specs.Prelude.{◌≡◌, ℕ, List, vec_len, Vec, Result, Ok, Err}
 use Rattle.std.specs.declared.alloc.Global.{Global}
-use Rattle.dispatch_tables.specs.Event.{Event}
 use Rattle.event_loop.specs.PollerCall.{PollerCall, Controls, Waits, Leads}
-use Rattle.event_loop.specs.Exchange.{Exchanges, Answer, requests_of, answers_of}
-use Rattle.event_loop.specs.Registry.{Step, Requested, Replaced, Refused}
+use Rattle.event_loop.specs.Exchange.{Exchanges, Answer, requests_of, answers_of, Begins, Serves}
+use Rattle.event_loop.specs.Registry.{Step, Requested, Replaced, Refused, May}
 use Rattle.event_loop.specs.LoopState.{LoopState, manager_state}
 use Rattle.event_manager.specs.Trace.{Effect, HasEffect, calls_of_effect}
 use Rattle.event_loop.specs.declared.error.Error.{Error}
@@ -33,7 +32,7 @@ IsReplacement id value (Ok old) step = step ≡ Replaced id old value
 IsReplacement id value (Err error) step = (error ≡ InvalidId) × (step ≡ Refused id)
 
 -- a call had this effect
-pub record HasCalled {S J R P : Type 0} (begins : S → Exchanges → S → Type 0) (serves : S → Event → Exchanges → S → Type 0) (may : J → List (Step S) → R → Type 0) (controls : Controls P) (waits : Waits P) (before : LoopState S P) (effect : Effect S J R) (after : LoopState S P) : Type 0 where
+pub record HasCalled {S J R P : Type 0} (begins : Begins S) (serves : Serves S) (may : May S J R) (controls : Controls P) (waits : Waits P) (before : LoopState S P) (effect : Effect S J R) (after : LoopState S P) : Type 0 where
   pub had : HasEffect begins serves may (manager_state before) effect (manager_state after)
   pub led : Leads controls waits before.poller (calls_of_effect before.capacity effect) after.poller
   pub same_capacity : after.capacity ≡ before.capacity

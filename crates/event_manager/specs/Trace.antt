@@ -2,10 +2,9 @@
 use Rattle.std.specs.Prelude.{◌≡◌, ℕ, List, [], ◌∷◌, Ok, Err, Vec}
 use Rattle.std.specs.List.{flat_map}
 use Rattle.std.specs.declared.alloc.Global.{Global}
-use Rattle.dispatch_tables.specs.Event.{Event}
 use Rattle.event_loop.specs.PollerCall.{PollerCall}
-use Rattle.event_loop.specs.Exchange.{Exchanges, Answer, requests_of, answers_of}
-use Rattle.event_loop.specs.Registry.{Step, Steps, Joined, NotJoined, Left, Replaced, Requested, Refused, calls_of, new_registry}
+use Rattle.event_loop.specs.Exchange.{Answer, requests_of, answers_of, Begins, Serves}
+use Rattle.event_loop.specs.Registry.{Step, Steps, Joined, NotJoined, Left, Replaced, Requested, Refused, calls_of, new_registry, May}
 use Rattle.event_loop.specs.Iteration.{ManagerState, Iteration, IsIteration, answer_of, calls_of_iteration}
 use Rattle.event_loop.specs.declared.error.Error.TheVariants.{InvalidId}
 use Rattle.event_loop.specs.declared.events.Request.{Request}
@@ -44,10 +43,10 @@ Matches (Stepped (Requested id exchanges calls)) c r =
 Matches (Stepped (Refused id)) c r = IsRefused id c r
 Matches (Iterated iteration) c r = (c ≡ call.Run iteration.ms) × (r ≡ reply.Ran (answer_of iteration.waited))
 
-module _ {V J R : Type 0} (begins : V → Exchanges → V → Type 0) (serves : V → Event → Exchanges → V → Type 0) (may : J → List (Step V) → R → Type 0) where
+module _ {V J R : Type 0} (begins : Begins V) (serves : Serves V) (may : May V J R) where
   abbrev pub HasEffect : ManagerState V → Effect V J R → ManagerState V → Type 0
   HasEffect before (Stepped step) after = Steps begins before.registry step after.registry × (after.taken ≡ before.taken)
-  HasEffect before (Iterated iteration) after = IsIteration begins serves may before iteration after
+  HasEffect before (Iterated iteration) after = IsIteration begins serves may before iteration.waited iteration.positions iteration.jobs after
 
   -- each call from the state that the one before it left
   abbrev pub IsTrace : ManagerState V → List (Entry V J R) → ManagerState V → Type 0

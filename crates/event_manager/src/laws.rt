@@ -4,18 +4,18 @@ ghost use Rattle.std.specs.Hash as fed;
 ghost use Rattle.std.specs.List.{fold};
 ghost use Rattle.std.specs.Ordering.{nat_cmp};
 ghost use Rattle.std.specs.List.Sorted.{IsPermutation};
-ghost use Rattle.std.specs.Prelude.{IsTrue, ◌↔◌, ◌≡◌, ◌≢◌, ℕ, false, List, [], ◌∷◌, ◌++◌, map};
+ghost use Rattle.std.specs.Prelude.{IsTrue, ◌↔◌, ◌≡◌, ℕ, false, List, [], ◌∷◌, ◌++◌, map};
 ghost use Rattle.dispatch_tables.specs.Event.{Event};
 ghost use Rattle.event_loop.specs.PollerCall.{PollerCall};
 ghost use Rattle.event_loop.specs.Registrations.{Registrations};
 ghost use Rattle.dispatch_tables.specs.Priority.{number_of};
-ghost use Rattle.event_loop.specs.DispatchOrder.{class_of, IsDispatchOrder};
+ghost use Rattle.event_loop.specs.DispatchOrder.{IsDispatchOrder};
 ghost use Rattle.event_loop.specs.Exchange.{Exchanges, ExchangesFit};
 ghost use Rattle.event_loop.specs.Registry.{Registry, Step, Steps, Left, AreBelow};
-ghost use Rattle.event_loop.specs.Dispatch.{Position, Outcome, To, IsOutcome, still_pending};
+ghost use Rattle.event_loop.specs.Dispatch.{Position, Outcome, IsOutcome, still_pending};
 ghost use Rattle.event_loop.specs.Iteration.{ManagerState};
 ghost use Rattle.event_manager.specs.Trace.{Entry, HasEffect, IsTrace, new_state};
-ghost use Rattle.event_manager.specs.Projection.{NonInterference, names};
+ghost use Rattle.event_manager.specs.Projection.{NonInterference, names, is_to};
 ghost use Rattle.event_manager.specs.Guarantees.{AreGiven, steps_of, RemovedStayGone, RemovedStayUnknown, IsSound, IsUntouched, FreesExactly};
 ghost use Rattle.vmm_sys.specs.Recording.{Recording};
 ghost use Rattle.vmm_sys.specs.Replay.{Replay};
@@ -27,6 +27,7 @@ ghost use Rattle.event_manager.specs.Driven.{IsTraceOf, IsDriven};
 ghost use Rattle.event_manager.specs.RecordedRun.{BeginsAgain, IsMadeAgain};
 ghost use Rattle.event_manager.specs.WakeUps.{WakeState, AreSteps, NoJobWaitsUnheard, new_wake_state};
 ghost use Rattle.event_manager.specs.Example.{any_begins, any_serves, any_may, joins, iterates};
+ghost use Rattle.dispatch_tables.specs.Ownership.{class_in};
 
 use crate::jobs::{Job, NoJob};
 pub use event_loop::events_are_equal;
@@ -87,15 +88,14 @@ pub fn owners_are_subscribers<S: MutEventSubscriber, J: Job<S>>()
         IsTrace S.begins S.serves J.may before trace after → IsSound before.registry → IsSound after.registry }
 {}
 
-/// Isolation: a step for one id, or a delivery to it, leaves the values, the descriptors with their priorities, and the
-/// pending events of all others; a leave frees exactly the descriptors of its id, whatever the poller answers.
+/// Isolation: a step for one id, or an event that it gets, leaves the values, the descriptors with their priorities, and the
+/// pending events of all others; an event that nobody gets leaves those of all; a leave frees exactly the descriptors of its id, whatever the poller answers.
 pub fn others_are_untouched<S: MutEventSubscriber>()
     ensures steps { (before : Registry S) (step : Step S) (after : Registry S) → Steps S.begins before step after →
         (j : ℕ) → names j step ≡ false → IsUntouched j before after }
-    ensures deliveries { (before : Registry S) (earlier : List (Position S)) (e : Event) (later : List Event) (i : ℕ)
-        (exchanges : Exchanges) (calls : List PollerCall) (held : S) (after : Registry S) →
-        IsOutcome S.serves before earlier e later (To i exchanges calls held) after →
-        (j : ℕ) → j ≢ i → IsUntouched j (record before { registrations = record before.registrations { pending = still_pending earlier later } }) after }
+    ensures deliveries { (before : Registry S) (earlier : List (Position S)) (e : Event) (later : List Event)
+        (outcome : Outcome S) (after : Registry S) → IsOutcome S.serves before earlier e later outcome after →
+        (j : ℕ) → is_to j outcome ≡ false → IsUntouched j (record before { registrations = record before.registrations { pending = still_pending earlier later } }) after }
     ensures leaving { (before after : Registry S) (i : ℕ) (value : S) (calls : List PollerCall) →
         Steps S.begins before (Left i value calls) after → FreesExactly i before.registrations after.registrations }
 {}
@@ -109,7 +109,7 @@ pub fn one_dispatch_order()
     ensures all { (registrations : Registrations) (report ordered : List Event) →
         IsDispatchOrder registrations report ordered → IsPermutation report ordered }
     ensures lowest { (registrations : Registrations) (report : List Event) →
-        ((fd : ℕ) → class_of registrations fd ≡ 0) → IsDispatchOrder registrations report report }
+        ((fd : ℕ) → class_in registrations.owners fd ≡ 0) → IsDispatchOrder registrations report report }
 {}
 
 /// What is pending after a position: the later events whose descriptor no exchange so far removed.

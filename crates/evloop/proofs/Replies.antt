@@ -14,6 +14,8 @@ use Rattle.event_manager.specs.PollerCall.{Controls, Waits}
 use Rattle.event_manager.specs.Registry.{Step, Joined, NotJoined, Left, Replaced, Requested, Refused}
 use Rattle.event_manager.specs.Trace.{Effect, Stepped, Iterated, Entry, Matches, IsTrace}
 use Rattle.evloop.specs.Replies.{IsReplyTo}
+use Rattle.event_loop.specs.Exchange.{Begins, Serves}
+use Rattle.event_loop.specs.Registry.{May}
 
 is_of_call : {S : Type 0} {call other : Call S} (reply : Reply S) → call ≡ other → IsReplyTo other reply → IsReplyTo call reply
 is_of_call reply same is = subst (λ c. IsReplyTo c reply) (sym same) is
@@ -36,7 +38,7 @@ matching_reply (Stepped (Refused id)) (Ask other requests) reply h = (Err Invali
 matching_reply (Stepped (Refused id)) call reply h = absurd h
 matching_reply (Iterated iteration) call reply h = is_of_call reply h.0 (answer_of iteration.waited, h.1)
 
-module _ {S J R : Type 0} (begins : S → Exchanges → S → Type 0) (serves : S → Event → Exchanges → S → Type 0) (may : J → List (Step S) → R → Type 0) where
+module _ {S J R : Type 0} (begins : Begins S) (serves : Serves S) (may : May S J R) where
   reply_in_trace : (trace : List (Entry S J R)) (call : Call S) (reply : Reply S) (before after : ManagerState S) → map (λ entry. entry.call) trace ≡ call ∷ [] → map (λ entry. entry.reply) trace ≡ reply ∷ [] → IsTrace begins serves may before trace after → IsReplyTo call reply
   reply_in_trace [] call reply before after calls replies is = cc
   reply_in_trace (entry ∷ trace) call reply before after calls replies is =

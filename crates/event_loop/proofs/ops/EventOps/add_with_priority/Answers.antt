@@ -4,11 +4,12 @@ use Rattle.event_loop.specs.Exchange.{by_manager, by_poller, by_agreement}
 use Rattle.event_loop.specs.PollerCall.{Control}
 use Rattle.event_loop.specs.declared.events.Request.TheVariants.{AddWithPriority}
 use Rattle.std.specs.FinMap.{remove}
-use Rattle.dispatch_tables.specs.Ownership.{owner_id, owner_of}
+use Rattle.dispatch_tables.specs.Ownership.{owner_of}
 use Rattle.dispatch_tables.proofs.MapEntries.{remove_insert, get_same}
 use Rattle.event_loop.proofs.ExchangeLemmas.{one_made_through, kept, refused_by_manager, cancel_removed_other}
 use Rattle.event_loop.specs.RegistrationState.{RegistrationState, registrations_of}
 use Rattle.event_loop.proofs.ops.EventOps.add_with_priority.Goals as goal
+use Rattle.dispatch_tables.proofs.Owning.{owner_id}
 
 pub returns-in-Err : goal.returns-in-Err
 returns-in-Err g c =

@@ -1,7 +1,7 @@
 use Rattle.std.proofs.Common.{refl, sym, ap, ◌∙◌, inl, inr}
-use Rattle.dispatch_tables.specs.Ownership.{owner_id}
 use Rattle.event_loop.proofs.Positions.{nobody_position, served_position, not_owned, not_there, found_id}
 use Rattle.event_loop.proofs.registry.Registry.dispatch_next.Goals as goal
+use Rattle.dispatch_tables.proofs.Owning.{owner_id}
 
 pub returns-then-ready_entry : goal.returns-then-ready_entry
 returns-then-ready_entry g c =
