@@ -1,5 +1,5 @@
 -- In which order the events of a report are dispatched.
-use Rattle.std.specs.Prelude.{ℕ, List}
+use Rattle.std.specs.Prelude.{List}
 use Rattle.dispatch_tables.specs.Event.{Event}
 use Rattle.dispatch_tables.specs.Ownership.{class_in}
 use Rattle.dispatch_tables.specs.ClassOrder.{IsOrdered}

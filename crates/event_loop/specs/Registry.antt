@@ -1,5 +1,5 @@
 -- Subscribers by id, and the steps: a join, a leave, another value, a list of requests.
-use Rattle.std.specs.Prelude.{◌≡◌, ℕ, ◌+◌, ◌-◌, ◌^◌, ◌<◌, ◌==◌, Bool, false, not, List, [], ◌∷◌, ◌⊎◌, ◌↔◌, Option, Some, None, Result, Contains, AllPairs}
+use Rattle.std.specs.Prelude.{◌≡◌, ℕ, ◌+◌, ◌-◌, ◌^◌, ◌<◌, ◌==◌, Bool, false, not, List, [], ◌⊎◌, ◌↔◌, Option, Some, None, Result, Contains, AllPairs}
 use Rattle.std.specs.List.{AllZip}
 use Rattle.std.specs.FinMap as map
 use Rattle.std.specs.Ordering.{nat_cmp}

@@ -1,5 +1,5 @@
 -- What holds of every state that a trace reaches, and of the ids that it gives.
-use Rattle.std.proofs.Common.{IfSome, ◌≡◌, ◌≢◌, ℕ, ◌+◌, ◌<◌, ◌==◌, cond, Bool, true, false, not, refl, sym, ◌∙◌, ap, subst, Some, None, Option, ◌⊎◌, inl, inr, nat_cmp, List, [], ◌∷◌, ◌++◌, true≢false, eq-eqb, arith, Ok, Err, Result, append_assoc, lt_irrefl, is_eq, Equal}
+use Rattle.std.proofs.Common.{◌≡◌, ◌≢◌, ℕ, ◌+◌, ◌<◌, ◌==◌, cond, Bool, true, false, not, refl, sym, ◌∙◌, ap, subst, Some, None, Option, ◌⊎◌, inl, inr, nat_cmp, List, [], ◌∷◌, ◌++◌, true≢false, eq-eqb, arith, Ok, Err, Result, append_assoc, lt_irrefl, is_eq, Equal}
 use Rattle.std.specs.FinMap.{FinMap, get, insert, remove, get-insert, get-remove, get-empty, empty}
 use Rattle.std.specs.Cmp.{nat_cmp_total, nat_cmp_is}
 use Rattle.std.specs.Ordering.{eq_by_cmp}

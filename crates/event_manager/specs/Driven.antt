@@ -1,5 +1,5 @@
 -- What `drive` promises: the calls with their replies are a trace, and the guarantees hold of that trace.
-use Rattle.std.specs.Prelude.{◌≡◌, ◌≢◌, ℕ, false, List, map}
+use Rattle.std.specs.Prelude.{◌≡◌, ℕ, false, List, map}
 use Rattle.dispatch_tables.specs.Event.{Event}
 use Rattle.event_loop.specs.PollerCall.{PollerCall, Controls, Waits, Leads}
 use Rattle.event_loop.specs.Exchange.{Begins, Serves}
