@@ -3,9 +3,8 @@ use Rattle.std.proofs.Common.{◌≡◌, ℕ, ◌<◌, ◌^◌, sym, ap, subst, 
 use Rattle.std.proofs.lemmas.Bool.{false≢true}
 use Rattle.std.specs.FinMap.{get, insert, remove, empty, len, get-empty}
 use Rattle.event_loop.specs.Consistency.{AreConsistent, AreWatched, AreDescriptors}
-use Rattle.event_loop.specs.Registry.{is_id}
+use Rattle.event_loop.specs.Prelude.{is_id, Ownership, OwnerMap, owner_of}
 use Rattle.event_loop.specs.Releasing.{AreWithout}
-use Rattle.dispatch_tables.specs.Ownership.{Ownership, OwnerMap, owner_of}
 use Rattle.dispatch_tables.specs.Owners.{AreCounted}
 use Rattle.dispatch_tables.specs.WatchLists.{times_in, times_watched, AreDistinct, HasOneMore, HasNone}
 use Rattle.dispatch_tables.specs.declared.watch_lists.WatchLists.{WatchLists}

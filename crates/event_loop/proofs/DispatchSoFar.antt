@@ -1,9 +1,6 @@
 -- A batch that is dispatched from the front: one more position.
 use Rattle.std.proofs.Common.{◌≡◌, refl, sym, ap, subst, List, [], ◌∷◌, ◌++◌, append_assoc, append-nil}
-use Rattle.dispatch_tables.specs.Event.{Event}
-use Rattle.event_loop.specs.Exchange.{Serves}
-use Rattle.event_loop.specs.Registry.{Registry}
-use Rattle.event_loop.specs.Dispatch.{Position, Outcome, IsOutcome, AreDispatched, events_of}
+use Rattle.event_loop.specs.Prelude.{Event, Serves, Registry, Position, Outcome, IsOutcome, AreDispatched, events_of}
 
 module _ {V : Type 0} (serves : Serves V) where
   -- the positions so far lead from the start to now: whatever completes them there completes them from the start

@@ -3,16 +3,12 @@ use Rattle.std.proofs.Common.{◌≡◌, ℕ, List, [], ◌∷◌, ◌++◌, ref
 use Rattle.std.proofs.lemmas.List.{append-nil}
 use Rattle.std.proofs.lemmas.List.Folds.{list_any-append}
 use Rattle.std.proofs.lemmas.Bool.Decides.{nat_tests}
-use Rattle.dispatch_tables.specs.Event.{Event}
-use Rattle.event_loop.specs.PollerCall.{PollerCall, Control, Wait}
-use Rattle.event_loop.specs.Exchange.{Exchanges, ExchangesFit, Fits, Answer, IsVacant, IsAdditionRefused, by_manager, by_poller, by_agreement, removes, is_removal}
-use Rattle.event_loop.specs.Registrations.{Registrations}
-use Rattle.event_loop.specs.RegistrationState.{RegistrationState, not_cancelled, registrations_of, cancel_on, cancel_removed}
-use Rattle.event_loop.specs.PollerCall.{Controls, Waits, Leads}
-use Rattle.event_loop.specs.Requests.{AreMade, AreMadeThrough}
+use Rattle.event_loop.specs.Prelude.{Event, PollerCall, Control, Wait, Exchanges, ExchangesFit, Fits, Answer, by_manager, by_poller, by_agreement, removes, is_removal, Registrations, Controls, Waits, Leads, AreMade, AreMadeThrough}
 use Rattle.event_loop.specs.declared.error.Error.{Error}
 use Rattle.event_loop.specs.declared.events.Request.{Request}
 use Rattle.event_loop.specs.declared.events.Request.TheVariants.{Add, AddWithPriority, Modify, Remove}
+use Rattle.event_loop.specs.Exchange.{IsVacant, IsAdditionRefused}
+use Rattle.event_loop.specs.RegistrationState.{RegistrationState, not_cancelled, registrations_of, cancel_on, cancel_removed}
 use Rattle.dispatch_tables.specs.declared.priority.Priority.TheVariants.{Lowest}
 use Rattle.event_loop.specs.declared.epoll.EpollWrapper.{EpollWrapper}
 use Rattle.event_loop.specs.declared.ops.EventOps.{EventOps}

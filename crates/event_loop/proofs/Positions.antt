@@ -8,23 +8,13 @@ use Rattle.std.proofs.lemmas.List.Folds.{list_any-append}
 use Rattle.std.proofs.lemmas.List.Sorted.{list_any-IsPermutation}
 use Rattle.std.specs.FinMap.{get}
 use Rattle.dispatch_tables.specs.Members.{with_member}
-use Rattle.dispatch_tables.specs.Event.{Event}
-use Rattle.event_loop.specs.Registrations.{Registrations, Owns}
-use Rattle.dispatch_tables.specs.Ownership.{owner_of, class_in}
+use Rattle.event_loop.specs.Prelude.{Event, Registrations, Owns, owner_of, class_in, IsDispatchOrder, PollerCall, Wait, Exchanges, ExchangesFit, removes, Serves, HasId, Outcome, Nobody, To, Position, exchanges_of, is_removed, still_pending, events_of, IsOutcome, AreDispatched, calls_of_outcome, calls_of_positions, is_reported, AreMade, Controls, Waits, Leads}
 use Rattle.dispatch_tables.specs.Owners.{ownership_of}
 use Rattle.dispatch_tables.specs.declared.owners.Owner.{Owner}
-use Rattle.event_loop.specs.DispatchOrder.{IsDispatchOrder}
 use Rattle.dispatch_tables.proofs.DispatchOrders.{nil_cons, head_is, tail_is}
 use Rattle.dispatch_tables.proofs.DispatchOrders.{ordered_permutation}
-use Rattle.event_loop.specs.PollerCall.{PollerCall, Wait}
-use Rattle.event_loop.specs.Exchange.{Exchanges, ExchangesFit, removes, Serves}
 use Rattle.event_loop.specs.RegistrationState.{RegistrationState, not_cancelled, registrations_of, cancel_removed, all_pending, HasWaited}
-use Rattle.event_loop.specs.Registry.{HasId}
-use Rattle.event_loop.specs.Dispatch.{Outcome, Nobody, To, Position, exchanges_of, is_removed, still_pending, events_of, IsOutcome, AreDispatched}
-use Rattle.event_loop.specs.Iteration.{calls_of_outcome, calls_of_positions, is_reported}
 use Rattle.event_loop.proofs.DispatchSoFar.{AreDispatchedSoFar, so_far_none, so_far_more, so_far_all}
-use Rattle.event_loop.specs.Requests.{AreMade}
-use Rattle.event_loop.specs.PollerCall.{Controls, Waits, Leads}
 use Rattle.event_loop.specs.Subscribers.{registry_of, idle, loop_state, HasOutcome, TakesPosition, IsDispatched, IsBatch}
 use Rattle.event_loop.specs.declared.registry.Registry.{Registry}
 use Rattle.event_loop.proofs.ExchangeLemmas.{or_false, cancel_removed_marks, marked, leads_join, exchanges_keep_endpoint}

@@ -3,13 +3,11 @@ use Rattle.std.proofs.Common.{◌≡◌, ℕ, ◌+◌, ◌<◌, ◌≤◌, refl,
 use Rattle.std.proofs.lemmas.List.{take_more, take_all}
 use Rattle.vmm_sys.specs.declared.errno.Errno.{Errno}
 use Rattle.vmm_sys.specs.declared.entries.ControlOperation.TheVariants as operation
-use Rattle.event_loop.specs.PollerCall.{PollerCall, Control, Controls, Waits, Leads}
-use Rattle.event_loop.specs.Registry.{AreDeletes, AreOwnedBy}
+use Rattle.event_loop.specs.Prelude.{PollerCall, Control, Controls, Waits, Leads, AreDeletes, AreOwnedBy, Event}
 use Rattle.event_loop.specs.RegistrationState.{registrations_of, left_in}
 use Rattle.event_loop.specs.Releasing.{HasReleased}
 use Rattle.event_loop.specs.declared.epoll.EpollWrapper.{EpollWrapper}
 use Rattle.event_loop.proofs.ExchangeLemmas.{leads_join}
-use Rattle.dispatch_tables.specs.Event.{Event}
 
 -- the event that a Delete is asked with
 abbrev pub empty_event : Event

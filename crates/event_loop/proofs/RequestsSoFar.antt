@@ -2,11 +2,10 @@
 use Rattle.std.proofs.Common.{◌≡◌, ℕ, ◌+◌, ◌<◌, ◌≤◌, List, [], ◌∷◌, ◌++◌, length, take, get_or, set, refl, sym, ap, subst, ◌∙◌, arith, Ok, Err}
 use Rattle.std.specs.Result.{result_and}
 use Rattle.std.proofs.lemmas.List.{map-append, take_more, take_more_set, take_all}
-use Rattle.event_loop.specs.Exchange.{Exchanges, Answer, requests_of, answers_of, answered_at, first_refusal_from}
-use Rattle.event_loop.specs.PollerCall.{PollerCall, Controls, Waits}
-use Rattle.event_loop.specs.Requests.{AreMadeThrough}
-use Rattle.event_loop.specs.declared.ops.EventOps.{EventOps}
+use Rattle.event_loop.specs.Prelude.{Exchanges, Answer, requests_of, answers_of, PollerCall, Controls, Waits, AreMadeThrough}
 use Rattle.event_loop.specs.declared.events.Request.{Request}
+use Rattle.event_loop.specs.Exchange.{answered_at, first_refusal_from}
+use Rattle.event_loop.specs.declared.ops.EventOps.{EventOps}
 use Rattle.event_loop.proofs.ExchangeLemmas.{none_made, exchanges_join}
 
 -- the first n requests were made, with these answers, from the `EventOps` before to the one after

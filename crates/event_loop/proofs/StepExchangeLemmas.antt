@@ -2,12 +2,9 @@
 use Rattle.std.proofs.Common.{◌≡◌, List, [], ◌∷◌, ◌++◌, Option, Some, subst}
 use Rattle.std.specs.declared.alloc.Global.{Global}
 use Rattle.std.specs.declared.dyn_box.DynBox.{DynBox}
-use Rattle.event_loop.specs.Exchange.{Exchanges, Answer as RequestAnswer}
-use Rattle.event_loop.specs.PollerCall.{PollerCall}
-use Rattle.event_loop.specs.StepExchanges.{HoldsNow, Reaches}
-use Rattle.event_loop.specs.Requests.{AreMadeThrough}
-use Rattle.event_loop.specs.PollerCall.{Controls, Waits}
+use Rattle.event_loop.specs.Prelude.{Exchanges, Answer as RequestAnswer, PollerCall, AreMadeThrough, Controls, Waits}
 use Rattle.event_loop.specs.declared.events.Request.{Request}
+use Rattle.event_loop.specs.StepExchanges.{HoldsNow, Reaches}
 use Rattle.event_loop.specs.declared.boxed_subscriber.StepSubscriber.{Ghosts}
 use Rattle.event_loop.specs.declared.boxed_subscriber.StepInput.{StepInput}
 use Rattle.event_loop.specs.declared.boxed_subscriber.StepInput.TheVariants.{Answer}

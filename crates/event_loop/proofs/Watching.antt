@@ -8,11 +8,9 @@ use Rattle.std.proofs.lemmas.List.Sums.{sum_by_more}
 use Rattle.std.specs.Ordering.{eq_by_cmp}
 use Rattle.std.specs.Cmp.{nat_cmp_total}
 use Rattle.std.specs.FinMap.{get, insert, remove, get-insert, get-remove, same_map, nat_cmp-IsAntisymmetric}
-use Rattle.dispatch_tables.specs.Ownership.{Ownership, OwnerMap, owner_of}
+use Rattle.event_loop.specs.Prelude.{Ownership, OwnerMap, owner_of, Registrations, is_id, without_owner, AreOwnedBy}
 use Rattle.dispatch_tables.proofs.Owning.{owner_id-cond, owner_of-insert, owner_of-remove, owned_is_some, owner_id}
 use Rattle.dispatch_tables.proofs.TimesListed.{flipped, counted, contained, distinct}
-use Rattle.event_loop.specs.Registrations.{Registrations}
-use Rattle.event_loop.specs.Registry.{is_id, without_owner, AreOwnedBy}
 use Rattle.dispatch_tables.specs.WatchLists.{times_in, times_watched, HasOneMore, HasNone, HasSameLists}
 use Rattle.event_loop.specs.Consistency.{AreWatched, AreDescriptors}
 use Rattle.event_loop.specs.Releasing.{AreWithout}

@@ -2,16 +2,10 @@
 use Rattle.std.proofs.Common.{ℕ, ℤ, List, [], ◌∷◌, refl, sym, ap, subst, Result, Ok, Err}
 use Rattle.std.proofs.lemmas.List.{append-nil}
 use Rattle.vmm_sys.specs.declared.errno.Errno.{Errno}
-use Rattle.dispatch_tables.specs.Event.{Event}
-use Rattle.event_loop.specs.PollerCall.{Wait, Controls, Waits, Leads}
-use Rattle.event_loop.specs.Exchange.{Begins, Serves}
-use Rattle.event_loop.specs.Registry.{Registry, May}
-use Rattle.event_loop.specs.Dispatch.{Position}
-use Rattle.event_loop.specs.Iteration.{IsIteration, calls_of_positions}
-use Rattle.event_loop.specs.LoopState.{LoopState, IsDispatchedAfter, IsLoopIteration}
+use Rattle.event_loop.specs.Prelude.{Event, Wait, Controls, Waits, Leads, Begins, Serves, Registry, May, Position, IsIteration, calls_of_positions, LoopState, IsDispatchedAfter, IsLoopIteration}
+use Rattle.event_loop.specs.declared.error.Error.{Error}
 use Rattle.event_loop.specs.Subscribers.{IsBatch, count_of}
 use Rattle.event_loop.specs.declared.registry.Batch.{Batch}
-use Rattle.event_loop.specs.declared.error.Error.{Error}
 
 module _ {S J R : Type 0} (begins : Begins S) (serves : Serves S) (may : May S J R) where
   no_jobs : (n : ℕ) (before after : Registry S) (waited : Result (List Event) Errno) (positions : List (Position S)) → IsDispatchedAfter serves waited positions before after

@@ -30,3 +30,4 @@ pub mod CounterEvents
 pub mod CounterSubscribers
 pub mod DataCounterSubscribers
 pub mod SharedCounterSubscribers
+pub mod Prelude

@@ -2,14 +2,11 @@
 use Rattle.std.proofs.Common.{◌≡◌, ℕ, true≢false, refl, ap, [], ◌∷◌, Some, None, Ok, lit<, arith, nat_cmp, ◌==◌}
 use Rattle.std.specs.FinMap.{get, insert, remove, empty, get-empty, get-insert, get-remove}
 use Rattle.std.specs.Cmp.{nat_cmp_total}
-use Rattle.dispatch_tables.specs.Ownership.{Ownership, owner_of, class_in}
-use Rattle.dispatch_tables.specs.declared.priority.Priority.TheVariants.{Lowest}
-use Rattle.event_loop.specs.Registrations.{Registrations}
-use Rattle.dispatch_tables.proofs.DispatchOrders.{ordered_already}
-use Rattle.event_loop.specs.Exchange.{by_agreement, call_for}
-use Rattle.event_loop.specs.Iteration.{ManagerState}
-use Rattle.event_manager.specs.Trace.{HasEffect, new_state}
+use Rattle.event_loop.specs.Prelude.{Ownership, owner_of, class_in, Registrations, by_agreement, call_for, ManagerState}
 use Rattle.event_loop.specs.declared.events.Request.TheVariants.{Add, Remove}
+use Rattle.dispatch_tables.specs.declared.priority.Priority.TheVariants.{Lowest}
+use Rattle.dispatch_tables.proofs.DispatchOrders.{ordered_already}
+use Rattle.event_manager.specs.Trace.{HasEffect, new_state}
 use Rattle.event_manager.specs.Example.{three, joins, iterates, any_begins, any_serves, any_may}
 use Rattle.dispatch_tables.proofs.Owning.{owner_id}
 

@@ -3,15 +3,12 @@ use Rattle.std.proofs.Common.{◌≡◌, ◌≢◌, ℕ, ◌==◌, cond, Bool, t
 use Rattle.std.specs.Ordering.{eq_by_cmp}
 use Rattle.std.specs.FinMap.{FinMap, get, insert, remove, same_map, get-insert, get-remove, get-retain_keys, nat_cmp-IsAntisymmetric}
 use Rattle.std.specs.Cmp.{nat_cmp_total}
-use Rattle.dispatch_tables.specs.Ownership.{Ownership, OwnerMap, owner_of}
+use Rattle.event_loop.specs.Prelude.{Ownership, OwnerMap, owner_of, is_id, without_owner, Event, Registrations}
 use Rattle.dispatch_tables.proofs.NumberTests.{nat_tied}
 use Rattle.dispatch_tables.proofs.Owning.{owner_id-cond, owner_id}
-use Rattle.event_loop.specs.Registry.{is_id, without_owner}
 use Rattle.event_loop.proofs.WithoutOwner.{get-without_owner}
 use Rattle.event_manager.specs.Projection.{owned_by, only_values}
-use Rattle.dispatch_tables.specs.Event.{Event}
 use Rattle.dispatch_tables.specs.declared.priority.Priority.{Priority}
-use Rattle.event_loop.specs.Registrations.{Registrations}
 
 -- with the descriptor of an event owned by id i, at this priority
 abbrev pub entered : ℕ → Event → Priority → Registrations → Registrations

@@ -4,19 +4,13 @@ use Rattle.std.specs.FinMap.{FinMap, get, insert, remove, get-insert, get-remove
 use Rattle.std.specs.Ordering.{eq_by_cmp}
 use Rattle.std.specs.Cmp.{nat_cmp_total}
 use Rattle.std.proofs.lemmas.Bool.Decides.{eqb_tells, nat_tests}
-use Rattle.dispatch_tables.specs.Event.{Event}
-use Rattle.event_loop.specs.Registrations.{Registrations, IsFree}
-use Rattle.dispatch_tables.specs.Ownership.{Ownership, OwnerMap, owner_of}
-use Rattle.dispatch_tables.specs.declared.priority.Priority.{Priority}
-use Rattle.dispatch_tables.specs.declared.priority.Priority.TheVariants.{Lowest}
-use Rattle.event_loop.specs.PollerCall.{PollerCall}
-use Rattle.event_loop.specs.Exchange.{Answer, Exchanges, Fits, by_manager, by_poller, by_agreement, ExchangesFit, ReachesPoller, registrations_after, Begins, Serves}
-use Rattle.event_loop.specs.Registry.{Registry, Step, Joined, NotJoined, Left, Replaced, Requested, Refused, Steps, is_id, without_owner}
-use Rattle.event_loop.specs.Dispatch.{Position, Outcome, Nobody, To, IsOutcome, still_pending}
-use Rattle.event_manager.specs.Projection.{names, is_to, owned_by}
-use Rattle.event_manager.specs.Guarantees.{pending_of, IsUntouched, FreesExactly}
+use Rattle.event_loop.specs.Prelude.{Event, Registrations, IsFree, Ownership, OwnerMap, owner_of, PollerCall, Answer, Exchanges, Fits, by_manager, by_poller, by_agreement, ExchangesFit, ReachesPoller, registrations_after, Begins, Serves, Registry, Step, Joined, NotJoined, Left, Replaced, Requested, Refused, Steps, is_id, without_owner, Position, Outcome, Nobody, To, IsOutcome, still_pending}
 use Rattle.event_loop.specs.declared.events.Request.{Request}
 use Rattle.event_loop.specs.declared.events.Request.TheVariants.{Add, AddWithPriority, Modify, Remove}
+use Rattle.dispatch_tables.specs.declared.priority.Priority.{Priority}
+use Rattle.dispatch_tables.specs.declared.priority.Priority.TheVariants.{Lowest}
+use Rattle.event_manager.specs.Projection.{names, is_to, owned_by}
+use Rattle.event_manager.specs.Guarantees.{pending_of, IsUntouched, FreesExactly}
 use Rattle.dispatch_tables.proofs.NumberTests.{fd_tells, nat_tied}
 use Rattle.event_loop.proofs.WithoutOwner.{get-without_owner}
 use Rattle.event_manager.proofs.FiniteMaps.{owner_of-owned_by, owned_by-insert_other, owned_by-remove_other, owned_by-disowned_other, entered}

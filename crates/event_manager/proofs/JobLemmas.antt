@@ -3,13 +3,7 @@ use Rattle.std.proofs.Common.{◌≡◌, ◌≢◌, All, ℕ, ◌+◌, ◌==◌,
 use Rattle.std.proofs.lemmas.Bool.{false≢true}
 use Rattle.std.proofs.lemmas.List.Folds.{list_any_none}
 use Rattle.vmm_sys.specs.declared.errno.Errno.{Errno}
-use Rattle.dispatch_tables.specs.Event.{Event}
-use Rattle.event_loop.specs.PollerCall.{Wait, Controls, Waits}
-use Rattle.event_loop.specs.Exchange.{Begins, Serves}
-use Rattle.event_loop.specs.Registry.{Step, calls_of, May}
-use Rattle.event_loop.specs.Dispatch.{Position}
-use Rattle.event_loop.specs.Iteration.{IsIteration, is_reported, calls_of_positions, calls_of_jobs}
-use Rattle.event_loop.specs.LoopState.{LoopState, HasStepped, IsDispatchedAfter, IsLoopIteration}
+use Rattle.event_loop.specs.Prelude.{Event, Wait, Controls, Waits, Begins, Serves, Step, calls_of, May, Position, IsIteration, is_reported, calls_of_positions, calls_of_jobs, LoopState, HasStepped, IsDispatchedAfter, IsLoopIteration}
 use Rattle.event_manager.specs.JobRuns.{HasRun, JobsAreRun}
 use Rattle.event_loop.specs.Subscribers.{IsBatch, Notices}
 use Rattle.event_loop.specs.declared.registry.Batch.{Batch}

@@ -6,12 +6,7 @@ use Rattle.std.specs.Cmp.{nat_cmp_total, nat_cmp_is}
 use Rattle.std.proofs.lemmas.Bool.Decides.{eqb_tells}
 use Rattle.std.proofs.lemmas.List.Elements.{Contains-append_cases}
 use Rattle.vmm_sys.specs.declared.errno.Errno.{Errno}
-use Rattle.dispatch_tables.specs.Event.{Event}
-use Rattle.event_loop.specs.Exchange.{Exchanges, Answer, answers_of, Begins, Serves}
-use Rattle.event_loop.specs.Registry.{Registry, Joined, NotJoined, Left, Replaced, Requested, Refused, HasId, AreBelow}
-use Rattle.event_loop.specs.Dispatch.{Position, Outcome, Nobody, To, IsOutcome, AreDispatched, events_of, exchanges_of}
-use Rattle.event_loop.specs.Iteration.{ManagerState, JobRun, IsIteration}
-use Rattle.event_loop.specs.LoopState.{no_job}
+use Rattle.event_loop.specs.Prelude.{Event, Exchanges, Answer, answers_of, Begins, Serves, Registry, Joined, NotJoined, Left, Replaced, Requested, Refused, HasId, AreBelow, Position, Outcome, Nobody, To, IsOutcome, AreDispatched, events_of, exchanges_of, ManagerState, JobRun, IsIteration, no_job}
 use Rattle.event_manager.specs.Trace.{Effect, Stepped, Iterated, Entry, Matches, HasEffect, IsTrace}
 use Rattle.event_manager.specs.Determinism.{HaveMemory, answers_of_positions, answers_of_jobs, answers_of_effect, answers_in}
 use Rattle.event_loop.specs.declared.error.Error.TheVariants.{OutOfMemory}

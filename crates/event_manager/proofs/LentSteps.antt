@@ -1,11 +1,7 @@
 -- Requests through what `event_ops` lent, as a step of the lender.
 use Rattle.std.proofs.Common.{◌≡◌, ℕ, List, sym, subst, refl, ◌∙◌, []}
-use Rattle.event_loop.specs.Exchange.{Exchanges, ExchangesFit, Begins}
-use Rattle.event_loop.specs.PollerCall.{PollerCall, Controls, Waits, Leads}
+use Rattle.event_loop.specs.Prelude.{Exchanges, ExchangesFit, Begins, PollerCall, Controls, Waits, Leads, HasId, Requested, LoopState, HasStepped, AreMadeThrough, StandsFor, with_ops}
 use Rattle.event_loop.specs.RegistrationState.{registrations_of}
-use Rattle.event_loop.specs.Registry.{HasId, Requested}
-use Rattle.event_loop.specs.LoopState.{LoopState, HasStepped}
-use Rattle.event_loop.specs.Requests.{AreMadeThrough, StandsFor, with_ops}
 use Rattle.event_loop.specs.declared.ops.EventOps.{EventOps}
 use Rattle.event_loop.proofs.ExchangeLemmas.{idle_fits}
 

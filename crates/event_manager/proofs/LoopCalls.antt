@@ -2,11 +2,7 @@
 use Rattle.std.proofs.Common.{◌≡◌, ℕ, ℤ, List, [], ◌∷◌, ◌++◌, refl, sym, ap, ◌∙◌, map, Result}
 use Rattle.std.specs.List.{AllZip}
 use Rattle.std.proofs.lemmas.List.{append-nil}
-use Rattle.event_loop.specs.PollerCall.{Controls, Waits}
-use Rattle.event_loop.specs.Exchange.{Begins, Serves}
-use Rattle.event_loop.specs.Registry.{Step}
-use Rattle.event_loop.specs.Iteration.{JobRun}
-use Rattle.event_loop.specs.LoopState.{LoopState, HasStepped, IsJoin, IsLeave, IsLoopIteration, no_job}
+use Rattle.event_loop.specs.Prelude.{Controls, Waits, Begins, Serves, Step, JobRun, LoopState, HasStepped, IsJoin, IsLeave, IsLoopIteration, no_job}
 use Rattle.event_loop.specs.declared.error.Error.{Error}
 use Rattle.event_manager.specs.Trace.{Effect, Stepped, Iterated, Entry, Matches}
 use Rattle.event_manager.specs.SingleCall.{HasCalled}

@@ -1,11 +1,6 @@
 -- What is pending after a position.
 use Rattle.std.proofs.Common.{Ok, eq-eqb, ne_eqb, ◌==◌, ◌≡◌, ℕ, cond, Bool, true, false, not, ◌||◌, refl, sym, ◌∙◌, ap, List, [], ◌∷◌, ◌++◌, filter, Err, inl, inr}
-use Rattle.dispatch_tables.specs.Event.{Event}
-use Rattle.event_loop.specs.Registrations.{Registrations}
-use Rattle.event_loop.specs.PollerCall.{PollerCall}
-use Rattle.event_loop.specs.Exchange.{Answer, Exchanges, Fits, by_manager, by_poller, by_agreement, ExchangesFit, registrations_after, removes, is_removal, Serves}
-use Rattle.event_loop.specs.Registry.{Registry}
-use Rattle.event_loop.specs.Dispatch.{Position, Outcome, Nobody, To, is_removed, still_pending, IsOutcome}
+use Rattle.event_loop.specs.Prelude.{Event, Registrations, PollerCall, Answer, Exchanges, Fits, by_manager, by_poller, by_agreement, ExchangesFit, registrations_after, removes, is_removal, Serves, Registry, Position, Outcome, Nobody, To, is_removed, still_pending, IsOutcome}
 use Rattle.event_loop.specs.declared.events.Request.{Request}
 use Rattle.event_loop.specs.declared.events.Request.TheVariants.{Add, AddWithPriority, Modify, Remove}
 use Rattle.dispatch_tables.proofs.NumberTests.{fd_tells}

@@ -2,12 +2,7 @@
 use Rattle.std.proofs.Common.{◌≡◌, ◌≢◌, ℕ, Bool, true, false, ◌||◌, ◌==◌, refl, sym, ◌∙◌, ap, subst, Some, inl, inr, nat_cmp, List, [], ◌∷◌, ◌++◌, cond, filter, All, IfSome, true≢false, if◌then◌else◌, eq-eqb, eqb-true}
 use Rattle.std.specs.FinMap.{FinMap, get}
 use Rattle.std.proofs.lemmas.Bool.Decides.{eqb_tells}
-use Rattle.dispatch_tables.specs.Event.{Event}
-use Rattle.dispatch_tables.specs.Ownership.{owner_of}
-use Rattle.event_loop.specs.PollerCall.{PollerCall}
-use Rattle.event_loop.specs.Exchange.{Exchanges, removes, Serves}
-use Rattle.event_loop.specs.Registry.{Registry}
-use Rattle.event_loop.specs.Dispatch.{Outcome, Nobody, To, Position, exchanges_of, is_removed, still_pending, events_of, IsFor, IsOutcome, AreDispatched}
+use Rattle.event_loop.specs.Prelude.{Event, owner_of, PollerCall, Exchanges, removes, Serves, Registry, Outcome, Nobody, To, Position, exchanges_of, is_removed, still_pending, events_of, IsFor, IsOutcome, AreDispatched}
 use Rattle.event_manager.specs.Projection.{owned_by, only_values, projected_registrations, projected_registry, is_to, receiver_of, asks_to_add, adds}
 use Rattle.std.proofs.lemmas.List.Elements.{All-nil, All-cons}
 use Rattle.dispatch_tables.proofs.DispatchOrders.{nil_cons, head_is, tail_is}

@@ -3,17 +3,13 @@ use Rattle.std.proofs.Common.{Ok, is_ok, ◌≡◌, ◌≢◌, ℕ, cond, Bool, 
 use Rattle.std.specs.FinMap.{get, insert, remove}
 use Rattle.std.proofs.lemmas.Bool.Decides.{nat_tests, eqb_tells}
 use Rattle.std.proofs.lemmas.List.Folds.{list_any-append}
-use Rattle.dispatch_tables.specs.Event.{Event}
-use Rattle.event_loop.specs.Registrations.{Registrations}
-use Rattle.event_loop.specs.PollerCall.{PollerCall}
-use Rattle.event_loop.specs.Exchange.{Answer, Exchanges, Fits, by_manager, by_poller, by_agreement, ExchangesFit, IsAdditionRefused, IsRefusedByManager, ReachesPoller, registrations_after, removes, is_removal}
-use Rattle.dispatch_tables.specs.Ownership.{Ownership, OwnerMap, owner_of}
-use Rattle.dispatch_tables.specs.declared.priority.Priority.{Priority}
-use Rattle.dispatch_tables.specs.declared.priority.Priority.TheVariants.{Lowest}
-use Rattle.event_loop.specs.Registry.{is_id}
-use Rattle.event_manager.specs.Projection.{owned_by, projected_registrations, is_add, asks_to_add, adds}
+use Rattle.event_loop.specs.Prelude.{Event, Registrations, PollerCall, Answer, Exchanges, Fits, by_manager, by_poller, by_agreement, ExchangesFit, IsRefusedByManager, ReachesPoller, registrations_after, removes, is_removal, Ownership, OwnerMap, owner_of, is_id}
 use Rattle.event_loop.specs.declared.events.Request.{Request}
 use Rattle.event_loop.specs.declared.events.Request.TheVariants.{Add, AddWithPriority, Modify, Remove}
+use Rattle.event_loop.specs.Exchange.{IsAdditionRefused}
+use Rattle.dispatch_tables.specs.declared.priority.Priority.{Priority}
+use Rattle.dispatch_tables.specs.declared.priority.Priority.TheVariants.{Lowest}
+use Rattle.event_manager.specs.Projection.{owned_by, projected_registrations, is_add, asks_to_add, adds}
 use Rattle.dispatch_tables.proofs.NumberTests.{fd_tells}
 use Rattle.dispatch_tables.proofs.Owning.{from_insert, from_remove, owner_id}
 use Rattle.event_manager.proofs.FiniteMaps.{get-owned_by, owner_of-owned_by, owned_by-insert_own, owned_by-insert_other, owned_by-remove, owned_by-remove_other, entered}

@@ -2,11 +2,7 @@
 use Rattle.std.proofs.Common.{◌≡◌, ◌≢◌, ℕ, ◌+◌, ◌<◌, ◌≤◌, ◌==◌, cond, Bool, true, false, not, refl, sym, ◌∙◌, ap, subst, arith, Some, None, Option, inl, inr, nat_cmp, List, [], true≢false, if◌then◌else◌, eq-eqb, eqb-true, le_of_eq}
 use Rattle.std.specs.FinMap.{FinMap, get}
 use Rattle.std.proofs.lemmas.Bool.Decides.{eqb_tells}
-use Rattle.dispatch_tables.specs.Ownership.{OwnerMap, owner_of}
-use Rattle.event_loop.specs.Registrations.{Registrations}
-use Rattle.event_loop.specs.PollerCall.{PollerCall}
-use Rattle.event_loop.specs.Exchange.{Exchanges, ExchangesFit, Begins}
-use Rattle.event_loop.specs.Registry.{Registry, Step, Joined, NotJoined, Left, Replaced, Requested, Refused, Steps, is_id, without_owner, ids_end}
+use Rattle.event_loop.specs.Prelude.{OwnerMap, owner_of, Registrations, PollerCall, Exchanges, ExchangesFit, Begins, Registry, Step, Joined, NotJoined, Left, Replaced, Requested, Refused, Steps, is_id, without_owner, ids_end}
 use Rattle.event_manager.specs.Projection.{only_values, projected_registrations, projected_registry, names, step_exchanges, asks_to_add, adds}
 use Rattle.event_loop.proofs.WithoutOwner.{owner_of-without_owner}
 use Rattle.event_manager.proofs.FiniteMaps.{get_only, owned_by-without_owner, owned_by-disowned_other, only_outcome-insert_own, only_outcome-insert_other, only_outcome-remove_own, only_outcome-remove_other}

@@ -1,14 +1,7 @@
 -- The projection of a trace is a trace: non-interference.
 use Rattle.std.proofs.Common.{◌≡◌, ◌≢◌, ℕ, ◌+◌, ◌≤◌, Bool, true, false, ◌||◌, refl, sym, ◌∙◌, ap, ap₂, subst, cond, map, filter, Some, None, Option, ◌⊎◌, inl, inr, List, [], ◌∷◌, true≢false, if◌then◌else◌, eq-eqb, eqb-true, le-ltb, le_of_eq, arith, Ok, Err, Result}
 use Rattle.std.proofs.lemmas.List.Elements.{All-nil, All-cons}
-use Rattle.dispatch_tables.specs.Event.{Event}
-use Rattle.event_loop.specs.Exchange.{Exchanges, Begins, Serves}
-use Rattle.event_loop.specs.Registrations.{Registrations, Owns}
-use Rattle.dispatch_tables.specs.Ownership.{owner_of, class_in}
-use Rattle.event_loop.specs.DispatchOrder.{IsDispatchOrder}
-use Rattle.event_loop.specs.Registry.{is_id, May}
-use Rattle.event_loop.specs.Dispatch.{Position, events_of}
-use Rattle.event_loop.specs.Iteration.{ManagerState, JobRun, IsIteration, AreRun}
+use Rattle.event_loop.specs.Prelude.{Event, Exchanges, Begins, Serves, Registrations, Owns, owner_of, class_in, IsDispatchOrder, is_id, May, Position, events_of, ManagerState, JobRun, IsIteration, AreRun}
 use Rattle.event_manager.specs.Trace.{Effect, Stepped, Iterated, Entry, Matches, HasEffect, IsTrace}
 use Rattle.event_manager.specs.Projection.{projected_registrations, projected_registry, projected_state, effect_exchanges, exchanges_in, asks_to_add, adds, stays, names, seen_of, seen_in, IsOnly, IsProjection, projected_next, NonInterference}
 use Rattle.vmm_sys.specs.declared.errno.Errno.{Errno}

@@ -5,10 +5,7 @@ use base.Stored.{Gv}
 use Rattle.vmm_sys.specs.Poller.{CtlRelation, WaitRelation}
 use Rattle.vmm_sys.specs.Recording.{Recording}
 use Rattle.vmm_sys.specs.Replay.{Replay}
-use Rattle.event_loop.specs.Exchange.{Begins, Serves}
-use Rattle.event_loop.specs.Registry.{May}
-use Rattle.event_loop.specs.LoopState.{LoopState, manager_state}
-use Rattle.event_loop.specs.PollerCall.{Leads}
+use Rattle.event_loop.specs.Prelude.{Begins, Serves, May, LoopState, manager_state, Leads}
 use Rattle.event_manager.specs.Trace.{Entry, IsTrace, calls_of_trace}
 use Rattle.event_manager.specs.Determinism.{AreFunctions, IsTheRun}
 use Rattle.event_manager.specs.RecordedRun.{BeginsAgain, IsMadeAgain}

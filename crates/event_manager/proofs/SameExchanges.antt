@@ -2,14 +2,11 @@
 use Rattle.std.proofs.Common.{◌≡◌, ◌≢◌, ℕ, ℤ, refl, sym, ap, subst, ◌∙◌, List, [], ◌∷◌, ◌++◌, map, append_assoc, arith, Ok, Err}
 use Rattle.std.proofs.lemmas.List.{append_cancel_left, map-append}
 use Rattle.std.proofs.lemmas.List.Elements.{Contains-append_left, Contains-append_right}
-use Rattle.dispatch_tables.specs.Event.{Event}
-use Rattle.event_loop.specs.PollerCall.{PollerCall, Control, Wait}
-use Rattle.event_loop.specs.Registrations.{Registrations, IsFree}
-use Rattle.event_loop.specs.Exchange.{Exchanges, Answer, refused, requests_of, answers_of, call_for, IsAdditionRefused, IsRefusedByManager, ReachesPoller}
-use Rattle.event_loop.specs.Exchange.{Fits, by_manager, by_poller, by_agreement, ExchangesFit}
-use Rattle.event_loop.specs.declared.error.Error.TheVariants.{OutOfMemory}
+use Rattle.event_loop.specs.Prelude.{Event, PollerCall, Control, Wait, Registrations, IsFree, Exchanges, Answer, refused, requests_of, answers_of, call_for, IsRefusedByManager, ReachesPoller, Fits, by_manager, by_poller, by_agreement, ExchangesFit}
 use Rattle.event_loop.specs.declared.events.Request.{Request}
 use Rattle.event_loop.specs.declared.events.Request.TheVariants.{Add, AddWithPriority, Modify, Remove}
+use Rattle.event_loop.specs.Exchange.{IsAdditionRefused}
+use Rattle.event_loop.specs.declared.error.Error.TheVariants.{OutOfMemory}
 use Rattle.vmm_sys.specs.declared.errno.Errno.{Errno}
 use Rattle.event_manager.specs.Determinism.{AskAlike, HaveMemory}
 use Rattle.event_loop.proofs.Releasing.{empty_event}

@@ -6,12 +6,7 @@ use Rattle.std.specs.Cmp.{nat_eq_equiv}
 use Rattle.std.specs.FinMap.{insert}
 use Rattle.std.proofs.lemmas.Bool.Decides.{Decides-eqb}
 use Rattle.std.proofs.lemmas.Map.Made.{length-le_from_is_member, is_member-Decides, IsDistinct-from_AllPairs}
-use Rattle.event_loop.specs.PollerCall.{PollerCall, Control}
-use Rattle.event_loop.specs.Registrations.{Registrations}
-use Rattle.event_loop.specs.Exchange.{Exchanges, ExchangesFit, answers_of, Begins}
-use Rattle.event_loop.specs.Registry.{Registry, Step, Joined, NotJoined, Left, Replaced, Requested, Refused}
-use Rattle.event_loop.specs.Registry.{Steps, AreDeletes, AreOwnedBy, ids_end, calls_of}
-use Rattle.event_loop.specs.Iteration.{AllSteps}
+use Rattle.event_loop.specs.Prelude.{PollerCall, Control, Registrations, Exchanges, ExchangesFit, answers_of, Begins, Registry, Step, Joined, NotJoined, Left, Replaced, Requested, Refused, Steps, AreDeletes, AreOwnedBy, ids_end, calls_of, AllSteps}
 use Rattle.event_loop.specs.declared.error.Error.{Error}
 use Rattle.event_loop.specs.declared.error.Error.TheVariants.{OutOfMemory, IdsUsedUp}
 use Rattle.vmm_sys.specs.declared.errno.Errno.{Errno}

@@ -2,14 +2,8 @@
 use Rattle.std.proofs.Common.{◌≡◌, ℕ, ◌+◌, ℤ, refl, sym, ap, subst, ◌∙◌, Some, None, Option, List, [], ◌∷◌, ◌++◌, map, Ok, Err, Result}
 use Rattle.std.specs.List.{AllZip, flat_map}
 use Rattle.std.specs.FinMap.{insert}
-use Rattle.dispatch_tables.specs.Event.{Event}
+use Rattle.event_loop.specs.Prelude.{Event, PollerCall, Wait, Exchanges, answers_of, Begins, Serves, Registry, Joined, NotJoined, Left, Replaced, Requested, Refused, calls_of, May, Outcome, Nobody, To, Position, IsOutcome, AreDispatched, events_of, exchanges_of, still_pending, ManagerState, JobRun, AreRun, IsIteration, calls_of_outcome, calls_of_positions, calls_of_jobs, class_in}
 use Rattle.dispatch_tables.proofs.DispatchOrders.{head_is, tail_is, one_order}
-use Rattle.event_loop.specs.PollerCall.{PollerCall, Wait}
-use Rattle.event_loop.specs.Exchange.{Exchanges, answers_of, Begins, Serves}
-use Rattle.event_loop.specs.Registry.{Registry, Joined, NotJoined, Left, Replaced, Requested, Refused, calls_of, May}
-use Rattle.event_loop.specs.Dispatch.{Outcome, Nobody, To, Position, IsOutcome, AreDispatched, events_of, exchanges_of, still_pending}
-use Rattle.event_loop.specs.Iteration.{ManagerState, JobRun, AreRun, IsIteration}
-use Rattle.event_loop.specs.Iteration.{calls_of_outcome, calls_of_positions, calls_of_jobs}
 use Rattle.vmm_sys.specs.declared.errno.Errno.{Errno}
 use Rattle.event_manager.specs.Trace.{Effect, Stepped, Iterated, Entry, Matches, HasEffect, IsTrace, calls_of_effect, calls_of_trace}
 use Rattle.event_manager.specs.Determinism.{Asked, IsFunction, AreFunctions, IsSameCall, IsSameReply, IsReplay, IsTheRun}
@@ -20,7 +14,6 @@ use Rattle.event_manager.specs.declared.calls.Call.TheVariants as call
 use Rattle.event_manager.specs.declared.calls.Reply.{Reply}
 use Rattle.event_manager.proofs.SameExchanges.{AreSameCalls, eventless, memory_first, memory_then, in_parts, behind_same, exchanges_alike}
 use Rattle.event_manager.proofs.SameSteps.{asked_by, same_asked, asked_for, asked_alike, step_alike, steps_alike}
-use Rattle.dispatch_tables.specs.Ownership.{class_in}
 
 module _ {V : Type 0} (serves : Serves V) where
   abbrev DecidesAnswers : Type 0

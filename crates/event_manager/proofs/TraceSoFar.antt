@@ -3,16 +3,12 @@ use Rattle.std.proofs.Common.{◌≡◌, ℕ, ℤ, List, [], ◌∷◌, ◌++◌
 use Rattle.std.proofs.lemmas.List.{append-nil, map-append}
 use Rattle.std.proofs.lemmas.List.Concat.{flat_map-append}
 use Rattle.std.specs.declared.alloc.Global.{Global}
-use Rattle.event_loop.specs.PollerCall.{Controls, Waits, Leads}
-use Rattle.event_loop.specs.Exchange.{Answer, Begins, Serves}
-use Rattle.event_loop.specs.Registry.{Step, AreBelow, May}
-use Rattle.event_loop.specs.Iteration.{ManagerState}
-use Rattle.event_loop.specs.LoopState.{LoopState, HasStepped, IsJoin, IsLeave, IsLoopIteration, manager_state}
+use Rattle.event_loop.specs.Prelude.{Controls, Waits, Leads, Answer, Begins, Serves, Step, AreBelow, May, ManagerState, LoopState, HasStepped, IsJoin, IsLeave, IsLoopIteration, manager_state}
+use Rattle.event_loop.specs.declared.error.Error.{Error}
+use Rattle.event_loop.specs.declared.events.Request.{Request}
 use Rattle.event_manager.specs.Trace.{Effect, Stepped, Iterated, Entry, Matches, IsTrace, calls_of_effect, calls_of_trace}
 use Rattle.event_manager.specs.SingleCall.{IsAsk, IsReplacement, HasCalled}
 use Rattle.event_manager.specs.Driven.{IsGuaranteed, IsTraceOf, IsDriven}
-use Rattle.event_loop.specs.declared.error.Error.{Error}
-use Rattle.event_loop.specs.declared.events.Request.{Request}
 use Rattle.event_manager.specs.declared.calls.Call.{Call}
 use Rattle.event_manager.specs.declared.calls.Call.TheVariants as call
 use Rattle.event_manager.specs.declared.calls.Reply.{Reply}

@@ -1,9 +1,7 @@
 -- What was removed is unknown: by the replies of a trace.
 use Rattle.std.proofs.Common.{◌≡◌, ℕ, List, [], ◌∷◌, ◌++◌, refl, sym, subst, ◌∙◌, map, Ok, Err}
 use Rattle.std.specs.List.{AllZip}
-use Rattle.event_loop.specs.Exchange.{Begins, Serves}
-use Rattle.event_loop.specs.Registry.{Step, Joined, NotJoined, Left, Replaced, Requested, Refused, May}
-use Rattle.event_loop.specs.Iteration.{ManagerState}
+use Rattle.event_loop.specs.Prelude.{Begins, Serves, Step, Joined, NotJoined, Left, Replaced, Requested, Refused, May, ManagerState}
 use Rattle.event_manager.specs.Trace.{Effect, Stepped, Iterated, Entry, Matches, IsTrace}
 use Rattle.event_manager.specs.Guarantees.{AreRefusedTo, RemovedStayGone, IsUnknown, RemovedStayUnknown, steps_of, steps_of_effect}
 use Rattle.event_loop.specs.declared.error.Error.TheVariants.{InvalidId}

@@ -1,6 +1,6 @@
 -- A job for one subscriber.
 use Rattle.std.specs.Prelude.{◌≡◌, ℕ, List, [], ◌∷◌, Result, Ok, Err}
-use Rattle.event_loop.specs.Registry.{Step, Replaced, Refused}
+use Rattle.event_loop.specs.Prelude.{Step, Replaced, Refused}
 use Rattle.event_loop.specs.declared.error.Error.{Error}
 use Rattle.event_loop.specs.declared.error.Error.TheVariants.{InvalidId}
 

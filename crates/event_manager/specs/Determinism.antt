@@ -1,11 +1,7 @@
 -- A replay is the run: of subscribers and jobs that are functions, the calls, the jobs and the poller decide all that happens.
 use Rattle.std.specs.Prelude.{◌≡◌, ℕ, List, [], ◌∷◌, ◌++◌, ◌⊎◌, map, Contains, Ok, Err}
 use Rattle.std.specs.List.{AllZip, flat_map}
-use Rattle.dispatch_tables.specs.Event.{Event}
-use Rattle.event_loop.specs.Exchange.{Exchanges, Answer, answers_of, Begins, Serves}
-use Rattle.event_loop.specs.Registry.{Step, Joined, NotJoined, Left, Replaced, Requested, Refused, May}
-use Rattle.event_loop.specs.Dispatch.{Position, exchanges_of}
-use Rattle.event_loop.specs.Iteration.{ManagerState, JobRun}
+use Rattle.event_loop.specs.Prelude.{Event, Exchanges, Answer, answers_of, Begins, Serves, Step, Joined, NotJoined, Left, Replaced, Requested, Refused, May, Position, exchanges_of, ManagerState, JobRun}
 use Rattle.event_loop.specs.declared.error.Error.TheVariants.{OutOfMemory}
 use Rattle.event_manager.specs.Trace.{Effect, Stepped, Iterated, Entry, calls_of_trace}
 use Rattle.event_manager.specs.declared.calls.Call.{Call}

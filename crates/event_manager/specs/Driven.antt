@@ -1,12 +1,6 @@
 -- What `drive` promises: the calls with their replies are a trace, and the guarantees hold of that trace.
 use Rattle.std.specs.Prelude.{◌≡◌, ℕ, false, List, map}
-use Rattle.dispatch_tables.specs.Event.{Event}
-use Rattle.event_loop.specs.PollerCall.{PollerCall, Controls, Waits, Leads}
-use Rattle.event_loop.specs.Exchange.{Begins, Serves}
-use Rattle.event_loop.specs.Registry.{Registry, Step, Steps, AreBelow, Left, May}
-use Rattle.event_loop.specs.Dispatch.{Position, Outcome, IsOutcome, still_pending}
-use Rattle.event_loop.specs.Iteration.{ManagerState}
-use Rattle.event_loop.specs.LoopState.{LoopState, manager_state}
+use Rattle.event_loop.specs.Prelude.{Event, PollerCall, Controls, Waits, Leads, Begins, Serves, Registry, Step, Steps, AreBelow, Left, May, Position, Outcome, IsOutcome, still_pending, ManagerState, LoopState, manager_state}
 use Rattle.event_manager.specs.Trace.{Entry, IsTrace, calls_of_trace}
 use Rattle.event_manager.specs.Projection.{NonInterference, names, is_to}
 use Rattle.event_manager.specs.Guarantees.{IsSound, AreGiven, RemovedStayGone, IsUntouched, FreesExactly, steps_of}

@@ -1,11 +1,8 @@
 -- A repeated report: subscriber 1 owns descriptor 3; at the first event it removes and adds it, and the second event goes to nobody.
 use Rattle.std.specs.Prelude.{ℕ, negsuc, List, [], ◌∷◌, Ok}
-use Rattle.dispatch_tables.specs.Event.{Event}
-use Rattle.event_loop.specs.Exchange.{Exchanges, call_for}
-use Rattle.event_loop.specs.Registry.{Joined, Step}
-use Rattle.event_loop.specs.Dispatch.{To, Nobody}
-use Rattle.event_manager.specs.Trace.{Effect, Stepped, Iterated}
+use Rattle.event_loop.specs.Prelude.{Event, Exchanges, call_for, Joined, Step, To, Nobody}
 use Rattle.event_loop.specs.declared.events.Request.TheVariants.{Add, Remove}
+use Rattle.event_manager.specs.Trace.{Effect, Stepped, Iterated}
 
 abbrev pub three : Event
 three = record { fd = 3; payload = 0; set = 1 }

@@ -2,10 +2,7 @@
 use Rattle.std.specs.Prelude.{◌≡◌, ◌≢◌, ℕ, ◌+◌, List, [], ◌∷◌, filter, None, IfSome, if◌then◌else◌, Ok, Err}
 use Rattle.std.specs.List.{AllZip, flat_map}
 use Rattle.std.specs.FinMap as map
-use Rattle.dispatch_tables.specs.Event.{Event}
-use Rattle.dispatch_tables.specs.Ownership.{owner_of}
-use Rattle.event_loop.specs.Registrations.{Registrations, Owns, IsFree}
-use Rattle.event_loop.specs.Registry.{Registry, Step, Joined, Left, Refused, HasId, is_id, id_of}
+use Rattle.event_loop.specs.Prelude.{Event, owner_of, Registrations, Owns, IsFree, Registry, Step, Joined, Left, Refused, HasId, is_id, id_of}
 use Rattle.event_loop.specs.declared.error.Error.TheVariants.{InvalidId}
 use Rattle.event_manager.specs.Trace.{Effect, Stepped, Iterated, Entry}
 use Rattle.event_manager.specs.Projection.{owned_by}

@@ -1,10 +1,6 @@
 -- Jobs that ran on a registry of the program.
 use Rattle.std.specs.Prelude.{◌≡◌, ℕ, List, map}
-use Rattle.event_loop.specs.PollerCall.{Controls, Waits, Leads}
-use Rattle.event_loop.specs.Exchange.{Begins, Serves}
-use Rattle.event_loop.specs.Registry.{Step, May}
-use Rattle.event_loop.specs.Iteration.{JobRun, AreRun, calls_of_jobs}
-use Rattle.event_loop.specs.LoopState.{LoopState, HaveStepped}
+use Rattle.event_loop.specs.Prelude.{Controls, Waits, Leads, Begins, Serves, Step, May, JobRun, AreRun, calls_of_jobs, LoopState, HaveStepped}
 use Rattle.event_manager.specs.declared.jobs.queue.Entry.{Entry}
 
 -- how many jobs ran, and what was taken and didn't run

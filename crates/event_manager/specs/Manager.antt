@@ -1,12 +1,10 @@
 -- A manager, seen by the definitions, and how one is made.
 use Rattle.std.specs.Prelude.{◌≡◌, ℕ, ◌<◌, ◌≤◌, ℤ, unsigned_abs, Result, Ok, Err}
 use Rattle.vmm_sys.specs.declared.entries.ControlOperation.TheVariants as operation
-use Rattle.dispatch_tables.specs.Event.{Event}
-use Rattle.event_loop.specs.PollerCall.{Controls}
-use Rattle.event_loop.specs.LoopState.{LoopState, new_loop}
+use Rattle.event_loop.specs.Prelude.{Event, Controls, LoopState, new_loop}
+use Rattle.event_loop.specs.declared.error.Error.{Error}
 use Rattle.event_loop.specs.Subscribers.{loop_state}
 use Rattle.event_loop.specs.EventLoop.{max_capacity}
-use Rattle.event_loop.specs.declared.error.Error.{Error}
 use Rattle.event_loop.specs.declared.error.Error.TheVariants.{ChannelSend, ChannelRecv, Epoll, FdAlreadyRegistered, InvalidId, InvalidCapacity, OutOfMemory, IdsUsedUp, TicketsUsedUp}
 use Rattle.event_loop.specs.declared.error.Error.TheVariants as error
 use Rattle.event_manager.specs.declared.manager.EventManager.{EventManager}

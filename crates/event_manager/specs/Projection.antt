@@ -3,15 +3,9 @@ use Rattle.std.specs.Prelude.{◌≡◌, ◌≢◌, ℕ, nat_lt, ◌==◌, Bool,
 use Rattle.std.specs.List.{list_any, flat_map}
 use Rattle.std.specs.FinMap as finite
 use Rattle.std.specs.Ordering.{nat_cmp}
-use Rattle.dispatch_tables.specs.Event.{Event}
-use Rattle.dispatch_tables.specs.Ownership.{OwnerMap, owner_of}
-use Rattle.event_loop.specs.Registrations.{Registrations, Owns}
-use Rattle.event_loop.specs.Exchange.{Exchanges, event_of, added, Begins, Serves}
-use Rattle.event_loop.specs.Registry.{Registry, Step, Joined, Requested, is_id, id_of, May}
-use Rattle.event_loop.specs.Dispatch.{Outcome, Nobody, To, exchanges_of}
-use Rattle.event_loop.specs.Iteration.{ManagerState}
-use Rattle.event_manager.specs.Trace.{Effect, Stepped, Iterated, Entry, IsTrace}
+use Rattle.event_loop.specs.Prelude.{Event, OwnerMap, owner_of, Registrations, Owns, Exchanges, event_of, added, Begins, Serves, Registry, Step, Joined, Requested, is_id, id_of, May, Outcome, Nobody, To, exchanges_of, ManagerState}
 use Rattle.event_loop.specs.declared.events.Request.{Request}
+use Rattle.event_manager.specs.Trace.{Effect, Stepped, Iterated, Entry, IsTrace}
 
 -- only the descriptors of id i
 abbrev pub owned_by : ℕ → OwnerMap → OwnerMap

@@ -1,14 +1,11 @@
 -- What one call of a list did.
 use Rattle.std.specs.Prelude.{◌≡◌, ℕ, List, vec_len, Vec, Result, Ok, Err}
 use Rattle.std.specs.declared.alloc.Global.{Global}
-use Rattle.event_loop.specs.PollerCall.{PollerCall, Controls, Waits, Leads}
-use Rattle.event_loop.specs.Exchange.{Exchanges, Answer, requests_of, answers_of, Begins, Serves}
-use Rattle.event_loop.specs.Registry.{Step, Requested, Replaced, Refused, May}
-use Rattle.event_loop.specs.LoopState.{LoopState, manager_state}
-use Rattle.event_manager.specs.Trace.{Effect, HasEffect, calls_of_effect}
+use Rattle.event_loop.specs.Prelude.{PollerCall, Controls, Waits, Leads, Exchanges, Answer, requests_of, answers_of, Begins, Serves, Step, Requested, Replaced, Refused, May, LoopState, manager_state}
 use Rattle.event_loop.specs.declared.error.Error.{Error}
-use Rattle.event_loop.specs.declared.error.Error.TheVariants.{InvalidId}
 use Rattle.event_loop.specs.declared.events.Request.{Request}
+use Rattle.event_manager.specs.Trace.{Effect, HasEffect, calls_of_effect}
+use Rattle.event_loop.specs.declared.error.Error.TheVariants.{InvalidId}
 use Rattle.event_manager.specs.declared.calls.Call.{Call}
 use Rattle.event_manager.specs.declared.calls.Call.TheVariants.{Add, Remove, Set, Ask, Run}
 

@@ -2,12 +2,9 @@
 use Rattle.std.specs.Prelude.{◌≡◌, ℕ, List, [], ◌∷◌, Ok, Err, Vec}
 use Rattle.std.specs.List.{flat_map}
 use Rattle.std.specs.declared.alloc.Global.{Global}
-use Rattle.event_loop.specs.PollerCall.{PollerCall}
-use Rattle.event_loop.specs.Exchange.{Answer, requests_of, answers_of, Begins, Serves}
-use Rattle.event_loop.specs.Registry.{Step, Steps, Joined, NotJoined, Left, Replaced, Requested, Refused, calls_of, new_registry, May}
-use Rattle.event_loop.specs.Iteration.{ManagerState, Iteration, IsIteration, answer_of, calls_of_iteration}
-use Rattle.event_loop.specs.declared.error.Error.TheVariants.{InvalidId}
+use Rattle.event_loop.specs.Prelude.{PollerCall, Answer, requests_of, answers_of, Begins, Serves, Step, Steps, Joined, NotJoined, Left, Replaced, Requested, Refused, calls_of, new_registry, May, ManagerState, Iteration, IsIteration, answer_of, calls_of_iteration}
 use Rattle.event_loop.specs.declared.events.Request.{Request}
+use Rattle.event_loop.specs.declared.error.Error.TheVariants.{InvalidId}
 use Rattle.event_manager.specs.declared.calls.Call.{Call}
 use Rattle.event_manager.specs.declared.calls.Call.TheVariants as call
 use Rattle.event_manager.specs.declared.calls.Reply.{Reply}

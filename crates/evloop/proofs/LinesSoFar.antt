@@ -4,6 +4,7 @@ use Rattle.std.proofs.lemmas.List.{append-nil, map-append}
 use Rattle.std.specs.Result.{IsErr}
 use Rattle.event_manager.specs.declared.calls.Call.{Call}
 use Rattle.event_manager.specs.declared.calls.Reply.{Reply}
+use Rattle.event_manager.specs.Prelude.{LoopState, Controls, Waits, Step}
 use Rattle.event_manager.specs.Error.{Error}
 use Rattle.event_manager.specs.Error.TheVariants.{InvalidId}
 use Rattle.std.specs.Option.{IfSome}
@@ -12,9 +13,6 @@ use Rattle.evloop_script.specs.Printed.{line_text, Prints}
 use Rattle.evloop_script.specs.Scripted.{script_begins, script_serves}
 use Rattle.evloop_script.specs.declared.fault.Fault.TheVariants.{OutOfMemory}
 use Rattle.evloop_script.specs.declared.output.OutputLine.{OutputLine}
-use Rattle.event_manager.specs.LoopState.{LoopState}
-use Rattle.event_manager.specs.PollerCall.{Controls, Waits}
-use Rattle.event_manager.specs.Registry.{Step}
 use Rattle.event_manager.proofs.TraceSoFar.{lists_join}
 use Rattle.evloop_script.specs.declared.fault.Fault.{Fault}
 use Rattle.evloop_script.specs.declared.reactions.Reactions.{Reactions}

@@ -6,16 +6,9 @@ use Rattle.event_manager.specs.declared.calls.Call.TheVariants.{Remove, Set, Ask
 use Rattle.event_manager.specs.declared.calls.Reply.{Reply}
 use Rattle.event_manager.specs.Error.TheVariants.{InvalidId}
 use Rattle.event_manager.specs.Driven.{IsDriven}
-use Rattle.event_manager.specs.Event.{Event}
-use Rattle.event_manager.specs.Exchange.{Exchanges}
-use Rattle.event_manager.specs.Iteration.{ManagerState, answer_of}
-use Rattle.event_manager.specs.LoopState.{LoopState, manager_state}
-use Rattle.event_manager.specs.PollerCall.{Controls, Waits}
-use Rattle.event_manager.specs.Registry.{Step, Joined, NotJoined, Left, Replaced, Requested, Refused}
+use Rattle.event_manager.specs.Prelude.{Event, Exchanges, ManagerState, answer_of, LoopState, manager_state, Controls, Waits, Step, Joined, NotJoined, Left, Replaced, Requested, Refused, Begins, Serves, May}
 use Rattle.event_manager.specs.Trace.{Effect, Stepped, Iterated, Entry, Matches, IsTrace}
 use Rattle.evloop.specs.Replies.{IsReplyTo}
-use Rattle.event_loop.specs.Exchange.{Begins, Serves}
-use Rattle.event_loop.specs.Registry.{May}
 
 is_of_call : {S : Type 0} {call other : Call S} (reply : Reply S) → call ≡ other → IsReplyTo other reply → IsReplyTo call reply
 is_of_call reply same is = subst (λ c. IsReplyTo c reply) (sym same) is

@@ -8,12 +8,9 @@ use Rattle.event_manager.specs.declared.calls.Call.TheVariants as call
 use Rattle.event_manager.specs.declared.calls.Reply.{Reply}
 use Rattle.event_manager.specs.declared.calls.Reply.TheVariants as reply
 use Rattle.event_manager.specs.Driven.{IsDriven}
+use Rattle.event_manager.specs.Prelude.{Answer, LoopState, Controls, Waits, Step}
 use Rattle.event_manager.specs.Error.{Error}
 use Rattle.event_manager.specs.Error.TheVariants.{InvalidId}
-use Rattle.event_manager.specs.Exchange.{Answer}
-use Rattle.event_manager.specs.LoopState.{LoopState}
-use Rattle.event_manager.specs.PollerCall.{Controls, Waits}
-use Rattle.event_manager.specs.Registry.{Step}
 use Rattle.evloop_script.specs.Coming.{coming}
 use Rattle.evloop_script.specs.Printed.{Prints}
 use Rattle.evloop_script.specs.Scripted.{script_begins, script_serves}

@@ -5,8 +5,8 @@ use Rattle.event_manager.specs.declared.calls.Call.{Call}
 use Rattle.event_manager.specs.declared.calls.Call.TheVariants as call
 use Rattle.event_manager.specs.declared.calls.Reply.{Reply}
 use Rattle.event_manager.specs.declared.calls.Reply.TheVariants as reply
+use Rattle.event_manager.specs.Prelude.{Answer}
 use Rattle.event_manager.specs.Error.{Error}
-use Rattle.event_manager.specs.Exchange.{Answer}
 
 -- a reply of the kind that such a call has
 abbrev pub IsReplyTo : {S : Type 0} → Call S → Reply S → Type 0

@@ -7,14 +7,9 @@ use Rattle.std.specs.List.{AllZip}
 use Rattle.std.specs.FinMap.{get-empty}
 use Rattle.std.proofs.Math.ListN.{replicate}
 use Rattle.std.proofs.lemmas.List.Elements.{Contains-push_cases}
-use Rattle.event_manager.specs.Event.{Event}
-use Rattle.event_manager.specs.PollerCall.{Controls, Waits}
-use Rattle.event_manager.specs.Exchange.{Exchanges, Answer, answers_of}
-use Rattle.event_manager.specs.Registry.{HasId, new_registry}
-use Rattle.event_manager.specs.Iteration.{ManagerState}
+use Rattle.event_manager.specs.Prelude.{Event, Controls, Waits, Exchanges, Answer, answers_of, HasId, new_registry, ManagerState, LoopState, new_loop, no_descriptor, manager_state}
 use Rattle.event_manager.specs.Request.TheVariants.{Remove}
 use Rattle.event_manager.specs.Request.TheVariants as request
-use Rattle.event_manager.specs.LoopState.{LoopState, new_loop, no_descriptor, manager_state}
 use Rattle.event_manager.specs.Determinism.{HaveMemory, answers_in}
 use Rattle.event_manager.specs.Error.TheVariants.{OutOfMemory}
 use Rattle.event_manager.specs.declared.calls.Call.TheVariants.{Run}

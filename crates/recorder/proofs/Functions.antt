@@ -2,8 +2,7 @@
 use Rattle.std.proofs.Common.{◌≡◌, ◌==◌, Bool, true, false, [], ◌∷◌, Option, Some, None, refl, sym, ap, ◌∙◌, bit_and}
 use Rattle.std.specs.Bool.{MatchBool}
 use Rattle.std.specs.Option.{MatchOption}
-use Rattle.event_manager.specs.Event.{Event}
-use Rattle.event_manager.specs.Exchange.{Answer, Exchanges}
+use Rattle.event_manager.specs.Prelude.{Event, Answer, Exchanges}
 use Rattle.event_manager.specs.Request.{Request}
 use Rattle.event_manager.specs.Request.TheVariants.{Add, Remove}
 use Rattle.event_manager.specs.Determinism.{AskAlike, IsFunction}

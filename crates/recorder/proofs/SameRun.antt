@@ -6,10 +6,7 @@ use Rattle.vmm_sys.specs.Replay.{Replay, start_of, divergence_index}
 use Rattle.vmm_sys.specs.declared.record.RecordEntry.{RecordEntry}
 use Rattle.poller_records.specs.Held.{IsEntry}
 use Rattle.poller_records.specs.Lines.{text_of}
-use Rattle.event_manager.specs.PollerCall.{Controls, Waits}
-use Rattle.event_manager.specs.Registry.{Registry, HasId}
-use Rattle.event_manager.specs.Iteration.{ManagerState}
-use Rattle.event_manager.specs.LoopState.{LoopState, new_loop, no_descriptor, no_job, manager_state}
+use Rattle.event_manager.specs.Prelude.{Controls, Waits, Registry, HasId, ManagerState, LoopState, new_loop, no_descriptor, no_job, manager_state}
 use Rattle.event_manager.specs.Trace.{Entry}
 use Rattle.event_manager.specs.Driven.{IsTraceOf}
 use Rattle.event_manager.specs.Determinism.{AreFunctions, IsSameReply, IsTheRun}

@@ -1,7 +1,6 @@
 -- What a device does: its value and what it is answered decide what it asks for, and all of its value after.
 use Rattle.std.specs.Prelude.{◌≡◌, ◌+◌, ◌==◌, ℕ, min, true, [], ◌∷◌, Ok, Err, None, MatchBool, MatchOption, bit_and, if◌then◌else◌}
-use Rattle.event_manager.specs.Event.{Event}
-use Rattle.event_manager.specs.Exchange.{Answer, Exchanges}
+use Rattle.event_manager.specs.Prelude.{Event, Answer, Exchanges}
 use Rattle.event_manager.specs.Request.TheVariants.{Add, Remove}
 use Rattle.recorder.specs.declared.device.Device.{Device}
 

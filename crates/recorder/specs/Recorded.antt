@@ -1,8 +1,7 @@
 -- A recorded run and its replay.
 use Rattle.std.specs.Prelude.{◌≡◌, ℕ, true, List, [], All}
 use Rattle.vmm_sys.specs.Recording.{Recording}
-use Rattle.event_manager.specs.PollerCall.{Controls, Waits}
-use Rattle.event_manager.specs.LoopState.{LoopState, new_loop, no_descriptor}
+use Rattle.event_manager.specs.Prelude.{Controls, Waits, LoopState, new_loop, no_descriptor}
 use Rattle.poller_records.specs.Held.{IsEntry}
 use Rattle.poller_records.specs.Lines.{text_of}
 use Rattle.recorder.specs.Run.{IsRun}

@@ -1,9 +1,7 @@
 -- What a run does and tells.
 use Rattle.std.specs.Prelude.{◌≡◌, ℕ, pos, map, List, ◌∷◌, Ok}
 use Rattle.std.proofs.Math.ListN.{replicate}
-use Rattle.event_manager.specs.PollerCall.{Controls, Waits}
-use Rattle.event_manager.specs.Registry.{HasId}
-use Rattle.event_manager.specs.LoopState.{LoopState, no_job}
+use Rattle.event_manager.specs.Prelude.{Controls, Waits, HasId, LoopState, no_job}
 use Rattle.event_manager.specs.Trace.{Entry}
 use Rattle.event_manager.specs.Driven.{IsTraceOf}
 use Rattle.event_manager.specs.declared.calls.Call.{Call}

@@ -1,11 +1,11 @@
 use Rattle.std.proofs.Common.{◌≡◌, ℕ, List, [], ◌∷◌, ◌++◌, refl, ap, ◌∙◌, Vec, Result, Err}
 use Rattle.std.proofs.lemmas.Result.{on_ok_weaker}
 use Rattle.std.specs.declared.alloc.Global.{Global}
-use Rattle.event_manager.specs.LoopState.{LoopState}
-use Rattle.event_manager.specs.Driven.{IsDriven}
+use Rattle.event_manager.specs.Prelude.{LoopState}
 use Rattle.event_manager.specs.Error.{Error}
-use Rattle.event_manager.specs.Error.TheVariants.{InvalidId}
 use Rattle.event_manager.specs.Request.{Request}
+use Rattle.event_manager.specs.Driven.{IsDriven}
+use Rattle.event_manager.specs.Error.TheVariants.{InvalidId}
 use Rattle.event_manager.specs.declared.calls.Call.{Call}
 use Rattle.event_manager.specs.declared.calls.Call.TheVariants.{Remove, Ask}
 use Rattle.event_manager.specs.declared.calls.Reply.{Reply}

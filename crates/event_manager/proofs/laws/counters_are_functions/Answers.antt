@@ -1,12 +1,11 @@
 use Rattle.std.proofs.Common.{◌≡◌, refl, sym, ap, ◌∙◌, [], ◌∷◌, inl, inr}
 use Rattle.std.proofs.lemmas.Bool.Decides.{eqb_tells}
-use Rattle.dispatch_tables.specs.Event.{Event}
-use Rattle.dispatch_tables.proofs.DispatchOrders.{head_is}
-use Rattle.event_loop.specs.Exchange.{Exchanges, Answer}
-use Rattle.event_loop.specs.CounterEvents.{event_on, one_more, with_error, with_spurious, with_fault, with_hang_up}
-use Rattle.event_loop.specs.CounterSubscribers.{counter_begins, counter_serves}
+use Rattle.event_loop.specs.Prelude.{Event, Exchanges, Answer}
 use Rattle.event_loop.specs.declared.events.Request.{Request}
 use Rattle.event_loop.specs.declared.events.Request.TheVariants.{Add, Remove}
+use Rattle.dispatch_tables.proofs.DispatchOrders.{head_is}
+use Rattle.event_loop.specs.CounterEvents.{event_on, one_more, with_error, with_spurious, with_fault, with_hang_up}
+use Rattle.event_loop.specs.CounterSubscribers.{counter_begins, counter_serves}
 use Rattle.event_manager.specs.Determinism.{AskAlike, IsFunction}
 use Rattle.event_manager.proofs.laws.counters_are_functions.Goals as goal
 

@@ -1,7 +1,5 @@
 use Rattle.std.proofs.Common.{◌≡◌, List}
-use Rattle.event_manager.specs.Exchange.{Exchanges}
-use Rattle.event_manager.specs.PollerCall.{PollerCall}
-use Rattle.event_manager.specs.Requests.{AreMadeThrough}
+use Rattle.event_manager.specs.Prelude.{Exchanges, PollerCall, AreMadeThrough}
 use Rattle.bench.proofs.subscribers.CounterMutEventSubscriber.init.Given as goal
 
 abbrev pub invariant-loop-k : goal.invariant-loop-k

@@ -1,10 +1,8 @@
 use Rattle.std.proofs.Common.{refl, inr, ap, ◌∙◌, [], ◌∷◌, Ok, Err}
 use Rattle.vmm_sys.specs.declared.entries.ControlOperation.TheVariants as operation
-use Rattle.event_loop.specs.Exchange.{by_manager, by_poller, by_agreement}
-use Rattle.event_loop.specs.PollerCall.{Control}
+use Rattle.event_loop.specs.Prelude.{by_manager, by_poller, by_agreement, Control, owner_of}
 use Rattle.event_loop.specs.declared.events.Request.TheVariants.{AddWithPriority}
 use Rattle.std.specs.FinMap.{remove}
-use Rattle.dispatch_tables.specs.Ownership.{owner_of}
 use Rattle.dispatch_tables.proofs.MapEntries.{remove_insert, get_same}
 use Rattle.event_loop.proofs.ExchangeLemmas.{one_made_through, kept, refused_by_manager, cancel_removed_other}
 use Rattle.event_loop.specs.RegistrationState.{RegistrationState, registrations_of}

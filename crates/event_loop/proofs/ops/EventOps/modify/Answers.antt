@@ -1,8 +1,7 @@
 use Rattle.std.proofs.Common.{refl, sym, ◌∙◌, [], ◌∷◌, Ok, Err}
 use Rattle.std.proofs.lemmas.Bool.{false≢true}
 use Rattle.vmm_sys.specs.declared.entries.ControlOperation.TheVariants as operation
-use Rattle.event_loop.specs.Exchange.{by_manager, by_poller, by_agreement}
-use Rattle.event_loop.specs.PollerCall.{Control}
+use Rattle.event_loop.specs.Prelude.{by_manager, by_poller, by_agreement, Control}
 use Rattle.event_loop.proofs.ExchangeLemmas.{kept}
 use Rattle.event_loop.proofs.ops.EventOps.modify.Goals as goal
 

@@ -1,9 +1,7 @@
 use Rattle.std.proofs.Common.{refl, ap, sym, ◌∙◌, List, [], ◌∷◌, Ok, Err}
 use Rattle.std.proofs.lemmas.Bool.{false≢true}
 use Rattle.vmm_sys.specs.declared.entries.ControlOperation.TheVariants as operation
-use Rattle.dispatch_tables.specs.Event.{Event}
-use Rattle.event_loop.specs.Exchange.{by_manager, by_poller, by_agreement}
-use Rattle.event_loop.specs.PollerCall.{Control}
+use Rattle.event_loop.specs.Prelude.{Event, by_manager, by_poller, by_agreement, Control}
 use Rattle.std.specs.FinMap.{remove}
 use Rattle.event_loop.proofs.ExchangeLemmas.{one_made_through, kept, cancel_removed_one, not_cancelled_cancel_on}
 use Rattle.event_loop.specs.RegistrationState.{RegistrationState, registrations_of, cancel_on}
