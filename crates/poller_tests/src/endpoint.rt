@@ -1,7 +1,6 @@
 //! When the endpoint's counter is read.
 
 use crate::expecting::{expect, expect_ok, expect_same};
-use crate::parts::counter_at;
 use event_manager::{Error, EventOps, EventPoller, Events, MutEventSubscriber};
 use fixtures::parts::{Idle, Parts};
 use fixtures::runs::{Run, run_alone, run_over};
@@ -15,6 +14,19 @@ use vmm_sys::errno::Errno;
 use vmm_sys::eventfd::EventFd;
 use vmm_sys::poller::Poller;
 use vmm_sys::script_poller::ScriptPoller;
+
+/// A counter of this descriptor and value, in a table without descriptors so far.
+fn counter_at<R: Wait + Clock + Abort + Clone + Send + Drop>(
+    epoll: &Epoll<R>,
+    fd: u8,
+    value: u64,
+    rt: &R,
+) -> EventFd {
+    for _ in 0..fd {
+        expect_ok(rt, EventFd::new(epoll, 0, rt));
+    }
+    expect_ok(rt, EventFd::new(epoll, value, rt))
+}
 
 /// A poller of the table that a counter is in, which shows whether that counter was read: reading takes all its value.
 #[derive(Drop)]
