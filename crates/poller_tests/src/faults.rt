@@ -3,7 +3,7 @@
 use crate::expecting::{expect_ok, expect_same};
 use event_manager::{Call, Error, Events, Request, Result};
 use fixtures::asking::{Asking, wanted};
-use fixtures::driving::{driven, id_of};
+use fixtures::driving::{Seen, driven, id_of};
 use fixtures::parts::silent_parts;
 use fixtures::scripts::script_of;
 use std::alloc::Global;
@@ -69,9 +69,6 @@ fn calls_with<R: Abort>(rt: &R, alloc: Global, runs: usize) -> Vec<Call<Asking>>
     calls
 }
 
-/// Answers of runs, and who left.
-type Seen = (Vec<Result<usize>>, Vec<Asking>);
-
 /// What is seen over a script with one report, of 3 and 4, of which this call is refused.
 fn seen_with<R: Wait + Clock + Abort + Copy + Send + Drop>(
     rt: &R,
@@ -79,7 +76,7 @@ fn seen_with<R: Wait + Clock + Abort + Copy + Send + Drop>(
     at: u64,
     errno: Errno,
     runs: usize,
-) -> Result<Seen> {
+) -> Result<Seen<Asking>> {
     let script = expect_ok(rt, script_of(alloc, &[3, 4]));
     let poller = FaultPoller::new(script, at, errno);
     let parts = expect_ok(rt, silent_parts(*rt, alloc, poller));
