@@ -39,7 +39,11 @@ fn left_in<S: MutEventSubscriber + Drop, R: Host, const N: usize>(
 ) -> Vec<S> {
     let alloc = parts.alloc;
     let (ran, left) = expect_ok(rt, seen_in(alloc, replies_in(rt, parts, steps)));
-    expect_same(rt, &ran.as_slice(), &counts.map(|count| Ok(count)).as_slice());
+    expect_same(
+        rt,
+        &ran.as_slice(),
+        &counts.map(|count| Ok(count)).as_slice(),
+    );
     left
 }
 
@@ -106,7 +110,13 @@ fn test_modify(rt: HostRuntime) {
         run(-1),
         leave(&rt, alloc, 1),
     ];
-    expect_steps(&rt, parts, expect_ok(&rt, steps), [1, 1], &[&[before, after]]);
+    expect_steps(
+        &rt,
+        parts,
+        expect_ok(&rt, steps),
+        [1, 1],
+        &[&[before, after]],
+    );
 }
 
 #[test]

@@ -136,7 +136,17 @@ fn expect_shared<R: Host>(
 #[test]
 fn a_shared_counter_tells_events_by_their_sets(rt: HostRuntime) {
     let (error, out) = (EventSet::ERROR, EventSet::OUT);
-    let sets = [IN, IN, error, error, error, out, IN | out, IN | error, EventSet::empty()];
+    let sets = [
+        IN,
+        IN,
+        error,
+        error,
+        error,
+        out,
+        IN | out,
+        IN | error,
+        EventSet::empty(),
+    ];
     let events = sets.map(|set| (set, 0));
     expect_shared(rt, rt.alloc(), &events, &[], ((2, 3, 0), false, None));
 }
@@ -151,7 +161,10 @@ fn a_shared_counter_whose_removal_is_refused_stays(rt: HostRuntime) {
 #[test]
 fn a_shared_counter_keeps_its_first_fault(rt: HostRuntime) {
     let events = [(HANG_UP, 0), (HANG_UP, 0)];
-    let refusals = [(ControlOperation::Delete, 22), (ControlOperation::Delete, 5)];
+    let refusals = [
+        (ControlOperation::Delete, 22),
+        (ControlOperation::Delete, 5),
+    ];
     let state = ((0, 0, 0), true, FAULT);
     expect_shared(rt, rt.alloc(), &events, &refusals, state);
 }

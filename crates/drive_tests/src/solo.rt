@@ -68,7 +68,10 @@ fn calls_beside<R: Abort>(rt: &R, alloc: Global, neighbour: Option<Asking>) -> V
         expect_ok(rt, calls.push(Call::Run(0)));
     }
     for number in 1..=joined {
-        expect_ok(rt, calls.push(Call::Remove(expect_ok(rt, id_of(alloc, number)))));
+        expect_ok(
+            rt,
+            calls.push(Call::Remove(expect_ok(rt, id_of(alloc, number)))),
+        );
     }
     calls
 }
@@ -87,7 +90,11 @@ fn expect_beside<R: Wait + Clock + Abort + Copy + Send + Drop>(
         panic!(rt; "the owner does not leave");
     };
     expect(&rt, owner.seen.as_slice() == events_of_3_and_4().as_slice());
-    expect_same(&rt, &left.get(1).map(|neighbour| neighbour.seen.len()), &count);
+    expect_same(
+        &rt,
+        &left.get(1).map(|neighbour| neighbour.seen.len()),
+        &count,
+    );
 }
 
 #[test]

@@ -23,23 +23,35 @@ const NOT_OWNED: Result<()> = Err(Error::Epoll(Errno::ENOENT));
 
 /// Which call is refused, and with what; and what is then seen: what the runs answer, what the subscriber is answered, and of
 /// which descriptors it has events.
-type Row<'a> = (
-    u64,
-    Errno,
-    &'a [Result<usize>],
-    &'a [Result<()>],
-    &'a [i32],
-);
+type Row<'a> = (u64, Errno, &'a [Result<usize>], &'a [Result<()>], &'a [i32]);
 
 /// Call number 0 is none, 1 is of the making, and 7 a Delete of the leave.
 const ROWS: [Row<'static>; 8] = [
     (0, Errno(22), &[Ok(2)], &[AGREED; 4], &[3]),
     (2, Errno(22), &[Ok(2)], &[REFUSED, AGREED], &[4]),
-    (3, Errno(22), &[Ok(2)], &[AGREED, REFUSED, NOT_OWNED, AGREED], &[3]),
+    (
+        3,
+        Errno(22),
+        &[Ok(2)],
+        &[AGREED, REFUSED, NOT_OWNED, AGREED],
+        &[3],
+    ),
     (4, Errno(22), &[Err(FAULT), Ok(2)], &[AGREED; 4], &[3]),
     (4, Errno::EINTR, &[Ok(0), Ok(2)], &[AGREED; 4], &[3]),
-    (5, Errno(22), &[Ok(2)], &[AGREED, AGREED, REFUSED, AGREED], &[3, 4]),
-    (6, Errno(22), &[Ok(2)], &[AGREED, AGREED, AGREED, REFUSED], &[3]),
+    (
+        5,
+        Errno(22),
+        &[Ok(2)],
+        &[AGREED, AGREED, REFUSED, AGREED],
+        &[3, 4],
+    ),
+    (
+        6,
+        Errno(22),
+        &[Ok(2)],
+        &[AGREED, AGREED, AGREED, REFUSED],
+        &[3],
+    ),
     (7, Errno(22), &[Ok(2)], &[AGREED; 4], &[3]),
 ];
 
