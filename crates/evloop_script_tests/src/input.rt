@@ -50,7 +50,10 @@ fn all_bytes_are_read(rt: HostRuntime) {
 
 #[test]
 fn a_failing_read_is_told(rt: HostRuntime) {
-    let read = read_text(rt.alloc(), &mut make_trickle(Some(ErrorKind::ConnectionReset)));
+    let read = read_text(
+        rt.alloc(),
+        &mut make_trickle(Some(ErrorKind::ConnectionReset)),
+    );
     expect_same(&rt, &read.err(), &Some(Fault::CannotRead));
 }
 

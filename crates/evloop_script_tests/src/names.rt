@@ -40,7 +40,8 @@ fn names_give_their_bits(rt: HostRuntime) {
 }
 
 // The first is the empty text.
-const NO_SETS: &str = "; +; IN+; +IN; IN++OUT; --; -+IN; IN+-; in; Out; IN ; IN|OUT; IN,OUT; RDHUP; ALL; 0x1; 1; IN+NONE";
+const NO_SETS: &str =
+    "; +; IN+; +IN; IN++OUT; --; -+IN; IN+-; in; Out; IN ; IN|OUT; IN,OUT; RDHUP; ALL; 0x1; 1; IN+NONE";
 
 #[test]
 fn other_texts_are_no_sets(rt: HostRuntime) {

@@ -137,7 +137,8 @@ fn words_of_reported_events(rt: HostRuntime) {
 }
 
 // Whole scripts; the first is empty.
-const TAKEN: &str = "; \n; \n\n\n; run; run\n; run\r\n;  \t\r run \t\r \n; \t\tbatch\t3:IN:0\r4:IN:0  5:IN:0\r\n; #\n;   # run now\n; \
+const TAKEN: &str =
+    "; \n; \n\n\n; run; run\n; run\r\n;  \t\r run \t\r \n; \t\tbatch\t3:IN:0\r4:IN:0  5:IN:0\r\n; #\n;   # run now\n; \
     #run now\n; # \u{e9}\u{4e16}\n; intr; batch; sub a; sub A_z0_9\n; \
     sub abcdefghijklmnopqrstuvwxyz012345\n; sub 7 add 3 IN 0\nask 7 remove 3\n; \
     sub a add 2147483647 IN 4294967295\n; sub a add 003 IN 00\n; \
@@ -161,13 +162,16 @@ fn other_words_are_bad(rt: HostRuntime) {
     are_bad(&rt, OTHER_WORDS);
 }
 
-const BAD_REACTIONS_AND_LEAVES: &str = "on; on a; on a 3; on a remove 3; on a -3 remove 3; on a 2147483648 remove 3; on a 3 go; \
+const BAD_REACTIONS_AND_LEAVES: &str =
+    "on; on a; on a 3; on a remove 3; on a -3 remove 3; on a 2147483648 remove 3; on a 3 go; \
     on a 3 remove; on a 3 remove 3 #; on a-b 3 remove 3; on b 3 remove 3; drop; drop b; drop a a; \
     drop a-b";
 
-const BAD_NAMES: &str = "sub; sub a-b; sub a.b; sub \u{e9}; sub #; sub -; sub abcdefghijklmnopqrstuvwxyz0123456";
+const BAD_NAMES: &str =
+    "sub; sub a-b; sub a.b; sub \u{e9}; sub #; sub -; sub abcdefghijklmnopqrstuvwxyz0123456";
 
-const BAD_REQUESTS: &str = "sub z add; sub z add 3; sub z add 3 IN; sub z add 3 IN 0 4; sub z add 3 IN 0 add; \
+const BAD_REQUESTS: &str =
+    "sub z add; sub z add 3; sub z add 3 IN; sub z add 3 IN 0 4; sub z add 3 IN 0 add; \
     sub z add IN 3 0; sub z modify 3 IN 0; sub z remove 3; sub z add 3 IN 0 remove 3; sub z delete 3; \
     sub z add -3 IN 0; sub z add -0 IN 0; sub z add 2147483648 IN 0; sub z add 3 IN 4294967296; \
     sub z add 3 IN+ 0; sub z add 3 +IN 0; sub z add 3 in 0; sub z add 3 IN -1; sub z add 3 IN +1; \
@@ -180,22 +184,19 @@ fn bad_requests(rt: HostRuntime) {
     are_bad(&rt, BAD_REQUESTS);
 }
 
-const BAD_ITEMS: &str = "batch 3; batch 3:IN; batch 3:IN:0:0; batch 3:IN:; batch :IN:0; batch 3::0; batch ::; \
+const BAD_ITEMS: &str =
+    "batch 3; batch 3:IN; batch 3:IN:0:0; batch 3:IN:; batch :IN:0; batch 3::0; batch ::; \
     batch 3:IN:-1; batch -0:IN:0; batch -00:IN:0; batch -2147483649:IN:0; batch 2147483648:IN:0; \
     batch 3:IN:4294967296; batch +3:IN:0; batch 3:-+IN:0; batch 3:IN:0 3; batch 3 :IN:0; \
     batch --3:IN:0; batch 3:IN:0,4:IN:0; batch #";
 
-const BAD_REFUSALS: &str = "refuse; refuse add 3; refuse add 3 22 1; refuse remove 3 22; refuse Add 3 22; refuse add -1 22; \
+const BAD_REFUSALS: &str =
+    "refuse; refuse add 3; refuse add 3 22 1; refuse remove 3 22; refuse Add 3 22; refuse add -1 22; \
     refuse add 2147483648 22; refuse add 3 0; refuse add 3 4096; refuse add 3 -22; refuse add 3 ENOENT";
 
 #[test]
 fn bad_names_reactions_leaves_items_and_refusals(rt: HostRuntime) {
-    for lines in [
-        BAD_NAMES,
-        BAD_REACTIONS_AND_LEAVES,
-        BAD_ITEMS,
-        BAD_REFUSALS,
-    ] {
+    for lines in [BAD_NAMES, BAD_REACTIONS_AND_LEAVES, BAD_ITEMS, BAD_REFUSALS] {
         are_bad(&rt, lines);
     }
 }
