@@ -1,8 +1,7 @@
 //! Threads that make calls of one table at random, each beside what it knows of its own descriptors.
 
 use crate::expecting::{expect_ok, expect_same};
-use crate::host::Host;
-use crate::waiter::no_event;
+use crate::fixture::{Host, no_event};
 use rand_core::Rng;
 use rand_pcg::Pcg32;
 use std::alloc::Global;

@@ -1,8 +1,7 @@
-//! The table, as one owner uses it: worked rows of its calls. What they answer is proved.
+//! The table, as one owner uses it: worked rows of its calls, and the numbers of its errors. What they answer is proved.
 
 use crate::expecting::{expect_ok, expect_same};
-use crate::fixture::HIGHEST;
-use crate::waiter::no_event;
+use crate::fixture::{HIGHEST, no_event};
 use std::process::Abort;
 use vmm_sys::epoll::{ControlOperation, EpollEvent, EventSet};
 use vmm_sys::errno::Errno;
@@ -140,4 +139,23 @@ fn one_is_added_and_one_deleted_between_the_waits(rt: HostRuntime) {
     expect_ok(&rt, table.ctl(ControlOperation::Delete, 1, no_event()));
     expect_one(&rt, &mut table, 2);
     expect_one(&rt, &mut table, 3);
+}
+
+/// Each constant, and its number in Linux.
+const NUMBERS: [(Errno, i32); 8] = [
+    (Errno::ENOENT, 2),
+    (Errno::EINTR, 4),
+    (Errno::EBADF, 9),
+    (Errno::EAGAIN, 11),
+    (Errno::ENOMEM, 12),
+    (Errno::EEXIST, 17),
+    (Errno::EINVAL, 22),
+    (Errno::EMFILE, 24),
+];
+
+#[test]
+fn constants_have_their_numbers(rt: HostRuntime) {
+    for (errno, number) in NUMBERS {
+        expect_same(&rt, &errno.0, &number);
+    }
 }

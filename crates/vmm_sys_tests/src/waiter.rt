@@ -1,14 +1,14 @@
 //! A thread that waits on a table, looked at from outside with a bound.
 
 use crate::expecting::expect_ok;
-use crate::host::{Host, pause};
+use crate::fixture::{Host, no_event, pause};
 use std::alloc::Global;
 use std::sync::Arc;
 use std::sync::atomic::{AtomicBool, Ordering};
 use std::thread;
 use std::thread::JoinHandle;
 use std::time::{Duration, Instant};
-use vmm_sys::epoll::{Epoll, EpollEvent, EventSet};
+use vmm_sys::epoll::{Epoll, EpollEvent};
 use vmm_sys::errno::Errno;
 use vmm_sys::poller::Poller;
 
@@ -69,10 +69,6 @@ pub(crate) fn expect_set<R: Host>(rt: &R, flag: &AtomicBool) {
         pause(rt, 1);
     }
     panic!(rt; "the other thread still waits");
-}
-
-pub(crate) fn no_event() -> EpollEvent {
-    EpollEvent::new(EventSet::empty(), 0)
 }
 
 fn wait_once<R: Host>(rt: &R, epoll: Epoll<R>, ms: i32) -> Report {
