@@ -71,15 +71,12 @@ impl Rounds {
             if over != seen {
                 (seen, since) = (over, now);
             }
-            let (lasts, last) = (
-                now.saturating_duration_since(since),
-                now.saturating_duration_since(begin),
-            );
+            let lasts = now.saturating_duration_since(since);
             assert!(rt;
                 lasts < Duration::from_millis(PATIENCE),
                 "round {over} does not end"
             );
-            if last > Duration::from_millis(MOST_TIME) {
+            if now.saturating_duration_since(begin) > Duration::from_millis(MOST_TIME) {
                 self.time_is_up.store(true, Ordering::SeqCst);
             }
             thread::sleep(rt, Duration::from_millis(1));
