@@ -2,8 +2,7 @@
 //! close, that wakes it.
 
 use crate::ending::beside_senders;
-use crate::expecting::{expect_noted, expect_ok, expect_same};
-use crate::threads::{Host, Looping};
+use crate::expecting::{Host, Looping, expect_noted, expect_ok, expect_same};
 use event_manager::{
     Error, EventManager, EventPoller, LoopWithSenders, NamedCounter, RemoteEndpoint, Result,
     Sender, Senders,

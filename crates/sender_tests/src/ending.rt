@@ -1,6 +1,6 @@
 //! A loop and its senders, looked at from outside with a bound.
 
-use crate::threads::{Host, Looping};
+use crate::expecting::{Host, Looping};
 use event_manager::{
     Counter, Ended, EventPoller, Job, LoopWithSenders, MutEventSubscriber, Result, Sender,
     with_senders,

@@ -2,8 +2,7 @@
 
 use crate::bystanders::{start_bystanders, stop_bystanders};
 use crate::ending::beside_senders;
-use crate::expecting::{expect_ok, expect_same};
-use crate::threads::{Host, Looping};
+use crate::expecting::{Host, Looping, expect_ok, expect_same};
 use event_manager::{
     EventManager, EventPoller, Events, LoopWithSenders, NamedCounter, NoJob, RemoteEndpoint,
     Result, Sender,
