@@ -9,7 +9,6 @@ use evloop_script::output::{Out, OutputLine, Printer};
 use evloop_script::reactions::Reactions;
 use evloop_script::requests::print_replies;
 use evloop_script::subscriber::Subscriber;
-use std::alloc::{AllocError, Global};
 use std::cell::RefCell;
 use std::io;
 use std::io::{ErrorKind, Write};
@@ -92,15 +91,6 @@ impl Out for Memory {
     }
 }
 
-fn make_page(alloc: Global, terms: Terms) -> Result<Rc<RefCell<Page>>, AllocError> {
-    let page = Page {
-        bytes: Vec::new(alloc),
-        writes: 0,
-        terms,
-    };
-    Ok(Rc::new(alloc, RefCell::new(page))?)
-}
-
 // Expects that this was written.
 fn expect_text<R: Abort>(rt: &R, page: &RefCell<Page>, expected: &str) {
     let page = expect_ok(rt, page.try_borrow());
@@ -113,7 +103,12 @@ fn printer_on<R: Abort + AllocGlobal>(
     rt: &R,
     terms: Terms,
 ) -> (Rc<RefCell<Page>>, Printer<Memory>) {
-    let page = expect_ok(rt, make_page(rt.alloc(), terms));
+    let page = Page {
+        bytes: Vec::new(rt.alloc()),
+        writes: 0,
+        terms,
+    };
+    let page = expect_ok(rt, Rc::new(rt.alloc(), RefCell::new(page)));
     let out = Memory {
         page: expect_ok(rt, page.clone()),
         handles: 0,

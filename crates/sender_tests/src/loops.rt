@@ -1,6 +1,6 @@
 //! Loops and their senders: who runs when, what ends a loop, and what its senders then get.
 
-use crate::ending::beside_senders;
+use crate::ending::{Counted, Course, beside_senders};
 use crate::expecting::{Host, Looping, expect_ok, expect_same};
 use event_manager::{
     Error, EventManager, EventPoller, EventSet, Events, LoopWithSenders, NamedCounter, NoJob,
@@ -17,63 +17,6 @@ use vmm_sys::errno::Errno;
 use vmm_sys::eventfd::EventFd;
 use vmm_sys::poller::Poller;
 use vmm_sys::script_poller::ScriptPoller;
-
-/// How many milliseconds a wait without a limit lasts at most in these tests.
-const MOST_TIME: i32 = 10_000;
-
-/// How far a loop and its senders are.
-#[derive(Drop)]
-struct Course {
-    /// How many waits the loop has begun.
-    waits: AtomicU64,
-    /// How many senders have begun.
-    begun: AtomicU64,
-    /// How many senders are about to end.
-    ending: AtomicU64,
-}
-
-impl Course {
-    fn new() -> Self {
-        Course {
-            waits: AtomicU64::new(0),
-            begun: AtomicU64::new(0),
-            ending: AtomicU64::new(0),
-        }
-    }
-}
-
-/// A poller that counts its waits, and refuses one without a limit that nobody ends.
-#[derive(Drop)]
-struct Counted<'a, P> {
-    poller: P,
-    course: &'a Course,
-}
-
-impl<P: EventPoller> EventPoller for Counted<'_, P> {
-    ghost controls = { λ v op fd event answer w. Unit {0} };
-
-    ghost waits = { λ v ms capacity answer w. Unit {0} };
-
-    fn control(
-        &mut self,
-        op: ControlOperation,
-        fd: u32,
-        event: Events,
-    ) -> std::result::Result<(), Errno> {
-        self.poller.control(op, fd, event)
-    }
-
-    fn poll(&mut self, ms: i32, buffer: &mut [EpollEvent]) -> std::result::Result<usize, Errno> {
-        self.course.waits.fetch_add(1, Ordering::SeqCst);
-        if ms >= 0 {
-            return self.poller.poll(ms, buffer);
-        }
-        match self.poller.poll(MOST_TIME, buffer) {
-            Ok(0) => Err(Errno::EAGAIN),
-            answer => answer,
-        }
-    }
-}
 
 /// Parts over a new table whose waits are counted.
 fn on_counted_table<'a, R: Looping + Send>(
