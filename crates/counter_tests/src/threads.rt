@@ -23,27 +23,20 @@ use vmm_sys::eventfd::EventFd;
 
 type Loop<S, N, R> = EventManager<S, NoJob, N, Epoll<R>>;
 
-/// Makes a hundred runs, each of which must report so many events.
-fn run_hundred<S: MutEventSubscriber, N: NamedCounter, R: Host>(
-    rt: R,
-    manager: Loop<S, N, R>,
-    count: usize,
-) -> Loop<S, N, R> {
-    let mut manager = manager;
-    for _ in 0..100 {
-        expect_same(&rt, &manager.run_with_timeout(1000, &rt), &Ok(count));
-    }
-    manager
-}
-
-/// The manager, after a second thread made a hundred runs with it.
+/// The manager, after a second thread made a hundred runs with it, each of which must report so many events.
 fn moved<S, N, R>(rt: R, manager: Loop<S, N, R>, count: usize) -> Loop<S, N, R>
 where
     S: MutEventSubscriber + Send + Drop + 'static,
     N: NamedCounter + Send + Sync + 'static,
     R: Host,
 {
-    let runner = thread::spawn(&rt, move || run_hundred(rt, manager, count));
+    let runner = thread::spawn(&rt, move || {
+        let mut manager = manager;
+        for _ in 0..100 {
+            expect_same(&rt, &manager.run_with_timeout(1000, &rt), &Ok(count));
+        }
+        manager
+    });
     expect_ok(&rt, runner).join(&rt)
 }
 

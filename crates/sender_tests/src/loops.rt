@@ -69,16 +69,6 @@ struct Meet<'a> {
     has_begun: bool,
 }
 
-impl<'a> Meet<'a> {
-    fn new(course: &'a Course, refusal: Option<Error>) -> Self {
-        Meet {
-            course,
-            refusal,
-            has_begun: false,
-        }
-    }
-}
-
 impl<'a, R: Looping> LoopWithSenders<Idle, NoJob, Meeting<'a>, R> for Meet<'a> {
     fn begin<N: NamedCounter, P: EventPoller>(
         &mut self,
@@ -100,7 +90,11 @@ impl<'a, R: Looping> LoopWithSenders<Idle, NoJob, Meeting<'a>, R> for Meet<'a> {
 fn the_last_of_three_senders_ends_a_loop_that_waits(rt: HostRuntime) {
     let course = Course::new();
     let parts = on_counted_table(&rt, rt.alloc(), &course);
-    let mut body = Meet::new(&course, None);
+    let mut body = Meet {
+        course: &course,
+        refusal: None,
+        has_begun: false,
+    };
     let ended = expect_ok(&rt, beside_senders(&rt, parts, &mut body));
     expect_same(&rt, &ended.ran, &Ok(()));
     expect_same(&rt, &ended.sent.as_slice(), &[1, 2, 3].as_slice());
@@ -115,7 +109,11 @@ fn expect_refusal<P: EventPoller + Send + Drop, R: Host>(
     has_begun: bool,
 ) {
     let course = Course::new();
-    let mut body = Meet::new(&course, refusal);
+    let mut body = Meet {
+        course: &course,
+        refusal,
+        has_begun: false,
+    };
     let refused = beside_senders(rt, parts, &mut body);
     expect_same(rt, &refused.err(), &Some(answer));
     expect_same(rt, &body.has_begun, &has_begun);

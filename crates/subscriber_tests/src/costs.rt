@@ -40,7 +40,7 @@ fn on(fd: i32) -> Events {
     Events::new_raw(fd.max(0), EventSet::IN)
 }
 
-fn renewing(fd: i32) -> Renewing {
+fn make_renewing(fd: i32) -> Renewing {
     Renewing {
         own: on(fd),
         seen: 0,
@@ -91,13 +91,13 @@ impl Scene {
             expect_ok(rt, poller.push_report(report));
         }
         let mut event_loop = expect_ok(rt, EventLoop::new(alloc, poller));
-        let mut last = expect_ok(rt, event_loop.add_subscriber(renewing(0)));
+        let mut last = expect_ok(rt, event_loop.add_subscriber(make_renewing(0)));
         for fd in 1..count {
             if calls == Calls::Removals {
                 let ops = expect_ok(rt, event_loop.event_ops(last));
                 expect_ok(rt, ops.add(on(fd)));
             } else {
-                last = expect_ok(rt, event_loop.add_subscriber(renewing(fd)));
+                last = expect_ok(rt, event_loop.add_subscriber(make_renewing(fd)));
             }
         }
         Scene {

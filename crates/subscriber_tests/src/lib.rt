@@ -11,6 +11,4 @@ mod costs;
 mod expecting;
 pub mod forms;
 #[cfg(test)]
-mod last_ids;
-#[cfg(test)]
 mod places;

@@ -1,8 +1,7 @@
 //! A call beside a close: it is answered, whichever comes first.
 
-use crate::expecting::{expect_ok, expect_same};
 use crate::fixture::{Endpoint, Progress, Task, spin};
-use crate::host::{Host, Looping, Rounds};
+use crate::host::{Host, Looping, Rounds, expect_ok, expect_same};
 use event_manager::{
     Error, EventManager, EventPoller, LoopWithSenders, NamedCounter, Result, Sender, Senders,
     with_senders,

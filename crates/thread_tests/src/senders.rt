@@ -6,8 +6,7 @@
 
 ghost use Rattle.std.specs.Prelude.{◌≡◌};
 
-use crate::expecting::{expect_ok, expect_same};
-use crate::host::Host;
+use crate::host::{Host, expect_ok, expect_same};
 use event_manager::{
     Closed, EventManager, Ledgers, Named, NamedCounter, Naming, RemoteEndpoint, Result, Ticket,
 };

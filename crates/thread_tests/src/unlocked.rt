@@ -1,7 +1,6 @@
 //! What another thread sees while a job, a reply or a subscriber is dropped.
 
-use crate::expecting::{expect_ok, expect_same};
-use crate::host::{Host, Looping, Rounds};
+use crate::host::{Host, Looping, Rounds, expect_ok, expect_same};
 use crate::watched::{Drops, Guest, Reporter, Task, Watched};
 use event_manager::{
     Error, EventManager, EventPoller, LoopWithSenders, NamedCounter, RemoteEndpoint, Result,

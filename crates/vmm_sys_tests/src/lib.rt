@@ -19,6 +19,4 @@ mod shared_table;
 #[cfg(test)]
 mod table;
 #[cfg(test)]
-mod waiter;
-#[cfg(test)]
 mod waits;

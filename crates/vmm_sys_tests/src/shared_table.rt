@@ -2,7 +2,7 @@
 
 use crate::expecting::{expect_ok, expect_same};
 use crate::fixture::{HIGHEST, Host, entry, no_event, want};
-use crate::waiter::{expect_set, report_of};
+use crate::waits::{expect_set, report_of};
 use std::alloc::Global;
 use std::process::Abort;
 use std::sync::Arc;
