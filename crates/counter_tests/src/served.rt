@@ -43,7 +43,7 @@ fn served<S: MutEventSubscriber + Drop, R: Host>(
     for (set, data) in events {
         let word = u64::from(*data) << 32;
         expect_ok(rt, push_words(&mut script, alloc, *set, &[word]));
-        expect_ok(rt, runs.push((None, Ok(1))));
+        expect_ok(rt, runs.push(Ok(1)));
     }
     for (op, errno) in refusals {
         expect_ok(rt, script.push_refusal(*op, 0, Errno(*errno)));

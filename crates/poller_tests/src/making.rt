@@ -65,7 +65,7 @@ fn expect_refused_wait<P: EventPoller + Drop, R: Wait + Clock + Abort + Copy + S
 ) {
     let mut parts = expect_ok(&rt, silent_parts(rt, alloc, poller));
     parts.capacity = Some(0);
-    let runs = [(None, Err(Error::Epoll(Errno::EINVAL)))];
+    let runs = [Err(Error::Epoll(Errno::EINVAL))];
     let left = expect_ok(&rt, run_alone(&rt, parts, counting_on(1), &runs));
     expect_same(&rt, &left.count, &0);
 }

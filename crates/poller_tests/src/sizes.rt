@@ -23,7 +23,7 @@ fn expect_agreed<R: Wait + Clock + Abort + Copy + Send + Drop>(
     let asking = expect_ok(&rt, Asking::new(alloc, first, later));
     let script = expect_ok(&rt, script_of(alloc, &[400]));
     let parts = expect_ok(&rt, silent_parts(rt, alloc, script));
-    let left = expect_ok(&rt, run_alone(&rt, parts, asking, &[(None, Ok(1))]));
+    let left = expect_ok(&rt, run_alone(&rt, parts, asking, &[Ok(1)]));
     expect_same(&rt, &left.answers.len(), &count);
     for answer in &left.answers {
         expect_same(&rt, answer, &Ok(()));
@@ -52,7 +52,7 @@ fn three_hundred_subscribers(rt: HostRuntime) {
     let script = expect_ok(&rt, script_of(rt.alloc(), &fds));
     let parts = expect_ok(&rt, silent_parts(rt, rt.alloc(), script));
     // The rest of the report is more than the capacity has room for.
-    let runs = [(None, Ok(256)), (None, Ok(44))];
+    let runs = [Ok(256), Ok(44)];
     let left = expect_ok(&rt, run_over(&rt, parts, subscribers, &runs));
     expect_same(&rt, &left.len(), &300);
     for counting in left {
@@ -66,7 +66,7 @@ fn five_thousand_events_of_one_batch(rt: HostRuntime) {
     let script = expect_ok(&rt, script_of(rt.alloc(), &fds));
     let mut parts = expect_ok(&rt, silent_parts(rt, rt.alloc(), script));
     parts.capacity = Some(100000);
-    let runs = [(None, Ok(5000))];
+    let runs = [Ok(5000)];
     let left = expect_ok(&rt, run_alone(&rt, parts, counting_on(3), &runs));
     expect_same(&rt, &left.count, &5000);
 }

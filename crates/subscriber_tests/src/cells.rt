@@ -9,7 +9,7 @@ use fixtures::asking::wanted;
 use fixtures::counting::{Counting, counting_on};
 use fixtures::making::{WithManager, with_manager};
 use fixtures::parts::{Parts, silent_parts};
-use fixtures::runs::{Failure, Run, run_alone};
+use fixtures::runs::{Failure, run_alone};
 use fixtures::scripts::push_words;
 use std::alloc::Global;
 use std::cell::RefCell;
@@ -36,7 +36,7 @@ fn two_reports<R: Wait + Clock + Abort + Copy + Send + Drop>(
 }
 
 /// A run for each of them.
-const TWO_RUNS: [Run; 2] = [(None, Ok(1)), (None, Ok(1))];
+const TWO_RUNS: [event_manager::Result<usize>; 2] = [Ok(1), Ok(1)];
 
 /// How many events the subscriber in the cell has counted; `None` where the cell is busy.
 fn count_in(cell: &RefCell<Counting>) -> Option<u64> {
