@@ -1,6 +1,6 @@
 //! What the tests need of the runtime, counters of a table, and steps of a manager.
 
-use crate::expecting::expect_ok;
+use crate::expecting::{expect_ok, expect_same};
 use event_manager::{
     Call, EventManager, EventPoller, MutEventSubscriber, NamedCounter, NoJob, Reply, Result, drive,
 };
@@ -67,6 +67,9 @@ impl<R: Wait + Clock + Abort, S: MutEventSubscriber + Drop> WithManager for Step
                 Step::Make(call) => {
                     let calls = expect_ok(rt, Vec::from_array(alloc, [call]));
                     expect_ok(rt, drive(manager, calls, &mut replies, rt));
+                    // Else a run without a limit may have nobody to end it.
+                    let is_refused = matches!(replies.last(), Some(Reply::Added(Err(_))));
+                    expect_same(rt, &is_refused, &false);
                 }
                 Step::Write(counter) => expect_ok(rt, counter.write(1, rt)),
                 Step::Read(counter) => {

@@ -12,34 +12,32 @@ use std::process::Abort;
 use std::sync::Wait;
 use std::time::Clock;
 
-/// Expects that so many requests are agreed to, which are made in `init` and at an event of descriptor 400.
+/// Expects that these requests are agreed to, in `init` and at an event of descriptor 400.
 fn expect_agreed<R: Wait + Clock + Abort + Copy + Send + Drop>(
     rt: R,
     alloc: Global,
     first: &[Request],
     later: &[Request],
-    count: usize,
 ) {
     let asking = expect_ok(&rt, Asking::new(alloc, first, later));
     let script = expect_ok(&rt, script_of(alloc, &[400]));
     let parts = expect_ok(&rt, silent_parts(rt, alloc, script));
     let left = expect_ok(&rt, run_alone(&rt, parts, asking, &[Ok(1)]));
-    expect_same(&rt, &left.answers.len(), &count);
-    for answer in &left.answers {
-        expect_same(&rt, answer, &Ok(()));
-    }
+    expect_same(&rt, &left.first_refusal, &None);
+    expect_same(&rt, &left.later_refusal, &None);
+    expect_same(&rt, &left.seen.is_empty(), &later.is_empty());
 }
 
 #[test]
 fn three_hundred_descriptors_of_one_subscriber(rt: HostRuntime) {
     let first = expect_ok(&rt, adds(rt.alloc(), 1, 300));
-    expect_agreed(rt, rt.alloc(), &first, &[], 300);
+    expect_agreed(rt, rt.alloc(), &first, &[]);
 }
 
 #[test]
 fn three_hundred_requests_at_one_event(rt: HostRuntime) {
     let later = expect_ok(&rt, adds(rt.alloc(), 1, 300));
-    expect_agreed(rt, rt.alloc(), &[Request::Add(wanted(400))], &later, 301);
+    expect_agreed(rt, rt.alloc(), &[Request::Add(wanted(400))], &later);
 }
 
 #[test]
