@@ -3,16 +3,16 @@
 use crate::expecting::{expect_ok, expect_same};
 use crate::making::{Host, counter_of};
 use event_manager::Events;
-use fixtures::parts::on_table;
 use std::alloc::Global;
 use std::process::Abort;
-use vmm_sys::epoll::{AsRawFd, EventSet};
+use vmm_sys::epoll::{AsRawFd, Epoll, EventSet};
 use vmm_sys::eventfd::EventFd;
 
-/// A counter of value 0 in a new table, beside an endpoint.
+/// A counter of value 0 in a new table, behind another.
 fn new_counter<R: Host>(rt: &R, alloc: Global) -> EventFd {
-    let parts = expect_ok(rt, on_table(*rt, alloc, 0));
-    counter_of(rt, &parts)
+    let epoll = expect_ok(rt, Epoll::new(*rt, alloc));
+    counter_of(rt, &epoll);
+    counter_of(rt, &epoll)
 }
 
 /// Expects that these are the events of the counter's descriptor of this set and data 0, as made of the plain number.

@@ -6,19 +6,11 @@ mod events;
 #[cfg(test)]
 mod expecting;
 #[cfg(test)]
-mod lines;
-#[cfg(test)]
 mod making;
-#[cfg(test)]
-mod plain_counters;
-#[cfg(test)]
-mod reacting;
 #[cfg(test)]
 mod registrations;
 #[cfg(test)]
-mod shared_counters;
-#[cfg(test)]
-mod table;
+mod served;
 #[cfg(test)]
 mod threads;
 #[cfg(test)]

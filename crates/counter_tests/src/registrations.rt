@@ -1,267 +1,272 @@
-//! Descriptors that are added, changed and removed, and subscribers that leave.
+//! Descriptors that are added, changed and removed, lines that hang up, and subscribers that leave.
 
-use crate::expecting::{expect_ok, expect_run, expect_run_within, expect_same, expect_saw};
-use crate::making::{Host, counter_of};
-use crate::reacting::{Reacting, add};
-use event_manager::utilities::subscribers::CounterSubscriber;
-use event_manager::{
-    Error, EventManager, EventPoller, Events, NamedCounter, NoJob, Request, SubscriberId,
-    SubscriberOps,
-};
-use fixtures::making::{WithManager, with_manager};
-use fixtures::parts::{OnTable, on_table};
+use crate::expecting::{expect_ok, expect_same, expect_values};
+use crate::making::{Host, Step, counter_of, replies_in, three_counters_of};
+use event_manager::utilities::subscribers::{CounterSubscriber, CounterSubscriberWithData};
+use event_manager::{Call, Error, Events, MutEventSubscriber, Reply, Request};
+use fixtures::asking::Asking;
+use fixtures::driving::{id_of, replies_to, seen_in};
+use fixtures::parts::{Idle, OnTable, on_table};
 use std::alloc::Global;
 use std::process::Abort;
-use std::sync::Wait;
-use std::time::Clock;
 use vmm_sys::epoll::EventSet;
 use vmm_sys::eventfd::EventFd;
+use vmm_sys::line::Line;
 
-/// The limit of a run in milliseconds, or none, and the events that it delivers.
-type Run<'a> = (Option<i32>, &'a [Events]);
-
-/// Takes in a subscriber that reacts, and makes the runs: each must report and deliver just these events.
-#[derive(Drop)]
-struct Runs<'a, R> {
-    rt: &'a R,
-    alloc: Global,
-    own: Events,
-    reaction: Option<Request>,
-    runs: &'a [Run<'a>],
+/// Joins a subscriber that adds a descriptor, and makes these requests at its first event.
+fn join<R: Abort>(rt: &R, alloc: Global, own: Events, later: &[Request]) -> Step<'static, Asking> {
+    let mut asking = expect_ok(rt, Asking::new(alloc, &[Request::Add(own)], later));
+    asking.turns = 1;
+    Step::Make(Call::Add(asking))
 }
 
-impl<R: Wait + Clock + Abort> WithManager for Runs<'_, R> {
-    type Subscriber = Reacting;
+/// Lets the subscriber of this number leave.
+fn leave<S, R: Abort>(rt: &R, alloc: Global, number: u64) -> Step<'static, S> {
+    Step::Make(Call::Remove(expect_ok(rt, id_of(alloc, number))))
+}
 
-    type Output = ();
+/// A run of at most so many milliseconds.
+fn run<S>(ms: i32) -> Step<'static, S> {
+    Step::Make(Call::Run(ms))
+}
 
-    fn run<N: NamedCounter, P: EventPoller>(
-        self,
-        manager: &mut EventManager<Reacting, NoJob, N, P>,
-    ) -> event_manager::Result<()> {
-        let id = add(self.rt, self.alloc, manager, self.own, self.reaction);
-        for (limit, delivered) in self.runs {
-            match limit {
-                Some(ms) => expect_run_within(self.rt, manager, *ms, delivered.len()),
-                None => expect_run(self.rt, manager, delivered.len()),
-            }
-            expect_saw(self.rt, manager, id, delivered);
-        }
-        Ok(())
+/// Who leaves in these steps, whose runs must report so many events.
+fn left_in<S: MutEventSubscriber + Drop, R: Host, const N: usize>(
+    rt: &R,
+    parts: OnTable<R>,
+    steps: Vec<Step<'_, S>>,
+    counts: [usize; N],
+) -> Vec<S> {
+    let alloc = parts.alloc;
+    let (ran, left) = expect_ok(rt, seen_in(alloc, replies_in(rt, parts, steps)));
+    expect_same(
+        rt,
+        &ran.as_slice(),
+        &counts.map(|count| Ok(count)).as_slice(),
+    );
+    left
+}
+
+/// Expects that the runs of these steps report so many events, and that these are the events of who leaves.
+fn expect_steps<R: Host, const N: usize>(
+    rt: &R,
+    parts: OnTable<R>,
+    steps: Vec<Step<'_, Asking>>,
+    counts: [usize; N],
+    events: &[&[Events]],
+) {
+    let left = left_in(rt, parts, steps, counts);
+    expect_same(rt, &left.len(), &events.len());
+    for (asking, expected) in left.iter().zip(events) {
+        expect_same(rt, &asking.seen.as_slice(), expected);
     }
 }
 
 /// `OUT` events of a new counter of value 0 in the table of these parts.
 fn writable_of<R: Host>(rt: &R, parts: &OnTable<R>) -> Events {
-    Events::new(&counter_of(rt, parts), EventSet::OUT)
+    Events::new(&counter_of(rt, &parts.poller), EventSet::OUT)
 }
 
 #[test]
 fn test_register(rt: HostRuntime) {
-    let parts = expect_ok(&rt, on_table(rt, rt.alloc(), 0));
-    let first = writable_of(&rt, &parts);
-    let second = writable_of(&rt, &parts);
-    let body = Runs {
-        rt: &rt,
-        alloc: rt.alloc(),
-        own: first,
-        reaction: Some(Request::Add(second)),
-        runs: &[(None, &[first]), (None, &[first, second])],
-    };
-    expect_ok(&rt, with_manager(parts, body));
+    let alloc = rt.alloc();
+    let parts = expect_ok(&rt, on_table(rt, alloc, 0));
+    let (first, second) = (writable_of(&rt, &parts), writable_of(&rt, &parts));
+    let steps = vec![in alloc;
+        join(&rt, alloc, first, &[Request::Add(second)]),
+        run(-1),
+        run(-1),
+        leave(&rt, alloc, 1),
+    ];
+    let steps = expect_ok(&rt, steps);
+    expect_steps(&rt, parts, steps, [1, 2], &[&[first, first, second]]);
 }
 
 #[test]
 fn test_unregister(rt: HostRuntime) {
-    let parts = expect_ok(&rt, on_table(rt, rt.alloc(), 0));
+    let alloc = rt.alloc();
+    let parts = expect_ok(&rt, on_table(rt, alloc, 0));
     let own = writable_of(&rt, &parts);
-    let body = Runs {
-        rt: &rt,
-        alloc: rt.alloc(),
-        own,
-        reaction: Some(Request::Remove(own)),
-        runs: &[(None, &[own]), (Some(100), &[])],
-    };
-    expect_ok(&rt, with_manager(parts, body));
-}
-
-/// Runs, writes 1 to the counter whose descriptor the subscriber then wants for `IN`, and runs.
-#[derive(Drop)]
-struct Modifying<'a, R> {
-    rt: &'a R,
-    alloc: Global,
-    event_fd: &'a EventFd,
-}
-
-impl<R: Wait + Clock + Abort> WithManager for Modifying<'_, R> {
-    type Subscriber = Reacting;
-
-    type Output = ();
-
-    fn run<N: NamedCounter, P: EventPoller>(
-        self,
-        manager: &mut EventManager<Reacting, NoJob, N, P>,
-    ) -> event_manager::Result<()> {
-        let before = Events::new(self.event_fd, EventSet::OUT);
-        let after = Events::new(self.event_fd, EventSet::IN);
-        let reaction = Some(Request::Modify(after));
-        let id = add(self.rt, self.alloc, manager, before, reaction);
-        expect_run(self.rt, manager, 1);
-        expect_saw(self.rt, manager, id, &[before]);
-        expect_ok(self.rt, self.event_fd.write(1, self.rt));
-        expect_run(self.rt, manager, 1);
-        expect_saw(self.rt, manager, id, &[after]);
-        Ok(())
-    }
+    let steps = vec![in alloc;
+        join(&rt, alloc, own, &[Request::Remove(own)]),
+        run(-1),
+        run(100),
+        leave(&rt, alloc, 1),
+    ];
+    expect_steps(&rt, parts, expect_ok(&rt, steps), [1, 0], &[&[own]]);
 }
 
 #[test]
 fn test_modify(rt: HostRuntime) {
-    let parts = expect_ok(&rt, on_table(rt, rt.alloc(), 0));
-    let body = Modifying {
-        rt: &rt,
-        alloc: rt.alloc(),
-        event_fd: &counter_of(&rt, &parts),
-    };
-    expect_ok(&rt, with_manager(parts, body));
-}
-
-/// Runs, lets the subscriber leave, runs, and lets it leave once more.
-#[derive(Drop)]
-struct Removing<'a, R> {
-    rt: &'a R,
-    alloc: Global,
-    own: Events,
-}
-
-/// Lets the subscriber leave: it must have had these events.
-fn expect_leave<N: NamedCounter, P: EventPoller, R: Abort>(
-    rt: &R,
-    manager: &mut EventManager<Reacting, NoJob, N, P>,
-    id: SubscriberId,
-    events: &[Events],
-) {
-    let mut left = expect_ok(rt, manager.remove_subscriber(id));
-    expect_same(rt, &left.saw(events), &true);
-}
-
-impl<R: Wait + Clock + Abort> WithManager for Removing<'_, R> {
-    type Subscriber = Reacting;
-
-    type Output = ();
-
-    fn run<N: NamedCounter, P: EventPoller>(
-        self,
-        manager: &mut EventManager<Reacting, NoJob, N, P>,
-    ) -> event_manager::Result<()> {
-        let id = add(self.rt, self.alloc, manager, self.own, None);
-        expect_run(self.rt, manager, 1);
-        expect_leave(self.rt, manager, id, &[self.own]);
-        expect_run_within(self.rt, manager, 100, 0);
-        let again = manager.remove_subscriber(id).err();
-        expect_same(self.rt, &again, &Some(Error::InvalidId));
-        Ok(())
-    }
+    let alloc = rt.alloc();
+    let parts = expect_ok(&rt, on_table(rt, alloc, 0));
+    let event_fd = counter_of(&rt, &parts.poller);
+    let before = Events::new(&event_fd, EventSet::OUT);
+    let after = Events::new(&event_fd, EventSet::IN);
+    let steps = vec![in alloc;
+        join(&rt, alloc, before, &[Request::Modify(after)]),
+        run(-1),
+        Step::Write(&event_fd),
+        run(-1),
+        leave(&rt, alloc, 1),
+    ];
+    expect_steps(
+        &rt,
+        parts,
+        expect_ok(&rt, steps),
+        [1, 1],
+        &[&[before, after]],
+    );
 }
 
 #[test]
 fn test_remove_subscriber(rt: HostRuntime) {
-    let parts = expect_ok(&rt, on_table(rt, rt.alloc(), 0));
-    let body = Removing {
-        rt: &rt,
-        alloc: rt.alloc(),
-        own: writable_of(&rt, &parts),
+    let alloc = rt.alloc();
+    let parts = expect_ok(&rt, on_table(rt, alloc, 0));
+    let own = writable_of(&rt, &parts);
+    let steps = vec![in alloc;
+        join(&rt, alloc, own, &[]),
+        run(-1),
+        leave(&rt, alloc, 1),
+        run(100),
+        leave(&rt, alloc, 1),
+    ];
+    let mut replies = replies_in(&rt, parts, expect_ok(&rt, steps));
+    let Some(Reply::Removed(again)) = replies.pop() else {
+        panic!(rt; "no leave is last");
     };
-    expect_ok(&rt, with_manager(parts, body));
-}
-
-/// The subscriber's fault.
-fn fault_of<N: NamedCounter, P: EventPoller>(
-    manager: &mut EventManager<CounterSubscriber, NoJob, N, P>,
-    id: SubscriberId,
-) -> event_manager::Result<Option<Error>> {
-    Ok(manager.subscriber_mut(id)?.fault())
-}
-
-/// Takes in a subscriber of this counter, which must then have this fault.
-fn expect_joined<N: NamedCounter, P: EventPoller, R: Abort>(
-    rt: &R,
-    manager: &mut EventManager<CounterSubscriber, NoJob, N, P>,
-    event_fd: &EventFd,
-    fault: Option<Error>,
-) -> SubscriberId {
-    let same = expect_ok(rt, event_fd.try_clone());
-    let id = expect_ok(rt, manager.add_subscriber(CounterSubscriber::new(same)));
-    expect_same(rt, &fault_of(manager, id), &Ok(fault));
-    id
-}
-
-/// Two subscribers join, whose descriptors are the same.
-#[derive(Drop)]
-struct JoiningTwice<'a, R> {
-    rt: &'a R,
-    event_fd: &'a EventFd,
-}
-
-impl<R: Abort> WithManager for JoiningTwice<'_, R> {
-    type Subscriber = CounterSubscriber;
-
-    type Output = ();
-
-    fn run<N: NamedCounter, P: EventPoller>(
-        self,
-        manager: &mut EventManager<CounterSubscriber, NoJob, N, P>,
-    ) -> event_manager::Result<()> {
-        let one = expect_joined(self.rt, manager, self.event_fd, None);
-        let refusal = Some(Error::FdAlreadyRegistered);
-        let two = expect_joined(self.rt, manager, self.event_fd, refusal);
-        expect_same(self.rt, &(one != two), &true);
-        expect_same(self.rt, &fault_of(manager, one), &Ok(None));
-        Ok(())
+    expect_same(&rt, &again.err(), &Some(Error::InvalidId));
+    let (ran, left) = expect_ok(&rt, seen_in(alloc, replies));
+    expect_same(&rt, &ran.as_slice(), &[Ok(1), Ok(0)].as_slice());
+    expect_same(&rt, &left.len(), &1);
+    for asking in left {
+        expect_same(&rt, &asking.seen.as_slice(), &[own].as_slice());
     }
+}
+
+/// `IN` and `HANG_UP` events of a new line in the table of these parts, which has hung up.
+fn hung_up_of<R: Host>(rt: &R, parts: &OnTable<R>) -> [Events; 2] {
+    let line = expect_ok(rt, Line::new(&parts.poller, rt));
+    expect_ok(rt, line.set(EventSet::HANG_UP, rt));
+    [
+        Events::new(&line, EventSet::IN),
+        Events::new(&line, EventSet::HANG_UP),
+    ]
+}
+
+#[test]
+fn test_handling_errors_in_subscriber(rt: HostRuntime) {
+    let alloc = rt.alloc();
+    let parts = expect_ok(&rt, on_table(rt, alloc, 0));
+    let [kept, keeps] = hung_up_of(&rt, &parts);
+    let [removed, removes] = hung_up_of(&rt, &parts);
+    let steps = vec![in alloc;
+        join(&rt, alloc, kept, &[]),
+        run(-1),
+        run(-1),
+        run(-1),
+        join(&rt, alloc, removed, &[Request::Remove(removed)]),
+        run(-1),
+        run(-1),
+        leave(&rt, alloc, 1),
+        leave(&rt, alloc, 2),
+    ];
+    let steps = expect_ok(&rt, steps);
+    let events: [&[Events]; 2] = [&[keeps; 5], &[removes]];
+    expect_steps(&rt, parts, steps, [1, 1, 1, 2, 1], &events);
 }
 
 #[test]
 fn test_add_invalid_subscriber(rt: HostRuntime) {
-    let parts = expect_ok(&rt, on_table(rt, rt.alloc(), 0));
-    let body = JoiningTwice {
-        rt: &rt,
-        event_fd: &counter_of(&rt, &parts),
-    };
-    expect_ok(&rt, with_manager(parts, body));
-}
-
-/// Does nothing.
-#[derive(Drop)]
-struct Nothing;
-
-impl WithManager for Nothing {
-    type Subscriber = CounterSubscriber;
-
-    type Output = ();
-
-    fn run<N: NamedCounter, P: EventPoller>(
-        self,
-        _manager: &mut EventManager<CounterSubscriber, NoJob, N, P>,
-    ) -> event_manager::Result<()> {
-        Ok(())
+    let alloc = rt.alloc();
+    let parts = expect_ok(&rt, on_table(rt, alloc, 0));
+    let event_fd = counter_of(&rt, &parts.poller);
+    let same = expect_ok(&rt, event_fd.try_clone());
+    let steps = vec![in alloc;
+        Step::Make(Call::Add(CounterSubscriber::new(event_fd))),
+        Step::Make(Call::Add(CounterSubscriber::new(same))),
+        leave(&rt, alloc, 1),
+        leave(&rt, alloc, 2),
+    ];
+    let left = left_in(&rt, parts, expect_ok(&rt, steps), []);
+    expect_same(&rt, &left.len(), &2);
+    for (subscriber, fault) in left.iter().zip([None, Some(Error::FdAlreadyRegistered)]) {
+        expect_same(&rt, &subscriber.fault(), &fault);
     }
-}
-
-/// Expects that a manager of this capacity is refused.
-fn expect_refused<R: Host>(rt: R, alloc: Global, capacity: usize) {
-    let mut parts = expect_ok(&rt, on_table(rt, alloc, 0));
-    parts.capacity = Some(capacity);
-    expect_same(
-        &rt,
-        &with_manager(parts, Nothing),
-        &Err(Error::InvalidCapacity),
-    );
 }
 
 #[test]
 fn test_max_ready_list_size(rt: HostRuntime) {
     for capacity in [178956971, usize::MAX] {
-        expect_refused(rt, rt.alloc(), capacity);
+        let mut parts = expect_ok(&rt, on_table(rt, rt.alloc(), 0));
+        parts.capacity = Some(capacity);
+        let refused = replies_to::<Idle, _, _>(&rt, parts, Vec::new(rt.alloc())).err();
+        expect_same(&rt, &refused, &Some(Error::InvalidCapacity));
+    }
+}
+
+/// Which of the hundred subscribers are triggered.
+const TRIGGERED: [usize; 4] = [1, 3, 50, 97];
+
+/// Joins a subscriber of each counter, of which some are triggered, and runs; clears those, and runs again; all leave.
+fn steps_of_hundred<'a, R: Host>(
+    rt: &R,
+    alloc: Global,
+    event_fds: &'a [EventFd],
+) -> Vec<Step<'a, CounterSubscriber>> {
+    let mut steps = Vec::new(alloc);
+    for (index, event_fd) in event_fds.iter().enumerate() {
+        let mut subscriber = CounterSubscriber::new(expect_ok(rt, event_fd.try_clone()));
+        if TRIGGERED.contains(&index) {
+            subscriber.trigger_event(rt);
+        }
+        expect_ok(rt, steps.push(Step::Make(Call::Add(subscriber))));
+    }
+    expect_ok(rt, steps.push(run(100)));
+    for index in TRIGGERED {
+        if let Some(event_fd) = event_fds.get(index) {
+            expect_ok(rt, steps.push(Step::Read(event_fd)));
+        }
+    }
+    expect_ok(rt, steps.push(run(100)));
+    for number in 1..=100 {
+        expect_ok(rt, steps.push(leave(rt, alloc, number)));
+    }
+    steps
+}
+
+#[test]
+fn test_single_threaded(rt: HostRuntime) {
+    let parts = expect_ok(&rt, on_table(rt, rt.alloc(), 0));
+    let mut event_fds = Vec::new(rt.alloc());
+    for _ in 0..100 {
+        expect_ok(&rt, event_fds.push(counter_of(&rt, &parts.poller)));
+    }
+    let steps = steps_of_hundred(&rt, rt.alloc(), &event_fds);
+    let left = left_in(&rt, parts, steps, [4, 0]);
+    expect_same(&rt, &left.len(), &100);
+    for (index, subscriber) in left.iter().enumerate() {
+        let counted = u64::from(TRIGGERED.contains(&index));
+        expect_same(&rt, &subscriber.counter(), &counted);
+    }
+}
+
+#[test]
+fn test_reuse_file_descriptor(rt: HostRuntime) {
+    let alloc = rt.alloc();
+    let parts = expect_ok(&rt, on_table(rt, alloc, 0));
+    let event_fds = three_counters_of(&rt, &parts.poller);
+    let mut subscriber = CounterSubscriberWithData::new(alloc, event_fds, 0);
+    subscriber.set_toggle_registry(true);
+    subscriber.trigger_all_counters(&rt);
+    let steps = vec![in alloc;
+        Step::Make(Call::Add(subscriber)),
+        run(-1),
+        leave(&rt, alloc, 1),
+    ];
+    let left = left_in(&rt, parts, expect_ok(&rt, steps), [3]);
+    expect_same(&rt, &left.len(), &1);
+    for subscriber in &left {
+        expect_values(&rt, subscriber, [1, 0, 0]);
     }
 }

@@ -2,17 +2,17 @@
 
 ghost use Rattle.std.specs.Prelude.{◌≡◌};
 
-use crate::expecting::{expect_ok, expect_run_within, expect_same, expect_values};
+use crate::expecting::{expect_ok, expect_same, expect_values};
 use crate::making::{Host, counter_of, three_counters_of};
 use event_manager::utilities::subscribers::{
     CounterInnerMutSubscriber, CounterSubscriber, CounterSubscriberWithData,
 };
 use event_manager::{
     Either, EventManager, Ledgers, MutEventSubscriber, Named, NamedCounter, Naming, NoJob,
-    SubscriberId, SubscriberOps,
 };
 use fixtures::making::make;
 use fixtures::parts::{OnTable, on_table};
+use fixtures::runs::{let_leave, take_in};
 use std::alloc::Global;
 use std::marker::Brand;
 use std::sync::Arc;
@@ -23,57 +23,20 @@ use vmm_sys::eventfd::EventFd;
 
 type Loop<S, N, R> = EventManager<S, NoJob, N, Epoll<R>>;
 
-/// Makes a hundred runs, each of which must report so many events.
-fn run_hundred<S: MutEventSubscriber, N: NamedCounter, R: Host>(
-    rt: R,
-    manager: Loop<S, N, R>,
-    count: usize,
-) -> Loop<S, N, R> {
-    let mut manager = manager;
-    for _ in 0..100 {
-        expect_run_within(&rt, &mut manager, 1000, count);
-    }
-    manager
-}
-
-/// Takes the subscribers in: their ids, in order.
-fn add_all<S: MutEventSubscriber + Drop, N: NamedCounter, R: Host>(
-    rt: &R,
-    alloc: Global,
-    manager: &mut Loop<S, N, R>,
-    subscribers: Vec<S>,
-) -> Vec<SubscriberId> {
-    let mut ids = Vec::new(alloc);
-    for subscriber in subscribers {
-        let id = expect_ok(rt, manager.add_subscriber(subscriber));
-        expect_ok(rt, ids.push(id));
-    }
-    ids
-}
-
-/// Lets them leave: the subscribers.
-fn remove_all<S: MutEventSubscriber + Drop, N: NamedCounter, R: Host>(
-    rt: &R,
-    alloc: Global,
-    manager: &mut Loop<S, N, R>,
-    ids: &[SubscriberId],
-) -> Vec<S> {
-    let mut left = Vec::new(alloc);
-    for id in ids {
-        let subscriber = expect_ok(rt, manager.remove_subscriber(*id));
-        expect_same(rt, &left.push(subscriber).is_ok(), &true);
-    }
-    left
-}
-
-/// The manager, after a second thread made a hundred runs with it.
+/// The manager, after a second thread made a hundred runs with it, each of which must report so many events.
 fn moved<S, N, R>(rt: R, manager: Loop<S, N, R>, count: usize) -> Loop<S, N, R>
 where
     S: MutEventSubscriber + Send + Drop + 'static,
     N: NamedCounter + Send + Sync + 'static,
     R: Host,
 {
-    let runner = thread::spawn(&rt, move || run_hundred(rt, manager, count));
+    let runner = thread::spawn(&rt, move || {
+        let mut manager = manager;
+        for _ in 0..100 {
+            expect_same(&rt, &manager.run_with_timeout(1000, &rt), &Ok(count));
+        }
+        manager
+    });
     expect_ok(&rt, runner).join(&rt)
 }
 
@@ -98,9 +61,9 @@ where
     let alloc = parts.alloc;
     let made = make::<S, NoJob, _, _>(parts, Named::<N, _>::new(counter), ledgers);
     let mut manager = expect_ok(&rt, made);
-    let ids = add_all(&rt, alloc, &mut manager, subscribers);
+    let ids = expect_ok(&rt, take_in(&mut manager, alloc, subscribers));
     let mut manager = moved(rt, manager, count);
-    remove_all(&rt, alloc, &mut manager, ids.as_slice())
+    expect_ok(&rt, let_leave(&mut manager, alloc, &ids))
 }
 
 /// The subscribers, in order, after a manager of them was moved to a second thread and has made a hundred runs there,
@@ -122,7 +85,7 @@ fn triggered<R: Host>(
     parts: &OnTable<R>,
     first_data: u16,
 ) -> CounterSubscriberWithData {
-    let event_fds = three_counters_of(rt, parts);
+    let event_fds = three_counters_of(rt, &parts.poller);
     let mut subscriber = CounterSubscriberWithData::new(alloc, event_fds, u32::from(first_data));
     subscriber.trigger_all_counters(rt);
     subscriber
@@ -145,7 +108,7 @@ fn test_one_type_subscriber(rt: HostRuntime) {
 fn test_diff_type_subscribers(rt: HostRuntime) {
     let parts = expect_ok(&rt, on_table(rt, rt.alloc(), 0));
     let three = triggered(&rt, rt.alloc(), &parts, 1);
-    let mut one = CounterSubscriber::new(counter_of(&rt, &parts));
+    let mut one = CounterSubscriber::new(counter_of(&rt, &parts.poller));
     one.trigger_event(&rt);
     let both = vec![in rt.alloc(); Either::First(three), Either::Second(one)];
     let both = expect_ok(&rt, both);
@@ -162,7 +125,7 @@ fn test_diff_type_subscribers(rt: HostRuntime) {
 #[test]
 fn test_subscriber_inner_mut(rt: HostRuntime) {
     let parts = expect_ok(&rt, on_table(rt, rt.alloc(), 0));
-    let subscriber = CounterInnerMutSubscriber::new(counter_of(&rt, &parts));
+    let subscriber = CounterInnerMutSubscriber::new(counter_of(&rt, &parts.poller));
     let shared = expect_ok(&rt, Arc::new(rt.alloc(), subscriber));
     shared.trigger_event(&rt);
     let theirs = expect_ok(&rt, shared.clone());

@@ -2,23 +2,9 @@
 #![tactic(auto)]
 
 #[cfg(test)]
-mod driving;
-#[cfg(test)]
 mod expecting;
-#[cfg(test)]
-mod ids;
 pub mod leaving;
 #[cfg(test)]
 mod lists;
 #[cfg(test)]
-mod neighbours;
-#[cfg(test)]
-mod recorded;
-#[cfg(test)]
-mod requests;
-#[cfg(test)]
-mod runs;
-#[cfg(test)]
 mod solo;
-#[cfg(test)]
-mod subscribers;

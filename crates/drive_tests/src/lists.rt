@@ -1,145 +1,156 @@
-//! Lists of all lengths, and lists in a row.
+//! Lists of calls, and what they reply.
 
-use crate::driving::{drive_behind, expect_replies, first_ids, replies_of_quiet, two_ids};
-use crate::expecting::{expect, expect_ok, expect_same};
-use crate::subscribers::{Quiet, wanted};
-use event_manager::{Call, Reply, Request, SubscriberId};
+use crate::expecting::{expect_ok, expect_same};
+use event_manager::{
+    Call, Error, EventOps, EventPoller, Events, MutEventSubscriber, Reply, Request, Result,
+};
+use fixtures::asking::wanted;
+use fixtures::driving::{id_of, replies_to};
+use fixtures::parts::silent_parts;
 use std::alloc::Global;
 use std::process::Abort;
+use std::rc::Rc;
+use std::sync::Wait;
+use std::time::Clock;
+use vmm_sys::errno::Errno;
 use vmm_sys::script_poller::ScriptPoller;
 
+/// Asks for nothing, and changes nothing.
+#[derive(PartialEq, Debug, Drop)]
+struct Quiet(u64);
+
+impl MutEventSubscriber for Quiet {
+    ghost use Rattle.std.specs.Prelude.{◌≡◌, []};
+
+    ghost begins = { λ v exchanges w. (exchanges ≡ []) × (w ≡ v) };
+
+    ghost serves = { λ v event exchanges w. (exchanges ≡ []) × (w ≡ v) };
+
+    fn process<P: EventPoller>(&mut self, _events: Events, _ops: &mut EventOps<P>) {}
+
+    fn init<P: EventPoller>(&mut self, _ops: &mut EventOps<P>) {}
+}
+
+/// The replies of a new manager to the calls, over a poller that reports nothing.
+fn replies_over_nothing<R, S>(rt: R, alloc: Global, calls: Vec<Call<S>>) -> Vec<Reply<S>>
+where
+    R: Wait + Clock + Abort + Copy + Send + Drop,
+    S: MutEventSubscriber + Drop,
+{
+    let parts = expect_ok(&rt, silent_parts(rt, alloc, ScriptPoller::new(alloc)));
+    expect_ok(&rt, replies_to(&rt, parts, calls))
+}
+
 #[test]
-fn an_empty_list_has_no_reply(rt: HostRuntime) {
-    let lists = expect_ok(&rt, vec![in rt.alloc(); Vec::new(rt.alloc())]);
-    expect(&rt, replies_of_quiet(rt, rt.alloc(), lists).is_empty());
+fn ids_go_up_and_an_id_that_left_is_unknown(rt: HostRuntime) {
+    let first = expect_ok(&rt, id_of(rt.alloc(), 1));
+    let second = expect_ok(&rt, id_of(rt.alloc(), 2));
+    let requests = expect_ok(&rt, vec![in rt.alloc(); Request::Remove(wanted(3))]);
+    let calls = vec![in rt.alloc();
+        Call::Add(Quiet(11)),
+        Call::Remove(first),
+        Call::Add(Quiet(12)),
+        Call::Remove(first),
+        Call::Set(second, Quiet(13)),
+        Call::Ask(first, requests),
+    ];
+    let replies = replies_over_nothing(rt, rt.alloc(), expect_ok(&rt, calls));
+    let expected = vec![in rt.alloc();
+        Reply::Added(Ok(first)),
+        Reply::Removed(Ok(Quiet(11))),
+        Reply::Added(Ok(second)),
+        Reply::Removed(Err(Error::InvalidId)),
+        Reply::Set(Ok(Quiet(12))),
+        Reply::Asked(Err(Error::InvalidId)),
+    ];
+    expect_same(&rt, &replies, &expect_ok(&rt, expected));
 }
 
-/// A join, no call, and another join before both leave.
-fn lists_around_an_empty_one<R: Abort>(
-    rt: &R,
-    alloc: Global,
-    [first, second]: [SubscriberId; 2],
-) -> Vec<Vec<Call<Quiet>>> {
-    let former = expect_ok(rt, vec![in alloc; Call::Add(Quiet(11))]);
-    let latter = expect_ok(
-        rt,
-        vec![in alloc;
-            Call::Add(Quiet(12)),
-            Call::Remove(first),
-            Call::Remove(second),
-        ],
-    );
-    expect_ok(rt, vec![in alloc; former, Vec::new(alloc), latter])
+/// Counts in `init` how many hold what it holds.
+#[derive(Drop)]
+struct Counting {
+    held: Rc<u64>,
+    holders: usize,
 }
 
-#[test]
-fn an_empty_list_uses_no_id_up(rt: HostRuntime) {
-    let lists = lists_around_an_empty_one(&rt, rt.alloc(), two_ids(rt, rt.alloc()));
-    expect_replies(
-        &rt,
-        rt.alloc(),
-        &replies_of_quiet(rt, rt.alloc(), lists),
-        "[Added(Ok(SubscriberId { number: 1 })), Added(Ok(SubscriberId { number: 2 })), Removed(Ok(Quiet(11))), Removed(Ok(Quiet(12)))]",
-    );
-}
+impl MutEventSubscriber for Counting {
+    ghost use Rattle.std.specs.Prelude.{◌≡◌, []};
 
-/// Joins and leaves of these ids in turn, and their replies.
-fn joins_and_leaves<R: Abort>(
-    rt: &R,
-    alloc: Global,
-    ids: &[SubscriberId],
-) -> (Vec<Call<Quiet>>, Vec<Reply<Quiet>>) {
-    let (mut calls, mut replies) = (Vec::new(alloc), Vec::new(alloc));
-    for id in ids {
-        expect_ok(rt, calls.push(Call::Add(Quiet(id.number()))));
-        expect_ok(rt, replies.push(Reply::Added(Ok(*id))));
-        expect_ok(rt, calls.push(Call::Remove(*id)));
-        expect_ok(rt, replies.push(Reply::Removed(Ok(Quiet(id.number())))));
+    ghost begins = { λ v exchanges w. exchanges ≡ [] };
+
+    ghost serves = { λ v event exchanges w. exchanges ≡ [] };
+
+    fn process<P: EventPoller>(&mut self, _events: Events, _ops: &mut EventOps<P>) {}
+
+    fn init<P: EventPoller>(&mut self, _ops: &mut EventOps<P>) {
+        self.holders = Rc::strong_count(&self.held);
     }
-    (calls, replies)
+}
+
+fn count_holders<R: Abort>(rt: &R, held: &Rc<u64>) -> Counting {
+    Counting {
+        held: expect_ok(rt, held.clone()),
+        holders: 0,
+    }
+}
+
+#[test]
+fn a_refused_set_drops_the_new_value_before_the_next_call(rt: HostRuntime) {
+    let first = expect_ok(&rt, id_of(rt.alloc(), 1));
+    let held = expect_ok(&rt, Rc::new(rt.alloc(), 7));
+    let calls = vec![in rt.alloc();
+        Call::Set(first, count_holders(&rt, &held)),
+        Call::Add(count_holders(&rt, &held)),
+        Call::Remove(first),
+    ];
+    let mut replies = replies_over_nothing(rt, rt.alloc(), expect_ok(&rt, calls));
+    let Some(Reply::Removed(Ok(left))) = replies.pop() else {
+        panic!(rt; "nobody leaves");
+    };
+    // The test's and its own.
+    expect_same(&rt, &left.holders, &2);
 }
 
 #[test]
 fn three_hundred_calls_have_three_hundred_replies(rt: HostRuntime) {
-    let ids = first_ids(rt, rt.alloc(), 150);
-    let (calls, expected) = joins_and_leaves(&rt, rt.alloc(), &ids);
-    expect_same(&rt, &expected.len(), &300);
-    let lists = expect_ok(&rt, vec![in rt.alloc(); calls]);
-    expect_same(&rt, &replies_of_quiet(rt, rt.alloc(), lists), &expected);
-}
-
-/// Appends two joins, a request and a run.
-fn push_first_half<R: Abort>(
-    rt: &R,
-    calls: &mut Vec<Call<Quiet>>,
-    alloc: Global,
-    [first, _]: [SubscriberId; 2],
-) {
-    let requests = expect_ok(rt, vec![in alloc; Request::Add(wanted(3))]);
-    expect_ok(rt, calls.push(Call::Add(Quiet(11))));
-    expect_ok(rt, calls.push(Call::Add(Quiet(12))));
-    expect_ok(rt, calls.push(Call::Ask(first, requests)));
-    expect_ok(rt, calls.push(Call::Run(0)));
-}
-
-/// Appends a request for what the first half asked for, and leaves around a join.
-fn push_second_half<R: Abort>(
-    rt: &R,
-    calls: &mut Vec<Call<Quiet>>,
-    alloc: Global,
-    [first, second]: [SubscriberId; 2],
-) {
-    let requests = expect_ok(rt, vec![in alloc; Request::Add(wanted(3))]);
-    expect_ok(rt, calls.push(Call::Ask(second, requests)));
-    expect_ok(rt, calls.push(Call::Remove(first)));
-    expect_ok(rt, calls.push(Call::Add(Quiet(13))));
-    expect_ok(rt, calls.push(Call::Set(second, Quiet(14))));
-    expect_ok(rt, calls.push(Call::Remove(second)));
-}
-
-/// Both halves as one list, or as two.
-fn halves<R: Abort>(
-    rt: &R,
-    alloc: Global,
-    ids: [SubscriberId; 2],
-    as_one: bool,
-) -> Vec<Vec<Call<Quiet>>> {
-    let mut calls = Vec::new(alloc);
-    push_first_half(rt, &mut calls, alloc, ids);
-    if as_one {
-        push_second_half(rt, &mut calls, alloc, ids);
-        return expect_ok(rt, vec![in alloc; calls]);
+    let (mut calls, mut expected) = (Vec::new(rt.alloc()), Vec::new(rt.alloc()));
+    for number in 1..=150 {
+        let id = expect_ok(&rt, id_of(rt.alloc(), number));
+        expect_ok(&rt, calls.push(Call::Add(Quiet(number))));
+        expect_ok(&rt, expected.push(Reply::Added(Ok(id))));
+        expect_ok(&rt, calls.push(Call::Remove(id)));
+        expect_ok(&rt, expected.push(Reply::Removed(Ok(Quiet(number)))));
     }
-    let mut latter = Vec::new(alloc);
-    push_second_half(rt, &mut latter, alloc, ids);
-    expect_ok(rt, vec![in alloc; calls, latter])
+    expect_same(&rt, &replies_over_nothing(rt, rt.alloc(), calls), &expected);
+}
+
+/// Four requests for each of fifty descriptors, and their answers.
+fn requests_and_answers<R: Abort>(rt: &R, alloc: Global) -> (Vec<Request>, Vec<Result<()>>) {
+    let (mut requests, mut answers) = (Vec::new(alloc), Vec::new(alloc));
+    let unknown = Err(Error::Epoll(Errno::ENOENT));
+    for fd in 1..=50 {
+        let own = wanted(fd);
+        let exchanges = [
+            (Request::Add(own), Ok(())),
+            (Request::Add(own), Err(Error::FdAlreadyRegistered)),
+            (Request::Remove(own), Ok(())),
+            (Request::Modify(own), unknown),
+        ];
+        for (request, answer) in exchanges {
+            expect_ok(rt, requests.push(request));
+            expect_ok(rt, answers.push(answer));
+        }
+    }
+    (requests, answers)
 }
 
 #[test]
-fn two_drives_reply_as_one_drive_of_both_lists(rt: HostRuntime) {
-    let ids = two_ids(rt, rt.alloc());
-    for as_one in [true, false] {
-        let lists = halves(&rt, rt.alloc(), ids, as_one);
-        expect_replies(
-            &rt,
-            rt.alloc(),
-            &replies_of_quiet(rt, rt.alloc(), lists),
-            "[Added(Ok(SubscriberId { number: 1 })), Added(Ok(SubscriberId { number: 2 })), Asked(Ok([Ok(())])), Ran(Ok(0)), Asked(Ok([Err(FdAlreadyRegistered)])), Removed(Ok(Quiet(11))), Added(Ok(SubscriberId { number: 3 })), Set(Ok(Quiet(12))), Removed(Ok(Quiet(14)))]",
-        );
-    }
-}
-
-#[test]
-fn replies_stand_behind_those_before(rt: HostRuntime) {
-    let before = vec![in rt.alloc(); Reply::Ran(Ok(7)), Reply::Removed(Ok(Quiet(21)))];
-    let before = expect_ok(&rt, before);
-    let calls = expect_ok(&rt, vec![in rt.alloc(); Call::Add(Quiet(11)), Call::Run(0)]);
-    let lists = expect_ok(&rt, vec![in rt.alloc(); calls]);
-    let script = ScriptPoller::new(rt.alloc());
-    expect_replies(
-        &rt,
-        rt.alloc(),
-        &drive_behind(rt, rt.alloc(), script, lists, before),
-        "[Ran(Ok(7)), Removed(Ok(Quiet(21))), Added(Ok(SubscriberId { number: 1 })), Ran(Ok(0))]",
-    );
+fn two_hundred_requests_have_their_answers_in_order(rt: HostRuntime) {
+    let (requests, answers) = requests_and_answers(&rt, rt.alloc());
+    expect_same(&rt, &answers.len(), &200);
+    let id = expect_ok(&rt, id_of(rt.alloc(), 1));
+    let calls = vec![in rt.alloc(); Call::Add(Quiet(11)), Call::Ask(id, requests)];
+    let replies = replies_over_nothing(rt, rt.alloc(), expect_ok(&rt, calls));
+    let expected = vec![in rt.alloc(); Reply::Added(Ok(id)), Reply::Asked(Ok(answers))];
+    expect_same(&rt, &replies, &expect_ok(&rt, expected));
 }

@@ -1,14 +1,13 @@
 //! A subscriber that asks for nothing after its `init` is given the same beside any neighbour as alone.
 
-use crate::driving::{replies_to, two_ids};
 use crate::expecting::{expect, expect_ok, expect_same};
-use crate::neighbours::{make_grasping, make_renewing, make_silent};
-use crate::subscribers::{Noting, make_noting};
-use event_manager::{BoxedSubscriber, Call, Either, Events, Reply, SubscriberId};
+use event_manager::{Call, Events, Request};
+use fixtures::asking::{Asking, adds, wanted};
+use fixtures::driving::{driven, id_of};
+use fixtures::parts::silent_parts;
 use std::alloc::Global;
 use std::process::Abort;
-use std::sync::atomic::{AtomicU64, Ordering};
-use std::sync::{Arc, Wait};
+use std::sync::Wait;
 use std::time::Clock;
 use vmm_sys::epoll::{EpollEvent, EventSet};
 use vmm_sys::script_poller::ScriptPoller;
@@ -46,90 +45,87 @@ fn three_reports<R: Abort>(rt: &R, alloc: Global) -> ScriptPoller {
 /// The events of 3 and 4 in the reports.
 fn events_of_3_and_4() -> [Events; 6] {
     [
-        Events::new_raw(3, EventSet::IN),
-        Events::with_data_raw(4, 7, EventSet::IN),
-        Events::with_data_raw(3, 1, EventSet::IN),
-        Events::new_raw(3, EventSet::OUT),
-        Events::new_raw(4, EventSet::OUT),
-        Events::new_raw(3, EventSet::IN),
+        Events::new_raw(3, IN),
+        Events::with_data_raw(4, 7, IN),
+        Events::with_data_raw(3, 1, IN),
+        Events::new_raw(3, OUT),
+        Events::new_raw(4, OUT),
+        Events::new_raw(3, IN),
     ]
 }
 
-/// An owner of 3 and 4, or a neighbour of it.
-type Member = Either<Noting, BoxedSubscriber>;
-
-/// The owner joins, and this neighbour behind it, if any; three runs, and the owner leaves.
-fn calls_beside<R: Abort>(
-    rt: &R,
-    alloc: Global,
-    id: SubscriberId,
-    neighbour: Option<BoxedSubscriber>,
-) -> Vec<Call<Member>> {
-    let mut calls = Vec::new(alloc);
-    let owner = make_noting(alloc, 3, 4);
-    expect_ok(rt, calls.push(Call::Add(Either::First(owner))));
+/// The owner of 3 and 4 joins, and this neighbour behind it, if any; three runs, and both leave.
+fn calls_beside<R: Abort>(rt: &R, alloc: Global, neighbour: Option<Asking>) -> Vec<Call<Asking>> {
+    let own = [Request::Add(wanted(3)), Request::Add(wanted(4))];
+    let owner = expect_ok(rt, Asking::new(alloc, &own, &[]));
+    let mut calls = expect_ok(rt, vec![in alloc; Call::Add(owner)]);
+    let mut joined = 1;
     if let Some(neighbour) = neighbour {
-        expect_ok(rt, calls.push(Call::Add(Either::Second(neighbour))));
+        expect_ok(rt, calls.push(Call::Add(neighbour)));
+        joined = 2;
     }
     for _run in 0..3 {
         expect_ok(rt, calls.push(Call::Run(0)));
     }
-    expect_ok(rt, calls.push(Call::Remove(id)));
+    for number in 1..=joined {
+        expect_ok(
+            rt,
+            calls.push(Call::Remove(expect_ok(rt, id_of(alloc, number)))),
+        );
+    }
     calls
 }
 
-/// What the owner of 3 and 4 is given over the reports, where this neighbour, if any, joins behind it.
-fn seen_beside<R: Wait + Clock + Abort + Copy + Send + Drop>(
+/// Expects that the owner of 3 and 4 is given their events beside this neighbour, which has so many events.
+fn expect_beside<R: Wait + Clock + Abort + Copy + Send + Drop>(
     rt: R,
     alloc: Global,
-    neighbour: Option<BoxedSubscriber>,
-) -> Vec<Events> {
-    let [id, _] = two_ids(rt, alloc);
-    let calls = calls_beside(&rt, alloc, id, neighbour);
-    let mut replies = replies_to(rt, alloc, three_reports(&rt, alloc), calls);
-    match replies.pop() {
-        Some(Reply::Removed(Ok(Either::First(owner)))) => owner.seen,
-        _ => panic!(rt; "the owner does not leave"),
-    }
-}
-
-/// Expects that the owner of 3 and 4 is given their events beside this neighbour.
-fn expect_events_beside<R: Wait + Clock + Abort + Copy + Send + Drop>(
-    rt: R,
-    alloc: Global,
-    neighbour: Option<BoxedSubscriber>,
+    neighbour: Option<Asking>,
+    count: Option<usize>,
 ) {
-    let seen = seen_beside(rt, alloc, neighbour);
-    expect(&rt, seen.as_slice() == events_of_3_and_4().as_slice());
+    let parts = expect_ok(&rt, silent_parts(rt, alloc, three_reports(&rt, alloc)));
+    let calls = calls_beside(&rt, alloc, neighbour);
+    let (_ran, left) = expect_ok(&rt, driven(&rt, parts, calls));
+    let Some(owner) = left.first() else {
+        panic!(rt; "the owner does not leave");
+    };
+    expect(&rt, owner.seen.as_slice() == events_of_3_and_4().as_slice());
+    expect_same(
+        &rt,
+        &left.get(1).map(|neighbour| neighbour.seen.len()),
+        &count,
+    );
 }
 
 #[test]
 fn alone_it_is_given_its_events_in_order(rt: HostRuntime) {
-    expect_events_beside(rt, rt.alloc(), None);
+    expect_beside(rt, rt.alloc(), None, None);
 }
 
 #[test]
 fn beside_one_that_renews_its_descriptors(rt: HostRuntime) {
-    let events = expect_ok(&rt, Arc::new(rt.alloc(), AtomicU64::new(0)));
-    let counted = expect_ok(&rt, events.clone());
-    let neighbour = expect_ok(&rt, make_renewing(rt.alloc(), counted));
-    expect_events_beside(rt, rt.alloc(), Some(neighbour));
+    let adds = [Request::Add(wanted(5)), Request::Add(wanted(6))];
+    let renewal = [
+        Request::Remove(wanted(5)),
+        Request::Remove(wanted(6)),
+        Request::Add(wanted(5)),
+        Request::Add(wanted(6)),
+    ];
+    let neighbour = expect_ok(&rt, Asking::new(rt.alloc(), &adds, &renewal));
     // Of 5 in the first two reports: with it goes the event of 6 behind.
-    expect_same(&rt, &events.load(Ordering::SeqCst), &2);
+    expect_beside(rt, rt.alloc(), Some(neighbour), Some(2));
 }
 
 #[test]
 fn beside_one_that_asks_for_all_descriptors(rt: HostRuntime) {
-    let events = expect_ok(&rt, Arc::new(rt.alloc(), AtomicU64::new(0)));
-    let counted = expect_ok(&rt, events.clone());
-    let neighbour = expect_ok(&rt, make_grasping(rt.alloc(), counted));
-    expect_events_beside(rt, rt.alloc(), Some(neighbour));
+    let all = expect_ok(&rt, adds(rt.alloc(), 0, 10));
+    let neighbour = expect_ok(&rt, Asking::new(rt.alloc(), &all, &all));
     // Of 5 and 6 in the first two reports, and of 8 in the third.
-    expect_same(&rt, &events.load(Ordering::SeqCst), &5);
+    expect_beside(rt, rt.alloc(), Some(neighbour), Some(5));
 }
 
 #[test]
 fn beside_one_that_asks_for_nothing(rt: HostRuntime) {
-    let neighbour = expect_ok(&rt, make_silent(rt.alloc()));
-    expect_events_beside(rt, rt.alloc(), Some(neighbour));
+    let neighbour = expect_ok(&rt, Asking::new(rt.alloc(), &[], &[]));
+    expect_beside(rt, rt.alloc(), Some(neighbour), Some(0));
 }

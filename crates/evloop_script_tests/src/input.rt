@@ -50,15 +50,16 @@ fn all_bytes_are_read(rt: HostRuntime) {
 
 #[test]
 fn a_failing_read_is_told(rt: HostRuntime) {
-    let mut input = make_trickle(Some(ErrorKind::ConnectionReset));
-    let read = read_text(rt.alloc(), &mut input);
+    let read = read_text(
+        rt.alloc(),
+        &mut make_trickle(Some(ErrorKind::ConnectionReset)),
+    );
     expect_same(&rt, &read.err(), &Some(Fault::CannotRead));
 }
 
 #[test]
 fn want_of_memory_while_reading_is_told(rt: HostRuntime) {
-    let mut input = make_trickle(Some(ErrorKind::OutOfMemory));
-    let read = read_text(rt.alloc(), &mut input);
+    let read = read_text(rt.alloc(), &mut make_trickle(Some(ErrorKind::OutOfMemory)));
     expect_same(&rt, &read.err(), &Some(Fault::OutOfMemory));
 }
 

@@ -2,44 +2,43 @@
 
 ghost use Rattle.std.specs.Prelude.{◌≤◌, length, IfOk};
 
-use crate::expecting::{expect_ok, expect_same, expect_same_for};
-use event_loop::{Error, EventLoop, EventSet, Events, Request, SubscriberOps};
+use crate::expecting::{expect_ok, expect_same};
+use event_loop::{EventLoop, EventSet, Events, Request, SubscriberOps};
 use evloop_script::fault::Fault;
 use evloop_script::output::{Out, OutputLine, Printer};
 use evloop_script::reactions::Reactions;
 use evloop_script::requests::print_replies;
 use evloop_script::subscriber::Subscriber;
-use std::alloc::{AllocError, Global};
 use std::cell::RefCell;
 use std::io;
 use std::io::{ErrorKind, Write};
 use std::process::Abort;
 use std::rc::Rc;
 use vmm_sys::epoll::EpollEvent;
-use vmm_sys::errno::Errno;
 use vmm_sys::script_poller::ScriptPoller;
 
-/// Which writes an output refuses, counted from 0.
-#[derive(Clone, Copy)]
-enum Refused {
-    None,
-    Only(u64),
-}
-
-/// What an output takes: at most so many bytes a write, and no write that is refused.
+/// What an output takes: at most so many bytes a write, and not the write of this number, counted from 0.
 #[derive(Clone, Copy)]
 struct Terms {
     at_most: usize,
-    refused: Refused,
+    refused: Option<u64>,
     error: ErrorKind,
 }
 
 /// Takes all that it is given, and at once.
 const ALL: Terms = Terms {
     at_most: 65536,
-    refused: Refused::None,
+    refused: None,
     error: ErrorKind::StorageFull,
 };
+
+/// The same but for the write of this number.
+fn but_for(number: u64) -> Terms {
+    Terms {
+        refused: Some(number),
+        ..ALL
+    }
+}
 
 /// What was written so far.
 #[derive(Drop)]
@@ -62,11 +61,7 @@ impl Page {
     {
         let write = self.writes;
         self.writes = write.saturating_add(1);
-        let is_refused = match self.terms.refused {
-            Refused::None => false,
-            Refused::Only(number) => write == number,
-        };
-        if is_refused {
+        if self.terms.refused == Some(write) {
             return Err(io::Error::from(self.terms.error));
         }
         let count = bytes.len().min(self.terms.at_most);
@@ -96,19 +91,11 @@ impl Out for Memory {
     }
 }
 
-fn make_page(alloc: Global, terms: Terms) -> Result<Rc<RefCell<Page>>, AllocError> {
-    let page = Page {
-        bytes: Vec::new(alloc),
-        writes: 0,
-        terms,
-    };
-    Ok(Rc::new(alloc, RefCell::new(page))?)
-}
-
-fn text_of<R: Abort>(rt: &R, alloc: Global, page: &RefCell<Page>) -> String {
+// Expects that this was written.
+fn expect_text<R: Abort>(rt: &R, page: &RefCell<Page>, expected: &str) {
     let page = expect_ok(rt, page.try_borrow());
     let text = expect_ok(rt, std::str::from_utf8(&page.bytes));
-    expect_ok(rt, String::from_str(alloc, text))
+    expect_same(rt, &text, &expected);
 }
 
 // A printer on an output of these terms, and what is written to it.
@@ -116,7 +103,12 @@ fn printer_on<R: Abort + AllocGlobal>(
     rt: &R,
     terms: Terms,
 ) -> (Rc<RefCell<Page>>, Printer<Memory>) {
-    let page = expect_ok(rt, make_page(rt.alloc(), terms));
+    let page = Page {
+        bytes: Vec::new(rt.alloc()),
+        writes: 0,
+        terms,
+    };
+    let page = expect_ok(rt, Rc::new(rt.alloc(), RefCell::new(page)));
     let out = Memory {
         page: expect_ok(rt, page.clone()),
         handles: 0,
@@ -137,8 +129,7 @@ fn an_output_that_takes_single_bytes_loses_nothing(rt: HostRuntime) {
     let (page, mut printer) = printer_on(&rt, Terms { at_most: 1, ..ALL });
     expect_ok(&rt, printer.print(&LEFT));
     expect_ok(&rt, printer.print(&RAN));
-    let text = text_of(&rt, rt.alloc(), &page);
-    expect_same(&rt, &text.as_str(), &"drop a: ok\nrun: 0\n");
+    expect_text(&rt, &page, "drop a: ok\nrun: 0\n");
 }
 
 // The output takes five bytes a write.
@@ -146,15 +137,14 @@ fn an_output_that_takes_single_bytes_loses_nothing(rt: HostRuntime) {
 fn a_line_refused_in_the_middle_keeps_its_beginning(rt: HostRuntime) {
     let terms = Terms {
         at_most: 5,
-        refused: Refused::Only(1),
+        refused: Some(1),
         ..ALL
     };
     let (page, mut printer) = printer_on(&rt, terms);
     let refused = printer.print(&LEFT);
     expect_same(&rt, &refused.err(), &Some(Fault::CannotWrite));
     expect_ok(&rt, printer.print(&RAN));
-    let text = text_of(&rt, rt.alloc(), &page);
-    expect_same(&rt, &text.as_str(), &"drop run: 0\n");
+    expect_text(&rt, &page, "drop run: 0\n");
 }
 
 #[test]
@@ -162,14 +152,13 @@ fn an_interrupted_write_is_tried_again(rt: HostRuntime) {
     for write in [0, 1, 2, 3] {
         let terms = Terms {
             at_most: 5,
-            refused: Refused::Only(write),
+            refused: Some(write),
             error: ErrorKind::Interrupted,
         };
         let (page, mut printer) = printer_on(&rt, terms);
         expect_ok(&rt, printer.print(&LEFT));
         expect_ok(&rt, printer.print(&RAN));
-        let text = text_of(&rt, rt.alloc(), &page);
-        expect_same_for(&rt, &text.as_str(), &"drop a: ok\nrun: 0\n", &write);
+        expect_text(&rt, &page, "drop a: ok\nrun: 0\n");
     }
 }
 
@@ -178,24 +167,6 @@ fn an_output_without_another_handle_is_want_of_memory(rt: HostRuntime) {
     let (_page, printer) = printer_on(&rt, ALL);
     let copied = printer.try_clone(rt.alloc());
     expect_same(&rt, &copied.err(), &Some(Fault::OutOfMemory));
-}
-
-// What no script can bring about.
-#[test]
-fn refused_joins_and_runs_have_their_texts(rt: HostRuntime) {
-    let joined = OutputLine::Joined {
-        name: "a",
-        answer: Err(Error::IdsUsedUp),
-    };
-    let ran = OutputLine::Ran {
-        answer: Err(Error::Epoll(Errno(9))),
-    };
-    let text = expect_ok(&rt, joined.to_string(rt.alloc()));
-    let want = "sub a: event_manager: subscriber ids used up";
-    expect_same(&rt, &text.as_str(), &want);
-    let text = expect_ok(&rt, ran.to_string(rt.alloc()));
-    let want = "run: event_manager: failed to manage epoll file descriptor: os error 9";
-    expect_same(&rt, &text.as_str(), &want);
 }
 
 const LINES: [&str; 5] = [
@@ -232,11 +203,7 @@ fn make_poller<R: Abort + AllocGlobal>(rt: &R) -> ScriptPoller {
 #[test]
 fn a_subscriber_drops_a_line_that_cannot_be_written(rt: HostRuntime) {
     for write in 0..5 {
-        let terms = Terms {
-            refused: Refused::Only(write),
-            ..ALL
-        };
-        let (page, printer) = printer_on(&rt, terms);
+        let (page, printer) = printer_on(&rt, but_for(write));
         let mut running = expect_ok(&rt, EventLoop::new(rt.alloc(), make_poller(&rt)));
         let subscriber = make_subscriber(&rt, printer);
         expect_ok(&rt, running.add_subscriber(subscriber));
@@ -247,21 +214,15 @@ fn a_subscriber_drops_a_line_that_cannot_be_written(rt: HostRuntime) {
                 expect_ok(&rt, want.push_str(line));
             }
         }
-        let text = text_of(&rt, rt.alloc(), &page);
-        expect_same(&rt, &text.as_str(), &want.as_str());
+        expect_text(&rt, &page, &want);
     }
 }
 
 #[test]
 fn a_reply_behind_one_that_cannot_be_written_is_written(rt: HostRuntime) {
-    let terms = Terms {
-        refused: Refused::Only(0),
-        ..ALL
-    };
-    let (page, mut printer) = printer_on(&rt, terms);
+    let (page, mut printer) = printer_on(&rt, but_for(0));
     let own = Events::empty_raw(3);
     let requests = [Request::Modify(own), Request::Remove(own)];
     print_replies("a", &requests, &[Ok(()), Ok(())], &mut printer);
-    let text = text_of(&rt, rt.alloc(), &page);
-    expect_same(&rt, &text.as_str(), &"reply a remove 3: ok\n");
+    expect_text(&rt, &page, "reply a remove 3: ok\n");
 }

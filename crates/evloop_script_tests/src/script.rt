@@ -136,180 +136,74 @@ fn words_of_reported_events(rt: HostRuntime) {
     }
 }
 
-// Whole scripts.
-const TAKEN: [&str; 28] = [
-    "",
-    "\n",
-    "\n\n\n",
-    "run",
-    "run\n",
-    "run\r\n",
-    " \t\r run \t\r \n",
-    "\t\tbatch\t3:IN:0\r4:IN:0  5:IN:0\r\n",
-    "#\n",
-    "  # run now\n",
-    "#run now\n",
-    "# \u{e9}\u{4e16}\n",
-    "intr",
-    "batch",
-    "sub a",
-    "sub A_z0_9\n",
-    "sub abcdefghijklmnopqrstuvwxyz012345\n",
-    "sub 7 add 3 IN 0\nask 7 remove 3\n",
-    "sub a add 2147483647 IN 4294967295\n",
-    "sub a add 003 IN 00\n",
-    "sub run add 3 EXCLUSIVE+ONE_SHOT 0\nask run remove 3\n",
-    "sub a add 3 - 0 add 3 - 0\n",
-    "sub a\nsub b\nask b remove 3\nask a remove 3\n",
-    "on a 3 remove 3\nsub a\n",
-    "sub a\non a 003 add 4 IN 0 modify 4 OUT 1 remove 4\non a 3 remove 3\n",
-    "sub a\ndrop a\ndrop a\nask a remove 3\n",
-    "sub on\nsub drop\non on 3 remove 3\ndrop drop\n",
-    "refuse add 0 1\nrefuse modify 2147483647 4095\nrefuse delete 0007 0022\n",
-];
+// Whole scripts; the first is empty.
+const TAKEN: &str =
+    "; \n; \n\n\n; run; run\n; run\r\n;  \t\r run \t\r \n; \t\tbatch\t3:IN:0\r4:IN:0  5:IN:0\r\n; #\n;   # run now\n; \
+    #run now\n; # \u{e9}\u{4e16}\n; intr; batch; sub a; sub A_z0_9\n; \
+    sub abcdefghijklmnopqrstuvwxyz012345\n; sub 7 add 3 IN 0\nask 7 remove 3\n; \
+    sub a add 2147483647 IN 4294967295\n; sub a add 003 IN 00\n; \
+    sub run add 3 EXCLUSIVE+ONE_SHOT 0\nask run remove 3\n; sub a add 3 - 0 add 3 - 0\n; \
+    sub a\nsub b\nask b remove 3\nask a remove 3\n; on a 3 remove 3\nsub a\n; \
+    sub a\non a 003 add 4 IN 0 modify 4 OUT 1 remove 4\non a 3 remove 3\n; \
+    sub a\ndrop a\ndrop a\nask a remove 3\n; sub on\nsub drop\non on 3 remove 3\ndrop drop\n; \
+    refuse add 0 1\nrefuse modify 2147483647 4095\nrefuse delete 0007 0022\n";
 
 #[test]
 fn scripts_that_are_taken(rt: HostRuntime) {
-    for text in TAKEN {
+    for text in TAKEN.split("; ") {
         expect_same_for(&rt, &parse(rt.alloc(), text).err(), &None, &text);
     }
 }
 
-const OTHER_WORDS: &str = "go\n\
-    Run\n\
-    run now\n\
-    run #\n\
-    intr 4\n\
-    x\n\
-    -\n\
-    \u{e9}\n\
-    run\u{b}\n\
-    run\u{a0}";
+const OTHER_WORDS: &str = "go; Run; run now; run #; intr 4; x; -; \u{e9}; run\u{b}; run\u{a0}";
 
 #[test]
 fn other_words_are_bad(rt: HostRuntime) {
     are_bad(&rt, OTHER_WORDS);
 }
 
-const BAD_REACTIONS_AND_LEAVES: &str = "on\n\
-    on a\n\
-    on a 3\n\
-    on a remove 3\n\
-    on a -3 remove 3\n\
-    on a 2147483648 remove 3\n\
-    on a 3 go\n\
-    on a 3 remove\n\
-    on a 3 remove 3 #\n\
-    on a-b 3 remove 3\n\
-    on b 3 remove 3\n\
-    drop\n\
-    drop b\n\
-    drop a a\n\
+const BAD_REACTIONS_AND_LEAVES: &str =
+    "on; on a; on a 3; on a remove 3; on a -3 remove 3; on a 2147483648 remove 3; on a 3 go; \
+    on a 3 remove; on a 3 remove 3 #; on a-b 3 remove 3; on b 3 remove 3; drop; drop b; drop a a; \
     drop a-b";
 
-#[test]
-fn bad_reactions_and_leaves(rt: HostRuntime) {
-    are_bad(&rt, BAD_REACTIONS_AND_LEAVES);
-}
+const BAD_NAMES: &str =
+    "sub; sub a-b; sub a.b; sub \u{e9}; sub #; sub -; sub abcdefghijklmnopqrstuvwxyz0123456";
 
-const BAD_NAMES: &str = "sub\n\
-    sub a-b\n\
-    sub a.b\n\
-    sub \u{e9}\n\
-    sub #\n\
-    sub -\n\
-    sub abcdefghijklmnopqrstuvwxyz0123456";
-
-#[test]
-fn bad_names(rt: HostRuntime) {
-    are_bad(&rt, BAD_NAMES);
-}
-
-const BAD_REQUESTS: &str = "sub z add\n\
-    sub z add 3\n\
-    sub z add 3 IN\n\
-    sub z add 3 IN 0 4\n\
-    sub z add 3 IN 0 add\n\
-    sub z add IN 3 0\n\
-    sub z modify 3 IN 0\n\
-    sub z remove 3\n\
-    sub z add 3 IN 0 remove 3\n\
-    sub z delete 3\n\
-    sub z add -3 IN 0\n\
-    sub z add -0 IN 0\n\
-    sub z add 2147483648 IN 0\n\
-    sub z add 3 IN 4294967296\n\
-    sub z add 3 IN+ 0\n\
-    sub z add 3 +IN 0\n\
-    sub z add 3 in 0\n\
-    sub z add 3 IN -1\n\
-    sub z add 3 IN +1\n\
-    sub z add 3 IN #\n\
-    sub z addp 3 IN 0\n\
-    sub z addp 3 IN 0 4\n\
-    sub z add 3 IN 1000000000000000000000\n\
-    ask\n\
-    ask a\n\
-    ask a remove\n\
-    ask a remove -3\n\
-    ask a remove 3 4\n\
-    ask a modify 3 IN\n\
-    ask a add 3 IN 0 go\n\
-    ask b remove 3\n\
-    ask A remove 3\n\
-    sub a";
+const BAD_REQUESTS: &str =
+    "sub z add; sub z add 3; sub z add 3 IN; sub z add 3 IN 0 4; sub z add 3 IN 0 add; \
+    sub z add IN 3 0; sub z modify 3 IN 0; sub z remove 3; sub z add 3 IN 0 remove 3; sub z delete 3; \
+    sub z add -3 IN 0; sub z add -0 IN 0; sub z add 2147483648 IN 0; sub z add 3 IN 4294967296; \
+    sub z add 3 IN+ 0; sub z add 3 +IN 0; sub z add 3 in 0; sub z add 3 IN -1; sub z add 3 IN +1; \
+    sub z add 3 IN #; sub z addp 3 IN 0; sub z addp 3 IN 0 4; sub z add 3 IN 1000000000000000000000; \
+    ask; ask a; ask a remove; ask a remove -3; ask a remove 3 4; ask a modify 3 IN; \
+    ask a add 3 IN 0 go; ask b remove 3; ask A remove 3; sub a";
 
 #[test]
 fn bad_requests(rt: HostRuntime) {
     are_bad(&rt, BAD_REQUESTS);
 }
 
-const BAD_ITEMS: &str = "batch 3\n\
-    batch 3:IN\n\
-    batch 3:IN:0:0\n\
-    batch 3:IN:\n\
-    batch :IN:0\n\
-    batch 3::0\n\
-    batch ::\n\
-    batch 3:IN:-1\n\
-    batch -0:IN:0\n\
-    batch -00:IN:0\n\
-    batch -2147483649:IN:0\n\
-    batch 2147483648:IN:0\n\
-    batch 3:IN:4294967296\n\
-    batch +3:IN:0\n\
-    batch 3:-+IN:0\n\
-    batch 3:IN:0 3\n\
-    batch 3 :IN:0\n\
-    batch --3:IN:0\n\
-    batch 3:IN:0,4:IN:0\n\
-    batch #";
+const BAD_ITEMS: &str =
+    "batch 3; batch 3:IN; batch 3:IN:0:0; batch 3:IN:; batch :IN:0; batch 3::0; batch ::; \
+    batch 3:IN:-1; batch -0:IN:0; batch -00:IN:0; batch -2147483649:IN:0; batch 2147483648:IN:0; \
+    batch 3:IN:4294967296; batch +3:IN:0; batch 3:-+IN:0; batch 3:IN:0 3; batch 3 :IN:0; \
+    batch --3:IN:0; batch 3:IN:0,4:IN:0; batch #";
+
+const BAD_REFUSALS: &str =
+    "refuse; refuse add 3; refuse add 3 22 1; refuse remove 3 22; refuse Add 3 22; refuse add -1 22; \
+    refuse add 2147483648 22; refuse add 3 0; refuse add 3 4096; refuse add 3 -22; refuse add 3 ENOENT";
 
 #[test]
-fn bad_items(rt: HostRuntime) {
-    are_bad(&rt, BAD_ITEMS);
-}
-
-const BAD_REFUSALS: &str = "refuse\n\
-    refuse add 3\n\
-    refuse add 3 22 1\n\
-    refuse remove 3 22\n\
-    refuse Add 3 22\n\
-    refuse add -1 22\n\
-    refuse add 2147483648 22\n\
-    refuse add 3 0\n\
-    refuse add 3 4096\n\
-    refuse add 3 -22\n\
-    refuse add 3 ENOENT";
-
-#[test]
-fn bad_refusals(rt: HostRuntime) {
-    are_bad(&rt, BAD_REFUSALS);
+fn bad_names_reactions_leaves_items_and_refusals(rt: HostRuntime) {
+    for lines in [BAD_NAMES, BAD_REACTIONS_AND_LEAVES, BAD_ITEMS, BAD_REFUSALS] {
+        are_bad(&rt, lines);
+    }
 }
 
 // Each line is bad as the fourth, behind a comment, an empty line and a join of `a`.
 fn are_bad<R: Abort + AllocGlobal>(rt: &R, lines: &str) {
-    for line in lines.lines() {
+    for line in lines.split("; ") {
         expect_same_for(rt, &refused(rt, line), &Some(Fault::BadScript(4)), &line);
     }
 }

@@ -9,6 +9,12 @@ use std::process::Abort;
 use std::sync::Wait;
 use std::time::Clock;
 
+/// What the tests need of the runtime. None starts a thread, and a method of a trait calls functions with this bound alone, so
+/// it has no `Send`.
+pub trait Host: Wait + Clock + Abort + Copy + Drop {}
+
+impl<R: Wait + Clock + Abort + Copy + Drop> Host for R {}
+
 /// Expects that the two are equal.
 pub fn expect_same<A: PartialEq + Debug, R: Abort>(rt: &R, found: &A, expected: &A) {
     assert_eq!(rt; found, expected);
@@ -19,36 +25,13 @@ pub fn expect_ok<A, E: Debug + Drop, R: Abort>(rt: &R, answer: std::result::Resu
     answer.expect(rt, "it succeeds")
 }
 
-/// Expects this answer of a run without a limit.
-pub fn expect_run<S, J, N, P, R>(
-    rt: &R,
-    manager: &mut EventManager<S, J, N, P>,
-    answer: Result<usize>,
-)
-where
-    S: MutEventSubscriber,
-    J: Job<S>,
-    N: NamedCounter,
-    P: EventPoller,
-    R: Wait + Clock + Abort,
-{
-    expect_same(rt, &manager.run(rt), &answer);
-}
-
 /// Expects this answer of a run of at most so many milliseconds.
-pub fn expect_run_within<S, J, N, P, R>(
+pub fn expect_run<S: MutEventSubscriber, J: Job<S>, N: NamedCounter, P: EventPoller, R: Host>(
     rt: &R,
     manager: &mut EventManager<S, J, N, P>,
     ms: i32,
     answer: Result<usize>,
-)
-where
-    S: MutEventSubscriber,
-    J: Job<S>,
-    N: NamedCounter,
-    P: EventPoller,
-    R: Wait + Clock + Abort,
-{
+) {
     expect_same(rt, &manager.run_with_timeout(ms, rt), &answer);
 }
 

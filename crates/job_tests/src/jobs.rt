@@ -10,17 +10,8 @@ use std::sync::atomic::{AtomicU64, Ordering};
 use std::time::Clock;
 use vmm_sys::errno::Errno;
 
-/// What was answered to each send, and what was taken.
-type Account = (Vec<Result<u64, Error>>, Vec<(u64, char)>);
-
-fn account_of<R: Wait + Clock>(
-    rt: &R,
-    alloc: Global,
-    steps: Vec<Step<char>>,
-) -> Result<Account, Error> {
-    let outcome = replay(rt, alloc, steps)?;
-    Ok((outcome.answers, outcome.taken))
-}
+/// What a send is answered whose ring is refused.
+const REFUSED: Result<u64, Error> = Err(Error::EventFd(Errno::EAGAIN));
 
 #[test]
 fn accepted_jobs_have_their_tickets(rt: HostRuntime) {
@@ -37,14 +28,11 @@ fn accepted_jobs_have_their_tickets(rt: HostRuntime) {
             Step::Take,
         ],
     );
-    let (answers, taken) = expect_ok(&rt, account_of(&rt, rt.alloc(), steps));
-    let refused = Err(Error::EventFd(Errno::EAGAIN));
-    expect_same(
-        &rt,
-        &answers.as_slice(),
-        &[Ok(1), refused, Ok(2), Ok(3), Err(Error::ChannelSend)].as_slice(),
-    );
-    expect_same(&rt, &taken.as_slice(), &[(1, 'a'), (2, 'c')].as_slice());
+    let outcome = expect_ok(&rt, replay(&rt, rt.alloc(), steps));
+    let answers = [Ok(1), REFUSED, Ok(2), Ok(3), Err(Error::ChannelSend)];
+    expect_same(&rt, &outcome.answers.as_slice(), &answers.as_slice());
+    let taken = [(1, 'a'), (2, 'c')];
+    expect_same(&rt, &outcome.taken.as_slice(), &taken.as_slice());
 }
 
 /// A bell that counts how often it is rung, and refuses one ring by its number, counted from 1.
@@ -54,12 +42,10 @@ struct Refusing {
     rings: AtomicU64,
 }
 
-impl Refusing {
-    fn new(refused: u64) -> Refusing {
-        Refusing {
-            refused,
-            rings: AtomicU64::new(0),
-        }
+fn make_refusing(refused: u64) -> Refusing {
+    Refusing {
+        refused,
+        rings: AtomicU64::new(0),
     }
 }
 
@@ -74,9 +60,6 @@ impl Bell for Refusing {
         Ok(())
     }
 }
-
-/// What a ring is refused with.
-const REFUSED: Result<u64, Error> = Err(Error::EventFd(Errno::EAGAIN));
 
 /// Which of three rings is refused, the answers to the sends, and the tickets and jobs that then wait.
 const ROWS: [(u64, [Result<u64, Error>; 3], [(u64, char); 2]); 3] = [
@@ -103,7 +86,7 @@ fn expect_waiting<R: Abort>(
 #[test]
 fn two_of_three_sends_are_accepted(rt: HostRuntime) {
     for (refused, answers, waiting) in ROWS {
-        let bell = Refusing::new(refused);
+        let bell = make_refusing(refused);
         let mut queue: JobQueue<char, ()> = JobQueue::new(rt.alloc());
         for (job, answer) in ['a', 'b', 'c'].into_iter().zip(answers) {
             expect_same(&rt, &queue.send(job, None, &bell, &rt), &answer);
@@ -114,7 +97,7 @@ fn two_of_three_sends_are_accepted(rt: HostRuntime) {
 
 #[test]
 fn a_send_rings_no_bell_where_no_ticket_is_left(rt: HostRuntime) {
-    let bell = Refusing::new(0);
+    let bell = make_refusing(0);
     let mut queue: JobQueue<char, ()> = JobQueue::behind(rt.alloc(), 9223372036854775807);
     let answer = queue.send('a', None, &bell, &rt);
     expect_same(&rt, &answer, &Err(Error::TicketsUsedUp));

@@ -2,25 +2,11 @@
 #![tactic(auto)]
 
 #[cfg(test)]
-mod closes;
-#[cfg(test)]
 mod courses;
 #[cfg(test)]
 mod expecting;
 #[cfg(test)]
-mod host;
-#[cfg(test)]
 mod jobs;
 #[cfg(test)]
-mod members;
+mod joins;
 pub mod percent;
-#[cfg(test)]
-mod queue;
-#[cfg(test)]
-mod refusals;
-#[cfg(test)]
-mod reports;
-#[cfg(test)]
-mod sends;
-#[cfg(test)]
-mod tickets;

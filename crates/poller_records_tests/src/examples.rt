@@ -1,7 +1,7 @@
 //! Records beside their texts.
 
 use crate::expecting::{expect_ok, expect_same};
-use poller_records::text::{read_record, write_record};
+use poller_records::text::write_record;
 use vmm_sys::epoll::{ControlOperation, EpollEvent, EventSet};
 use vmm_sys::errno::Errno;
 use vmm_sys::record::RecordEntry;
@@ -15,43 +15,49 @@ const TEXT: &str = "add 5 1 12 ok\n\
     wait 0 18446744073709551615 ok 0\n\
     wait 100 1 error 4\n";
 
+fn control(
+    op: ControlOperation,
+    fd: i32,
+    event: EpollEvent,
+    answer: Result<(), Errno>,
+) -> RecordEntry {
+    RecordEntry::Control {
+        op,
+        fd,
+        event,
+        answer,
+    }
+}
+
+fn wait(ms: i32, room: usize, answer: Result<usize, Errno>) -> RecordEntry {
+    RecordEntry::Wait { ms, room, answer }
+}
+
 fn record() -> [RecordEntry; 8] {
     [
-        RecordEntry::Control {
-            op: ControlOperation::Add,
-            fd: 5,
-            event: EpollEvent::new(EventSet::IN, 12),
-            answer: Ok(()),
-        },
-        RecordEntry::Control {
-            op: ControlOperation::Modify,
-            fd: i32::MAX,
-            event: EpollEvent::new(EventSet::from_bits_retain(u32::MAX), u64::MAX),
-            answer: Err(Errno::ENOENT),
-        },
-        RecordEntry::Control {
-            op: ControlOperation::Delete,
-            fd: i32::MIN,
-            event: EpollEvent::new(EventSet::empty(), 0),
-            answer: Err(Errno(i32::MIN)),
-        },
-        RecordEntry::Wait {
-            ms: -1,
-            room: 16,
-            answer: Ok(2),
-        },
+        control(
+            ControlOperation::Add,
+            5,
+            EpollEvent::new(EventSet::IN, 12),
+            Ok(()),
+        ),
+        control(
+            ControlOperation::Modify,
+            i32::MAX,
+            EpollEvent::new(EventSet::from_bits_retain(u32::MAX), u64::MAX),
+            Err(Errno::ENOENT),
+        ),
+        control(
+            ControlOperation::Delete,
+            i32::MIN,
+            EpollEvent::new(EventSet::empty(), 0),
+            Err(Errno(i32::MIN)),
+        ),
+        wait(-1, 16, Ok(2)),
         RecordEntry::Reported(EpollEvent::new(EventSet::IN, 12)),
         RecordEntry::Reported(EpollEvent::new(EventSet::EDGE_TRIGGERED, u64::MAX)),
-        RecordEntry::Wait {
-            ms: 0,
-            room: usize::MAX,
-            answer: Ok(0),
-        },
-        RecordEntry::Wait {
-            ms: 100,
-            room: 1,
-            answer: Err(Errno::EINTR),
-        },
+        wait(0, usize::MAX, Ok(0)),
+        wait(100, 1, Err(Errno::EINTR)),
     ]
 }
 
@@ -59,17 +65,4 @@ fn record() -> [RecordEntry; 8] {
 fn a_record_has_its_text(rt: HostRuntime) {
     let text = expect_ok(&rt, write_record(rt.alloc(), &record()));
     expect_same(&rt, &text.as_str(), &TEXT);
-}
-
-#[test]
-fn a_text_has_its_record(rt: HostRuntime) {
-    let entries = expect_ok(&rt, read_record(rt.alloc(), TEXT));
-    let expected = record();
-    expect_same(&rt, &entries.as_slice(), &expected.as_slice());
-}
-
-#[test]
-fn an_empty_text_is_an_empty_record(rt: HostRuntime) {
-    let entries = expect_ok(&rt, read_record(rt.alloc(), ""));
-    expect_same(&rt, &entries.len(), &0);
 }

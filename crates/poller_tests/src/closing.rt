@@ -12,7 +12,8 @@ use std::time::Clock;
 use vmm_sys::epoll::{ControlOperation, EpollEvent};
 use vmm_sys::errno::Errno;
 
-/// Notes as the how many-th of all it is dropped.
+/// Notes as the how many-th of all it is dropped: a subscriber or a job that does nothing, or a poller that agrees to all and
+/// reports nothing.
 struct Noting<'a> {
     dropped: &'a AtomicU64,
     place: &'a AtomicU64,
@@ -26,13 +27,7 @@ impl Drop for Noting<'_> {
     }
 }
 
-/// A subscriber that asks for nothing.
-#[derive(Drop)]
-struct Guest<'a> {
-    noting: Noting<'a>,
-}
-
-impl MutEventSubscriber for Guest<'_> {
+impl MutEventSubscriber for Noting<'_> {
     ghost use Rattle.event_manager.specs.Exchange.{AsksNothing};
 
     ghost begins = { λ v exchanges w. AsksNothing exchanges };
@@ -44,13 +39,7 @@ impl MutEventSubscriber for Guest<'_> {
     fn init<P: EventPoller>(&mut self, _ops: &mut EventOps<P>) {}
 }
 
-/// A job that does nothing.
-#[derive(Drop)]
-struct Waiting<'a> {
-    noting: Noting<'a>,
-}
-
-impl<'a> Job<Guest<'a>> for Waiting<'a> {
+impl<'a> Job<Noting<'a>> for Noting<'a> {
     type Reply = ();
 
     ghost use Rattle.std.specs.Prelude.{◌≡◌, []};
@@ -61,18 +50,12 @@ impl<'a> Job<Guest<'a>> for Waiting<'a> {
 
     fn call<P: EventPoller, R: Wait + Clock>(
         self,
-        _registry: &mut Registry<Guest<'a>, P>,
+        _registry: &mut Registry<Noting<'a>, P>,
         _rt: &R,
     ) {}
 }
 
-/// A poller that agrees to all and reports nothing.
-#[derive(Drop)]
-struct Silent<'a> {
-    noting: Noting<'a>,
-}
-
-impl EventPoller for Silent<'_> {
+impl EventPoller for Noting<'_> {
     ghost controls = { λ v op fd event answer w. Unit {0} };
 
     ghost waits = { λ v ms capacity answer w. Unit {0} };
@@ -94,9 +77,9 @@ impl EventPoller for Silent<'_> {
 /// Makes a manager over the parts, which the guest joins, and closes it while the job waits.
 struct Closing<'a, R> {
     rt: &'a R,
-    parts: Parts<Silent<'a>, ()>,
-    guest: Guest<'a>,
-    job: Waiting<'a>,
+    parts: Parts<Noting<'a>, ()>,
+    guest: Noting<'a>,
+    job: Noting<'a>,
 }
 
 impl<'a, R: Wait + Clock> WithLedgers for Closing<'a, R> {
@@ -109,7 +92,7 @@ impl<'a, R: Wait + Clock> WithLedgers for Closing<'a, R> {
             guest,
             job,
         } = self;
-        let mut manager = EventManager::<Guest<'a>, Waiting<'a>, N, _>::new(
+        let mut manager = EventManager::<Noting<'a>, Noting<'a>, N, _>::new(
             parts.alloc,
             parts.poller,
             counter,
@@ -131,19 +114,13 @@ fn a_close_drops_the_jobs_and_then_subscribers_and_poller(rt: HostRuntime) {
         dropped: &dropped,
         place,
     };
-    let poller = Silent {
-        noting: noting(of_poller),
-    };
-    let (counter, parts) = expect_ok(&rt, silent_parts(rt, rt.alloc(), poller)).split();
+    let parts = silent_parts(rt, rt.alloc(), noting(of_poller));
+    let (counter, parts) = expect_ok(&rt, parts).split();
     let closing = Closing {
         rt: &rt,
         parts,
-        guest: Guest {
-            noting: noting(of_guest),
-        },
-        job: Waiting {
-            noting: noting(of_job),
-        },
+        guest: noting(of_guest),
+        job: noting(of_job),
     };
     expect_ok(&rt, with_ledgers(counter, closing));
     expect_same(&rt, &dropped.load(Ordering::SeqCst), &3);

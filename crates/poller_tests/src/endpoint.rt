@@ -1,10 +1,9 @@
 //! When the endpoint's counter is read.
 
 use crate::expecting::{expect, expect_ok, expect_same};
-use crate::parts::counter_at;
-use event_manager::{Error, EventOps, EventPoller, Events, MutEventSubscriber};
+use event_manager::{Error, EventOps, EventPoller, Events, MutEventSubscriber, Result};
 use fixtures::parts::{Idle, Parts};
-use fixtures::runs::{Run, run_alone, run_over};
+use fixtures::runs::{run_alone, run_over};
 use fixtures::scripts::{script_of, script_of_words};
 use std::alloc::Global;
 use std::process::Abort;
@@ -15,6 +14,19 @@ use vmm_sys::errno::Errno;
 use vmm_sys::eventfd::EventFd;
 use vmm_sys::poller::Poller;
 use vmm_sys::script_poller::ScriptPoller;
+
+/// A counter of this descriptor and value, in a table without descriptors so far.
+fn counter_at<R: Wait + Clock + Abort + Clone + Send + Drop>(
+    epoll: &Epoll<R>,
+    fd: u8,
+    value: u64,
+    rt: &R,
+) -> EventFd {
+    for _ in 0..fd {
+        expect_ok(rt, EventFd::new(epoll, 0, rt));
+    }
+    expect_ok(rt, EventFd::new(epoll, value, rt))
+}
 
 /// A poller of the table that a counter is in, which shows whether that counter was read: reading takes all its value.
 #[derive(Drop)]
@@ -56,7 +68,7 @@ fn is_read_by<R: Wait + Clock + Abort + Copy + Send + Drop>(
     alloc: Global,
     script: ScriptPoller,
     endpoint: u8,
-    run: Run,
+    run: Result<usize>,
 ) -> bool {
     let (parts, mut probe) = make_probed(rt, alloc, script, endpoint);
     expect_ok(
@@ -101,7 +113,7 @@ fn expect_read<R: Wait + Clock + Abort + Copy + Send + Drop>(
     expected: bool,
 ) {
     let script = expect_ok(rt, script_of_words(alloc, set, words));
-    let is_read = is_read_by(rt, alloc, script, endpoint, (None, Ok(words.len())));
+    let is_read = is_read_by(rt, alloc, script, endpoint, Ok(words.len()));
     assert!(rt;
         is_read == expected,
         "{words:?} with {set:?} beside {endpoint}"
@@ -139,7 +151,7 @@ fn endpoint_is_left_where_the_wait_is_refused(rt: HostRuntime) {
     for (errno, answer) in answers {
         let mut script = ScriptPoller::new(rt.alloc());
         expect_ok(&rt, script.push_fault(errno));
-        let is_read = is_read_by(&rt, rt.alloc(), script, 2, (None, answer));
+        let is_read = is_read_by(&rt, rt.alloc(), script, 2, answer);
         expect_same(&rt, &(errno, is_read), &(errno, false));
     }
 }
@@ -154,7 +166,7 @@ fn endpoint_is_read_after_the_deliveries(rt: HostRuntime) {
         own,
         was_read: None,
     };
-    let mut looking = expect_ok(&rt, run_alone(&rt, parts, looking, &[(None, Ok(3))]));
+    let mut looking = expect_ok(&rt, run_alone(&rt, parts, looking, &[Ok(3)]));
     expect_same(&rt, &looking.was_read, &Some(false));
     expect(&rt, looking.probe.is_read());
 }

@@ -10,13 +10,7 @@ mod expecting;
 #[cfg(test)]
 mod faults;
 #[cfg(test)]
-mod hostile;
-#[cfg(test)]
 mod making;
-#[cfg(test)]
-mod parts;
-#[cfg(test)]
-mod removals;
 #[cfg(test)]
 mod requests;
 #[cfg(test)]

@@ -1,36 +1,51 @@
 //! How a manager is made: what its capacity may be, and what comes of it.
 
-use crate::expecting::{expect, expect_ok, expect_same};
-use crate::parts::Recorder;
-use event_manager::{Error, EventLoop, EventPoller, MAX_READY_EVENTS_CAPACITY};
+use crate::expecting::{expect_ok, expect_same};
+use event_manager::{Error, EventLoop, EventPoller, Events, MAX_READY_EVENTS_CAPACITY};
 use fixtures::counting::{Counting, counting_on};
-use fixtures::parts::{Parts, silent_parts};
-use fixtures::runs::{Failure, run_alone, run_over};
+use fixtures::driving::replies_to;
+use fixtures::parts::{Idle, silent_parts};
+use fixtures::runs::run_alone;
 use fixtures::scripts::script_of;
 use std::alloc::Global;
 use std::process::Abort;
 use std::sync::Wait;
+use std::sync::atomic::{AtomicU64, Ordering};
 use std::time::Clock;
+use vmm_sys::epoll::{ControlOperation, EpollEvent};
 use vmm_sys::errno::Errno;
 use vmm_sys::table::Table;
 
-/// What refuses a manager of these parts, if anything does.
-fn refusal<R: Wait + Clock + Abort>(rt: &R, parts: Parts<Recorder>) -> Option<Failure> {
-    let none: Vec<Counting> = Vec::new(parts.alloc);
-    run_over(rt, parts, none, &[]).err()
+/// A poller that counts what it is asked for.
+#[derive(Drop)]
+struct Counted<'a>(&'a AtomicU64);
+
+impl EventPoller for Counted<'_> {
+    ghost controls = { λ before op fd event answer after. Unit {0} };
+
+    ghost waits = { λ before ms capacity answer after. Unit {0} };
+
+    fn control(&mut self, _op: ControlOperation, _fd: u32, _event: Events) -> Result<(), Errno> {
+        self.0.fetch_add(1, Ordering::SeqCst);
+        Ok(())
+    }
+
+    fn poll(&mut self, _ms: i32, _buffer: &mut [EpollEvent]) -> Result<usize, Errno> {
+        self.0.fetch_add(1, Ordering::SeqCst);
+        Ok(0)
+    }
 }
 
 #[test]
 fn capacity_above_the_limit_asks_the_poller_for_nothing(rt: HostRuntime) {
-    let recorder = expect_ok(&rt, Recorder::new(rt.alloc()));
+    let asked = AtomicU64::new(0);
     for capacity in [MAX_READY_EVENTS_CAPACITY + 1, usize::MAX] {
-        let poller = expect_ok(&rt, recorder.try_clone());
-        let mut parts = expect_ok(&rt, silent_parts(rt, rt.alloc(), poller));
+        let mut parts = expect_ok(&rt, silent_parts(rt, rt.alloc(), Counted(&asked)));
         parts.capacity = Some(capacity);
-        let refused = Some(Failure::Refused(Error::InvalidCapacity));
-        expect_same(&rt, &refusal(&rt, parts), &refused);
+        let refused = replies_to::<Idle, _, _>(&rt, parts, Vec::new(rt.alloc())).err();
+        expect_same(&rt, &refused, &Some(Error::InvalidCapacity));
     }
-    expect(&rt, recorder.was_asked(&[]));
+    expect_same(&rt, &asked.load(Ordering::SeqCst), &0);
 }
 
 #[test]
@@ -50,19 +65,15 @@ fn expect_refused_wait<P: EventPoller + Drop, R: Wait + Clock + Abort + Copy + S
 ) {
     let mut parts = expect_ok(&rt, silent_parts(rt, alloc, poller));
     parts.capacity = Some(0);
-    let runs = [(None, Err(Error::Epoll(Errno::EINVAL)))];
+    let runs = [Err(Error::Epoll(Errno::EINVAL))];
     let left = expect_ok(&rt, run_alone(&rt, parts, counting_on(1), &runs));
     expect_same(&rt, &left.count, &0);
 }
 
 #[test]
-fn a_capacity_of_0_is_left_to_a_script(rt: HostRuntime) {
+fn a_capacity_of_0_is_left_to_the_poller(rt: HostRuntime) {
     let script = expect_ok(&rt, script_of(rt.alloc(), &[1]));
     expect_refused_wait(rt, rt.alloc(), script);
-}
-
-#[test]
-fn a_capacity_of_0_is_left_to_a_table(rt: HostRuntime) {
     let mut table = Table::new(rt.alloc());
     // The endpoint's descriptor, and one that is ready.
     expect_same(&rt, &table.add_counter(0), &Ok(0));

@@ -1,7 +1,6 @@
 //! Threads that sleep in waits of a table: who tells of a change there has to wake them, and is held up for a while.
 
-use crate::expecting::expect_ok;
-use crate::threads::Host;
+use crate::expecting::{Host, expect_ok};
 use std::alloc::Global;
 use std::sync::Arc;
 use std::sync::atomic::{AtomicBool, Ordering};

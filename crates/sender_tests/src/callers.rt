@@ -2,8 +2,7 @@
 //! close, that wakes it.
 
 use crate::ending::beside_senders;
-use crate::expecting::{expect_noted, expect_ok, expect_same};
-use crate::threads::{Host, Looping};
+use crate::expecting::{Host, Looping, expect_noted, expect_ok, expect_same};
 use event_manager::{
     Error, EventManager, EventPoller, LoopWithSenders, NamedCounter, RemoteEndpoint, Result,
     Sender, Senders,
@@ -146,23 +145,28 @@ fn a_reply_wakes_its_caller(rt: HostRuntime) {
     expect_line(&rt, rt.alloc(), &line);
 }
 
-#[test]
-fn a_close_wakes_a_caller(rt: HostRuntime) {
+/// Expects this of a manager that closes without a run.
+fn expect_closed<R: Host>(rt: &R, alloc: Global, jobs: &[(u64, Option<Result<u64>>)]) {
     let line = Line {
-        jobs: &[(5, Some(Err(Error::ChannelRecv)))],
+        jobs,
         is_run: false,
         noted: &[],
     };
-    expect_line(&rt, rt.alloc(), &line);
+    expect_line(rt, alloc, &line);
+}
+
+/// A job whose caller is answered by the close, and one without a caller.
+const CALLED: (u64, Option<Result<u64>>) = (1, Some(Err(Error::ChannelRecv)));
+
+const FIRED: (u64, Option<Result<u64>>) = (1, None);
+
+#[test]
+fn a_close_wakes_a_caller(rt: HostRuntime) {
+    expect_closed(&rt, rt.alloc(), &[CALLED]);
 }
 
 #[test]
 fn a_close_answers_each_caller_and_drops_its_job(rt: HostRuntime) {
-    let (called, fired) = ((1, Some(Err(Error::ChannelRecv))), (1, None));
-    let line = Line {
-        jobs: &[called, fired, called, called, fired, fired, called],
-        is_run: false,
-        noted: &[],
-    };
-    expect_line(&rt, rt.alloc(), &line);
+    let jobs = [CALLED, FIRED, CALLED, CALLED, FIRED, FIRED, CALLED];
+    expect_closed(&rt, rt.alloc(), &jobs);
 }

@@ -1,7 +1,10 @@
 //! A counter of the tests' own, which no table has, and the poller that watches it.
 
+use fixtures::parts::Parts;
+use fixtures::waits::LOOKS;
 use std::alloc::{AllocError, Global};
 use std::sync::{Arc, Condvar, CondvarTimeouts, Mutex, Wait};
+use std::thread;
 use std::time::{Clock, Duration};
 use vmm_sys::counter::{Bell, Counter};
 use vmm_sys::epoll::{AsRawFd, ControlOperation, EpollEvent, EventSet, RawFd};
@@ -49,9 +52,15 @@ pub struct OwnCounter {
 }
 
 impl OwnCounter {
-    /// Whether a wait sleeps.
-    pub fn has_sleeper<R: Wait>(&self, rt: &R) -> bool {
-        self.shared.state.lock(rt).sleeping > 0
+    /// Waits until a wait sleeps, and says whether one does.
+    pub fn wait_for_sleeper<R: Wait + Clock>(&self, rt: &R) -> bool {
+        for _look in 0..LOOKS {
+            if self.shared.state.lock(rt).sleeping > 0 {
+                return true;
+            }
+            thread::sleep(rt, Duration::from_millis(1));
+        }
+        false
     }
 
     /// Another handle on it.
@@ -145,22 +154,20 @@ impl<R: Wait + Clock + Drop> Poller for OwnPoller<R> {
     }
 }
 
-/// A counter of value 0, and a poller that watches it.
+/// Parts of a counter of value 0, and a poller that watches it.
 pub fn own_parts<R: Wait + Clock + Drop>(
     rt: R,
     alloc: Global,
-) -> Result<(OwnCounter, OwnPoller<R>), AllocError> {
+) -> Result<Parts<OwnPoller<R>, OwnCounter>, AllocError> {
     let state = State {
         value: 0,
         sleeping: 0,
     };
-    let shared = Arc::new(
-        alloc,
-        Shared {
-            state: Mutex::new(state),
-            changed: Condvar::new(),
-        },
-    )?;
+    let shared = Shared {
+        state: Mutex::new(state),
+        changed: Condvar::new(),
+    };
+    let shared = Arc::new(alloc, shared)?;
     let counter = OwnCounter {
         shared: Arc::try_clone(&shared)?,
     };
@@ -169,5 +176,5 @@ pub fn own_parts<R: Wait + Clock + Drop>(
         wanted: None,
         rt,
     };
-    Ok((counter, poller))
+    Ok(Parts::new(alloc, poller, counter))
 }

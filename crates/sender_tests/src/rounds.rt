@@ -1,62 +1,20 @@
 //! Rounds of a loop beside senders that end as soon as they have begun, or beside none: whether its own `run` then ends.
 
 use crate::bystanders::{start_bystanders, stop_bystanders};
-use crate::ending::beside_senders;
-use crate::expecting::{expect_ok, expect_same};
-use crate::threads::{Host, Looping};
+use crate::ending::{Counted, Course, beside_senders};
+use crate::expecting::{Host, Looping, expect_ok, expect_same};
 use event_manager::{
-    EventManager, EventPoller, Events, LoopWithSenders, NamedCounter, NoJob, RemoteEndpoint,
-    Result, Sender,
+    EventManager, EventPoller, LoopWithSenders, NamedCounter, NoJob, RemoteEndpoint, Result, Sender,
 };
 use fixtures::parts::{Idle, Parts};
 use std::alloc::Global;
 use std::thread;
 use vmm_sys::epoll::{AsRawFd, ControlOperation, Epoll, EpollEvent, EventSet};
-use vmm_sys::errno::Errno;
 use vmm_sys::eventfd::EventFd;
 use vmm_sys::poller::Poller;
 
 /// How many rounds are made beside each number of senders.
 const ROUNDS: u64 = 200;
-
-/// How often a wait without a limit sleeps, and for how many milliseconds at most.
-const SLEEPS: u32 = 10;
-
-const SLEEP: i32 = 1000;
-
-/// A poller that refuses a wait without a limit that nobody ends.
-#[derive(Drop)]
-struct Bounded<P> {
-    poller: P,
-}
-
-impl<P: EventPoller> EventPoller for Bounded<P> {
-    ghost controls = { λ v op fd event answer w. Unit {0} };
-
-    ghost waits = { λ v ms capacity answer w. Unit {0} };
-
-    fn control(
-        &mut self,
-        op: ControlOperation,
-        fd: u32,
-        event: Events,
-    ) -> std::result::Result<(), Errno> {
-        self.poller.control(op, fd, event)
-    }
-
-    fn poll(&mut self, ms: i32, buffer: &mut [EpollEvent]) -> std::result::Result<usize, Errno> {
-        if ms >= 0 {
-            return self.poller.poll(ms, buffer);
-        }
-        for _sleep in 0..SLEEPS {
-            let answer = self.poller.poll(SLEEP, buffer);
-            if answer != Ok(0) {
-                return answer;
-            }
-        }
-        Err(Errno::EAGAIN)
-    }
-}
 
 /// A sender that lets others run a few times, and ends.
 #[derive(Drop)]
@@ -98,8 +56,9 @@ impl<R: Looping> LoopWithSenders<Idle, NoJob, Brief, R> for Round {
 fn make_round<R: Host>(rt: &R, alloc: Global, epoll: &mut Epoll<R>, senders: u64) {
     let event_fd = expect_ok(rt, EventFd::new(&*epoll, 0, rt));
     let own = expect_ok(rt, event_fd.try_clone());
-    let poller = Bounded {
+    let poller = Counted {
         poller: expect_ok(rt, epoll.try_clone()),
+        course: &Course::new(),
     };
     let parts = Parts::new(alloc, poller, event_fd);
     let ended = expect_ok(rt, beside_senders(rt, parts, &mut Round { senders }));

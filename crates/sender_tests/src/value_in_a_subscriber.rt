@@ -1,8 +1,7 @@
 //! A caller that sets and reads a value of a subscriber, and stops it.
 
 use crate::ending::beside_senders;
-use crate::expecting::{expect_ok, expect_same};
-use crate::threads::Looping;
+use crate::expecting::{Looping, expect_ok, expect_same};
 use event_manager::{
     Action, ActionOn, Error, EventManager, EventOps, EventPoller, Events, LoopWithSenders,
     MutEventSubscriber, NamedCounter, RemoteEndpoint, Result, Sender, Senders, SubscriberId,

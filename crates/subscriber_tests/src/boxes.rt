@@ -123,7 +123,7 @@ fn two_kinds_in_boxes_are_given_their_events(rt: HostRuntime) {
     let subscribers = two_kinds(&rt, rt.alloc(), &deliveries);
     let script = one_report(&rt, rt.alloc());
     let parts = expect_ok(&rt, silent_parts(rt, rt.alloc(), script));
-    expect_ok(&rt, run_over(&rt, parts, subscribers, &[(None, Ok(4))]));
+    expect_ok(&rt, run_over(&rt, parts, subscribers, &[Ok(4)]));
     let expected = [
         ('b', Events::with_data_raw(5, 1, OUT)),
         ('a', Events::with_data_raw(4, 7, IN)),

@@ -1,13 +1,17 @@
 //! Subscribers in cells and under locks.
 
-use crate::counting::{SharedCounting, shared_counting};
 use crate::expecting::{expect, expect_ok, expect_same};
-use crate::served::{served, two_reports};
-use event_manager::{EventManager, EventPoller, Locked, NamedCounter, NoJob, SubscriberOps};
+use event_manager::{
+    EventManager, EventOps, EventPoller, Events, Locked, MutEventSubscriber, NamedCounter, NoJob,
+    SubscriberOps,
+};
+use fixtures::asking::wanted;
 use fixtures::counting::{Counting, counting_on};
 use fixtures::making::{WithManager, with_manager};
 use fixtures::parts::{Parts, silent_parts};
 use fixtures::runs::{Failure, run_alone};
+use fixtures::scripts::push_words;
+use std::alloc::Global;
 use std::cell::RefCell;
 use std::process::Abort;
 use std::rc::Rc;
@@ -16,7 +20,23 @@ use std::sync::{Arc, Wait};
 use std::thread;
 use std::thread::{JoinHandle, Threads};
 use std::time::{Clock, Duration};
+use vmm_sys::epoll::EventSet;
 use vmm_sys::script_poller::ScriptPoller;
+
+/// Parts over two reports of one event of descriptor 3.
+fn two_reports<R: Wait + Clock + Abort + Copy + Send + Drop>(
+    rt: R,
+    alloc: Global,
+) -> Parts<ScriptPoller> {
+    let mut script = ScriptPoller::new(alloc);
+    for _report in 0..2 {
+        expect_ok(&rt, push_words(&mut script, alloc, EventSet::IN, &[3]));
+    }
+    expect_ok(&rt, silent_parts(rt, alloc, script))
+}
+
+/// A run for each of them.
+const TWO_RUNS: [event_manager::Result<usize>; 2] = [Ok(1), Ok(1)];
 
 /// How many events the subscriber in the cell has counted; `None` where the cell is busy.
 fn count_in(cell: &RefCell<Counting>) -> Option<u64> {
@@ -27,13 +47,16 @@ fn count_in(cell: &RefCell<Counting>) -> Option<u64> {
 fn free_cell_is_called_and_left_free(rt: HostRuntime) {
     let cell = expect_ok(&rt, Rc::new(rt.alloc(), RefCell::new(counting_on(3))));
     let held = expect_ok(&rt, cell.clone());
-    served(rt, rt.alloc(), held);
+    let parts = two_reports(rt, rt.alloc());
+    expect_ok(&rt, run_alone(&rt, parts, held, &TWO_RUNS));
     expect_same(&rt, &count_in(&cell), &Some(2));
 }
 
 #[test]
 fn owned_cell_is_called(rt: HostRuntime) {
-    let cell = served(rt, rt.alloc(), RefCell::new(counting_on(3)));
+    let parts = two_reports(rt, rt.alloc());
+    let cell = RefCell::new(counting_on(3));
+    let cell = expect_ok(&rt, run_alone(&rt, parts, cell, &TWO_RUNS));
     expect_same(&rt, &count_in(&cell), &Some(2));
 }
 
@@ -74,9 +97,7 @@ fn busy_cell_skips_the_call(rt: HostRuntime) {
         rt: &rt,
         cell: expect_ok(&rt, cell.clone()),
     };
-    let poller = expect_ok(&rt, two_reports(rt.alloc()));
-    let parts = expect_ok(&rt, silent_parts(rt, rt.alloc(), poller));
-    expect_ok(&rt, with_manager(parts, body));
+    expect_ok(&rt, with_manager(two_reports(rt, rt.alloc()), body));
     expect_same(&rt, &count_in(&cell), &Some(1));
 }
 
@@ -164,8 +185,7 @@ fn expect_wait<R: Host>(rt: &R, locked: &Locked<Counting, R>, turn: &AtomicU64, 
 fn lock_is_waited_for_and_left_free(rt: HostRuntime) {
     let locked = expect_ok(&rt, Arc::new(rt.alloc(), Locked::new(counting_on(3), rt)));
     let turn = expect_ok(&rt, Arc::new(rt.alloc(), AtomicU64::new(0)));
-    let script = expect_ok(&rt, two_reports(rt.alloc()));
-    let parts = expect_ok(&rt, silent_parts(rt, rt.alloc(), script));
+    let parts = two_reports(rt, rt.alloc());
     let runner = start_turns(rt, parts, &locked, &turn);
     for odd in [1, 3, 5] {
         expect_wait(&rt, &locked, &turn, odd);
@@ -175,6 +195,24 @@ fn lock_is_waited_for_and_left_free(rt: HostRuntime) {
     expect_same(&rt, &count, &Some(2));
 }
 
+/// Adds descriptor 3 in `init`, and counts its events in what it shares.
+#[derive(Drop)]
+struct SharedCounting(Arc<AtomicU64>);
+
+impl MutEventSubscriber for SharedCounting {
+    ghost begins = { λ v exchanges w. Unit {0} };
+
+    ghost serves = { λ v event exchanges w. Unit {0} };
+
+    fn process<P: EventPoller>(&mut self, _events: Events, _ops: &mut EventOps<P>) {
+        self.0.fetch_add(1, Ordering::SeqCst);
+    }
+
+    fn init<P: EventPoller>(&mut self, ops: &mut EventOps<P>) {
+        let _ = ops.add(wanted(3));
+    }
+}
+
 /// Serves a subscriber under a lock the two reports, and sets the flag when that is done.
 fn serve_locked<R: Wait + Clock + Abort + Drop>(
     rt: R,
@@ -182,7 +220,7 @@ fn serve_locked<R: Wait + Clock + Abort + Drop>(
     locked: Locked<SharedCounting, R>,
     over: &AtomicU64,
 ) -> Result<(), Failure> {
-    let ran = run_alone(&rt, parts, locked, &[(None, Ok(1)), (None, Ok(1))]);
+    let ran = run_alone(&rt, parts, locked, &TWO_RUNS);
     over.store(1, Ordering::SeqCst);
     ran?;
     Ok(())
@@ -191,11 +229,11 @@ fn serve_locked<R: Wait + Clock + Abort + Drop>(
 #[test]
 fn subscriber_under_a_lock_counts_in_an_atomic(rt: HostRuntime) {
     let count = expect_ok(&rt, Arc::new(rt.alloc(), AtomicU64::new(0)));
-    let locked = Locked::new(expect_ok(&rt, shared_counting(&count)), rt);
+    let shared = SharedCounting(expect_ok(&rt, count.clone()));
+    let locked = Locked::new(shared, rt);
     let over = expect_ok(&rt, Arc::new(rt.alloc(), AtomicU64::new(0)));
     let theirs = expect_ok(&rt, over.clone());
-    let script = expect_ok(&rt, two_reports(rt.alloc()));
-    let parts = expect_ok(&rt, silent_parts(rt, rt.alloc(), script));
+    let parts = two_reports(rt, rt.alloc());
     let runner = expect_ok(
         &rt,
         thread::spawn(&rt, move || serve_locked(rt, parts, locked, &theirs)),

@@ -40,6 +40,13 @@ fn on(fd: i32) -> Events {
     Events::new_raw(fd.max(0), EventSet::IN)
 }
 
+fn make_renewing(fd: i32) -> Renewing {
+    Renewing {
+        own: on(fd),
+        seen: 0,
+    }
+}
+
 /// How long calls may take.
 #[derive(Clone, Copy)]
 struct Limit {
@@ -84,21 +91,13 @@ impl Scene {
             expect_ok(rt, poller.push_report(report));
         }
         let mut event_loop = expect_ok(rt, EventLoop::new(alloc, poller));
-        let first = Renewing {
-            own: on(0),
-            seen: 0,
-        };
-        let mut last = expect_ok(rt, event_loop.add_subscriber(first));
+        let mut last = expect_ok(rt, event_loop.add_subscriber(make_renewing(0)));
         for fd in 1..count {
             if calls == Calls::Removals {
                 let ops = expect_ok(rt, event_loop.event_ops(last));
                 expect_ok(rt, ops.add(on(fd)));
             } else {
-                let next = Renewing {
-                    own: on(fd),
-                    seen: 0,
-                };
-                last = expect_ok(rt, event_loop.add_subscriber(next));
+                last = expect_ok(rt, event_loop.add_subscriber(make_renewing(fd)));
             }
         }
         Scene {

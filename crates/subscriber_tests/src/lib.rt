@@ -1,4 +1,4 @@
-//! Tests of the event manager with subscribers of many kinds, and of how they come and go.
+//! Tests of the event manager with subscribers of many kinds.
 #![tactic(auto)]
 
 #[cfg(test)]
@@ -8,17 +8,7 @@ mod cells;
 #[cfg(test)]
 mod costs;
 #[cfg(test)]
-mod counting;
-#[cfg(test)]
 mod expecting;
 pub mod forms;
 #[cfg(test)]
-mod joins;
-#[cfg(test)]
-mod last_ids;
-#[cfg(test)]
 mod places;
-#[cfg(test)]
-mod served;
-#[cfg(test)]
-mod wrappers;

@@ -1,15 +1,13 @@
 //! A call beside a close: it is answered, whichever comes first.
 
-use crate::expecting::{expect_ok, expect_same};
 use crate::fixture::{Endpoint, Progress, Task, spin};
-use crate::host::{Host, Looping, Rounds};
+use crate::host::{Host, Looping, Rounds, expect_ok, expect_same};
 use event_manager::{
     Error, EventManager, EventPoller, LoopWithSenders, NamedCounter, Result, Sender, Senders,
     with_senders,
 };
 use fixtures::parts::{Idle, Parts, on_table};
 use std::alloc::Global;
-use std::process::Abort;
 use std::sync::Arc;
 use std::sync::atomic::{AtomicBool, Ordering};
 use std::thread;
@@ -76,12 +74,6 @@ impl<'a, R: Looping> LoopWithSenders<Idle, Task, Caller<'a>, R> for Closing<'a> 
     }
 }
 
-/// Expects of a call's reply that it was refused.
-fn expect_refused<R: Abort>(rt: &R, reply: Result<u64>) {
-    let is_refused = reply == Err(Error::ChannelRecv) || reply == Err(Error::ChannelSend);
-    assert!(rt; is_refused, "{reply:?}");
-}
-
 /// A caller beside a close of a new manager, for which a job without a caller waits.
 fn close_beside_call<R: Host>(rt: &R, alloc: Global, turns: u64) {
     let progress = expect_ok(rt, Arc::new(alloc, Progress::new()));
@@ -99,20 +91,10 @@ fn close_beside_call<R: Host>(rt: &R, alloc: Global, turns: u64) {
     let ended = expect_ok(rt, with_senders(rt, alloc, poller, counter, &mut body));
     expect_same(rt, &ended.sent.len(), &1);
     for reply in ended.sent {
-        expect_refused(rt, reply);
+        let is_refused = reply == Err(Error::ChannelRecv) || reply == Err(Error::ChannelSend);
+        assert!(rt; is_refused, "{reply:?}");
     }
     expect_same(rt, &Arc::strong_count(&progress), &1);
-}
-
-/// Closes a new manager in each round.
-fn close_all<R: Host>(rt: &R, alloc: Global, rounds: &Rounds) {
-    for round in 0..ROUNDS {
-        if !rounds.has_time() {
-            break;
-        }
-        close_beside_call(rt, alloc, round % MOST_TURNS);
-        rounds.count();
-    }
 }
 
 #[test]
@@ -123,7 +105,12 @@ fn a_call_beside_a_close_is_answered(rt: HostRuntime) {
         &rt,
         || rounds.look_on(&rt),
         || {
-            close_all(&rt, alloc, &rounds);
+            for round in 0..ROUNDS {
+                if rounds.has_time() {
+                    close_beside_call(&rt, alloc, round % MOST_TURNS);
+                    rounds.count();
+                }
+            }
             rounds.end();
         },
     );

@@ -1,6 +1,6 @@
 //! The job that the senders send, and what it counts in.
 
-use crate::expecting::expect_ok;
+use crate::host::expect_ok;
 use event_manager::{EventPoller, Job, MutEventSubscriber, Registry, RemoteEndpoint};
 use fixtures::parts::Idle;
 use std::alloc::Global;

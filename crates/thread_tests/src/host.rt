@@ -1,5 +1,6 @@
-//! What the tests need of the runtime, and the thread that looks on.
+//! What the tests need of the runtime, what they expect, and the thread that looks on.
 
+use std::fmt::Debug;
 use std::process::Abort;
 use std::sync::Wait;
 use std::sync::atomic::{AtomicBool, AtomicU64, Ordering};
@@ -15,6 +16,16 @@ impl<R: Threads + Wait + Clock + Abort + Copy + Send + Sync + Drop> Host for R {
 pub trait Looping: Wait + Clock + Abort + Copy + Drop {}
 
 impl<R: Wait + Clock + Abort + Copy + Drop> Looping for R {}
+
+/// Expects that the two are equal.
+pub fn expect_same<A: PartialEq + Debug, R: Abort>(rt: &R, found: &A, expected: &A) {
+    assert_eq!(rt; found, expected);
+}
+
+/// What a call answers that must succeed.
+pub fn expect_ok<A, E: Debug + Drop, R: Abort>(rt: &R, answer: Result<A, E>) -> A {
+    answer.expect(rt, "it succeeds")
+}
 
 /// How many milliseconds a round may last.
 const PATIENCE: u64 = 10_000;
@@ -71,15 +82,12 @@ impl Rounds {
             if over != seen {
                 (seen, since) = (over, now);
             }
-            let (lasts, last) = (
-                now.saturating_duration_since(since),
-                now.saturating_duration_since(begin),
-            );
+            let lasts = now.saturating_duration_since(since);
             assert!(rt;
                 lasts < Duration::from_millis(PATIENCE),
                 "round {over} does not end"
             );
-            if last > Duration::from_millis(MOST_TIME) {
+            if now.saturating_duration_since(begin) > Duration::from_millis(MOST_TIME) {
                 self.time_is_up.store(true, Ordering::SeqCst);
             }
             thread::sleep(rt, Duration::from_millis(1));

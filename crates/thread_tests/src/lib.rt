@@ -5,8 +5,6 @@
 #[cfg(test)]
 mod closing;
 #[cfg(test)]
-mod expecting;
-#[cfg(test)]
 mod fixture;
 #[cfg(test)]
 mod host;

@@ -1,8 +1,7 @@
 //! One sender, and a loop that waits without a limit: no wake-up between the two is lost.
 
-use crate::expecting::{expect_ok, expect_same};
 use crate::fixture::{Endpoint, Progress, Task};
-use crate::host::{Host, Looping, Rounds};
+use crate::host::{Host, Looping, Rounds, expect_ok, expect_same};
 use event_manager::{
     EventManager, EventPoller, LoopWithSenders, NamedCounter, Result, Sender, Senders, with_senders,
 };

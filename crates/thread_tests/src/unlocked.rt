@@ -1,7 +1,6 @@
 //! What another thread sees while a job, a reply or a subscriber is dropped.
 
-use crate::expecting::{expect_ok, expect_same};
-use crate::host::{Host, Looping, Rounds};
+use crate::host::{Host, Looping, Rounds, expect_ok, expect_same};
 use crate::watched::{Drops, Guest, Reporter, Task, Watched};
 use event_manager::{
     Error, EventManager, EventPoller, LoopWithSenders, NamedCounter, RemoteEndpoint, Result,
@@ -56,22 +55,12 @@ fn expected(act: Act) -> (usize, Result<u64>, Option<Error>) {
     }
 }
 
-/// What holds the value.
-#[derive(Drop)]
-struct Holders<R: Clock + Drop> {
-    guest: Guest<R>,
-    job: Task<R>,
-}
-
-impl<R: Clock + Drop> Holders<R> {
-    fn new(act: Act, value: Watched<R>) -> Self {
-        let (mut guest, mut job) = (Guest(None), Task::Nothing);
-        match act {
-            Act::CloseOnGuest => guest = Guest(Some(value)),
-            Act::RunReply => job = Task::Reply(value),
-            Act::SendToFull(_) | Act::SendToClosed(_) | Act::CloseOnJob => job = Task::Hold(value),
-        }
-        Holders { guest, job }
+/// A subscriber and a job, of which one holds the value.
+fn holders<R: Clock + Drop>(act: Act, value: Watched<R>) -> (Guest<R>, Task<R>) {
+    match act {
+        Act::CloseOnGuest => (Guest(Some(value)), Task::Nothing),
+        Act::RunReply => (Guest(None), Task::Reply(value)),
+        _ => (Guest(None), Task::Hold(value)),
     }
 }
 
@@ -205,7 +194,7 @@ impl<'a, R: Looping> LoopWithSenders<Guest<R>, Task<R>, Beside<'a, R>, R> for Ac
 fn expect_seen<R: Host>(rt: &R, alloc: Global, act: Act) {
     let drops = expect_ok(rt, Arc::new(alloc, Drops::new()));
     let value = expect_ok(rt, Watched::new(&drops, *rt));
-    let Holders { guest, job } = Holders::new(act, value);
+    let (guest, job) = holders(act, value);
     let Parts { counter, .. } = expect_ok(rt, on_table(*rt, alloc, NEARLY_FULL));
     let second = Mutex::new(Some(job));
     let mut acting = Acting {
@@ -219,14 +208,6 @@ fn expect_seen<R: Host>(rt: &R, alloc: Global, act: Act) {
     expect_same(rt, &drops.count(), &1);
 }
 
-/// Expects it of each of these acts.
-fn expect_all_seen<R: Host>(rt: &R, alloc: Global, acts: &[Act], rounds: &Rounds) {
-    for act in acts {
-        expect_seen(rt, alloc, *act);
-        rounds.count();
-    }
-}
-
 /// Expects it of each of these acts, none of which may last too long.
 fn expect_each_seen<R: Host>(rt: &R, alloc: Global, acts: &[Act]) {
     let rounds = Rounds::new();
@@ -234,7 +215,10 @@ fn expect_each_seen<R: Host>(rt: &R, alloc: Global, acts: &[Act]) {
         rt,
         || rounds.look_on(rt),
         || {
-            expect_all_seen(rt, alloc, acts, &rounds);
+            for act in acts {
+                expect_seen(rt, alloc, *act);
+                rounds.count();
+            }
             rounds.end();
         },
     );
@@ -242,38 +226,27 @@ fn expect_each_seen<R: Host>(rt: &R, alloc: Global, acts: &[Act]) {
 
 #[test]
 fn a_job_that_a_full_counter_refuses_is_dropped_unlocked(rt: HostRuntime) {
-    let acts = [
-        Act::SendToFull(Way::Fire),
-        Act::SendToFull(Way::FireAfter),
-        Act::SendToFull(Way::Call),
-    ];
+    let acts = [Way::Fire, Way::FireAfter, Way::Call].map(|way| Act::SendToFull(way));
     expect_each_seen(&rt, rt.alloc(), &acts);
 }
 
 #[test]
 fn a_job_that_a_closed_queue_refuses_is_dropped_unlocked(rt: HostRuntime) {
-    let acts = [
-        Act::SendToClosed(Way::Fire),
-        Act::SendToClosed(Way::FireAfter),
-        Act::SendToClosed(Way::Call),
-    ];
+    let acts = [Way::Fire, Way::FireAfter, Way::Call].map(|way| Act::SendToClosed(way));
     expect_each_seen(&rt, rt.alloc(), &acts);
 }
 
 #[test]
 fn a_reply_that_nobody_wants_is_dropped_unlocked(rt: HostRuntime) {
-    let acts = [Act::RunReply];
-    expect_each_seen(&rt, rt.alloc(), &acts);
+    expect_each_seen(&rt, rt.alloc(), &[Act::RunReply]);
 }
 
 #[test]
 fn a_job_that_waits_at_a_close_is_dropped_behind_it(rt: HostRuntime) {
-    let acts = [Act::CloseOnJob];
-    expect_each_seen(&rt, rt.alloc(), &acts);
+    expect_each_seen(&rt, rt.alloc(), &[Act::CloseOnJob]);
 }
 
 #[test]
 fn subscribers_are_dropped_behind_a_close(rt: HostRuntime) {
-    let acts = [Act::CloseOnGuest];
-    expect_each_seen(&rt, rt.alloc(), &acts);
+    expect_each_seen(&rt, rt.alloc(), &[Act::CloseOnGuest]);
 }

@@ -1,15 +1,29 @@
 //! A shared table for tests of what ends a wait.
 
-use crate::expecting::expect_ok;
-use crate::host::Host;
-use std::alloc::Global;
+use crate::expecting::{expect_ok, expect_same};
+use std::process::Abort;
+use std::sync::Wait;
+use std::thread;
+use std::thread::Threads;
+use std::time::{Clock, Duration};
 use vmm_sys::epoll::{AsRawFd, ControlOperation, Epoll, EpollEvent, EventSet};
 use vmm_sys::errno::Errno;
 use vmm_sys::eventfd::EventFd;
 use vmm_sys::line::Line;
 use vmm_sys::poller::Poller;
 
+/// What the tests on threads need of the runtime.
+pub(crate) trait Host: Threads + Wait + Clock + Abort + Copy + Send + Sync + Drop + 'static {}
+
+impl<R: Threads + Wait + Clock + Abort + Copy + Send + Sync + Drop + 'static> Host for R {}
+
+pub(crate) fn pause<R: Host>(rt: &R, ms: u64) {
+    thread::sleep(rt, Duration::from_millis(ms));
+}
+
 pub(crate) const HIGHEST: u64 = 18446744073709551614;
+
+const MODIFY: ControlOperation = ControlOperation::Modify;
 
 /// A call after which a [`Fixture`] has one descriptor ready; with what of it is then ready, where there is a choice.
 #[derive(Clone, Copy)]
@@ -22,29 +36,26 @@ pub(crate) enum Change {
     Set(EventSet),
 }
 
-/// A table in which nothing is ready: an empty counter and a line are wanted for `IN`, a full
+/// Descriptors of a table in which nothing is ready: an empty counter and a line are wanted for `IN`, a full
 /// counter for `OUT`, and a counter of 1 isn't wanted.
 #[derive(Drop)]
-pub(crate) struct Fixture<R> {
-    pub(crate) epoll: Epoll<R>,
-    pub(crate) empty: EventFd,
+pub(crate) struct Fixture {
+    empty: EventFd,
     full: EventFd,
     line: Line,
     unwanted: EventFd,
 }
 
-impl<R: Host> Fixture<R> {
-    pub(crate) fn new(rt: R, alloc: Global) -> Fixture<R> {
-        let mut epoll = expect_ok(&rt, Epoll::new(rt, alloc));
-        let empty = expect_ok(&rt, EventFd::new(&epoll, 0, &rt));
-        let full = expect_ok(&rt, EventFd::new(&epoll, HIGHEST, &rt));
-        let line = expect_ok(&rt, Line::new(&epoll, &rt));
-        let unwanted = expect_ok(&rt, EventFd::new(&epoll, 1, &rt));
-        want(&rt, &mut epoll, &empty, EventSet::IN);
-        want(&rt, &mut epoll, &full, EventSet::OUT);
-        want(&rt, &mut epoll, &line, EventSet::IN);
+impl Fixture {
+    pub(crate) fn new<R: Host>(rt: &R, epoll: &mut Epoll<R>) -> Fixture {
+        let empty = expect_ok(rt, EventFd::new(&*epoll, 0, rt));
+        let full = expect_ok(rt, EventFd::new(&*epoll, HIGHEST, rt));
+        let line = expect_ok(rt, Line::new(&*epoll, rt));
+        let unwanted = expect_ok(rt, EventFd::new(&*epoll, 1, rt));
+        want(rt, epoll, &empty, EventSet::IN);
+        want(rt, epoll, &full, EventSet::OUT);
+        want(rt, epoll, &line, EventSet::IN);
         Fixture {
-            epoll,
             empty,
             full,
             line,
@@ -53,12 +64,11 @@ impl<R: Host> Fixture<R> {
     }
 
     /// Makes the call; the answer is the one entry that a wait then reports.
-    pub(crate) fn make(&mut self, change: Change, rt: &R) -> EpollEvent {
+    pub(crate) fn make<R: Host>(&self, rt: &R, epoll: &mut Epoll<R>, change: Change) -> EpollEvent {
         match change {
             Change::Add(set) => {
-                let (fd, event) = (self.unwanted.as_raw_fd(), EpollEvent::new(set, 7));
-                expect_ok(rt, self.epoll.ctl(ControlOperation::Add, fd, event));
-                event
+                want(rt, epoll, &self.unwanted, set);
+                entry(&self.unwanted, set)
             }
             Change::Modify(set) => {
                 let counter = if set == EventSet::IN {
@@ -66,8 +76,8 @@ impl<R: Host> Fixture<R> {
                 } else {
                     &self.empty
                 };
-                let (fd, event) = (counter.as_raw_fd(), EpollEvent::new(set, 7));
-                expect_ok(rt, self.epoll.ctl(ControlOperation::Modify, fd, event));
+                let event = entry(counter, set);
+                expect_ok(rt, epoll.ctl(MODIFY, counter.as_raw_fd(), event));
                 event
             }
             Change::Write => {
@@ -75,7 +85,7 @@ impl<R: Host> Fixture<R> {
                 entry(&self.empty, EventSet::IN)
             }
             Change::Read => {
-                expect_ok(rt, self.full.read(rt));
+                expect_same(rt, &self.full.read(rt), &Ok(HIGHEST));
                 entry(&self.full, EventSet::OUT)
             }
             Change::Set(set) => {
@@ -85,28 +95,43 @@ impl<R: Host> Fixture<R> {
         }
     }
 
+    /// Takes back a change that isn't an addition, or a modification to `OUT`.
+    pub(crate) fn take_back<R: Host>(&self, rt: &R, epoll: &mut Epoll<R>, change: Change) {
+        match change {
+            Change::Write => expect_same(rt, &self.empty.read(rt), &Ok(1)),
+            Change::Read => expect_ok(rt, self.full.write(HIGHEST, rt)),
+            Change::Set(_) => expect_ok(rt, self.line.set(EventSet::empty(), rt)),
+            Change::Add(_) | Change::Modify(_) => {
+                let event = entry(&self.full, EventSet::OUT);
+                expect_ok(rt, epoll.ctl(MODIFY, self.full.as_raw_fd(), event));
+            }
+        }
+    }
+
     /// Changes the line twice, of which nothing is ready.
-    pub(crate) fn change_in_vain(&self, rt: &R) {
+    pub(crate) fn change_in_vain<R: Host>(&self, rt: &R) {
         expect_ok(rt, self.line.set(EventSet::OUT, rt));
         expect_ok(rt, self.line.set(EventSet::empty(), rt));
     }
 
     /// Makes calls of each kind that may be refused, and answers what they did.
-    pub(crate) fn make_refused(&mut self, rt: &R) -> [Option<Errno>; 7] {
-        let none = EpollEvent::new(EventSet::empty(), 0);
+    pub(crate) fn make_refused<R: Host>(&self, rt: &R, epoll: &mut Epoll<R>) -> [Option<Errno>; 7] {
+        let none = no_event();
         let (empty, unwanted) = (self.empty.as_raw_fd(), self.unwanted.as_raw_fd());
         [
             self.empty.write(u64::MAX, rt).err(),
             self.full.write(1, rt).err(),
             self.empty.read(rt).err(),
-            self.epoll.ctl(ControlOperation::Add, empty, none).err(),
-            self.epoll
-                .ctl(ControlOperation::Modify, unwanted, none)
-                .err(),
-            self.epoll.ctl(ControlOperation::Delete, 99, none).err(),
-            EventFd::new(&self.epoll, u64::MAX, rt).err(),
+            epoll.ctl(ControlOperation::Add, empty, none).err(),
+            epoll.ctl(MODIFY, unwanted, none).err(),
+            epoll.ctl(ControlOperation::Delete, 99, none).err(),
+            EventFd::new(&*epoll, u64::MAX, rt).err(),
         ]
     }
+}
+
+pub(crate) fn no_event() -> EpollEvent {
+    EpollEvent::new(EventSet::empty(), 0)
 }
 
 /// The entry of a descriptor, whose word is its number.
@@ -122,8 +147,6 @@ pub(crate) fn want<R: Host, D: AsRawFd>(
     set: EventSet,
 ) {
     let event = entry(descriptor, set);
-    expect_ok(
-        rt,
-        epoll.ctl(ControlOperation::Add, descriptor.as_raw_fd(), event),
-    );
+    let added = epoll.ctl(ControlOperation::Add, descriptor.as_raw_fd(), event);
+    expect_ok(rt, added);
 }

@@ -1,9 +1,7 @@
-//! A thousand of each thing and more: no call is refused for want of memory, and none is lost.
+//! The poller that follows a script; and a thousand of each thing: no call is refused for want of memory, and none is lost.
 
 use crate::expecting::{expect_ok, expect_same};
-use crate::fixture::want;
-use crate::host::Host;
-use crate::waiter::no_event;
+use crate::fixture::{Host, no_event, want};
 use std::alloc::Global;
 use std::process::Abort;
 use vmm_sys::epoll::{ControlOperation, Epoll, EpollEvent, EventSet, RawFd};
@@ -13,6 +11,12 @@ use vmm_sys::line::Line;
 use vmm_sys::poller::Poller;
 use vmm_sys::script_poller::ScriptPoller;
 use vmm_sys::table::Table;
+
+const ADD: ControlOperation = ControlOperation::Add;
+
+const MODIFY: ControlOperation = ControlOperation::Modify;
+
+const DELETE: ControlOperation = ControlOperation::Delete;
 
 const MANY: u64 = 1000;
 
@@ -25,7 +29,7 @@ fn a_thousand_descriptors_of_a_table(rt: HostRuntime) {
     let mut table = Table::new(rt.alloc());
     for word in 0..MANY {
         let fd = open_ready(&rt, &mut table, word);
-        expect_ok(&rt, table.ctl(ControlOperation::Add, fd, input(word)));
+        expect_ok(&rt, table.ctl(ADD, fd, input(word)));
     }
     expect_all_in_turn(&rt, &mut table);
 }
@@ -38,53 +42,6 @@ fn open_ready<R: Abort>(rt: &R, table: &mut Table, number: u64) -> RawFd {
     let fd = expect_ok(rt, table.add_line());
     expect_ok(rt, table.set_line(fd, EventSet::IN));
     fd
-}
-
-const INTERESTS: u64 = 4096;
-
-#[test]
-fn each_of_4096_interests_is_reported_in_turn(rt: HostRuntime) {
-    let mut table = ready_table(&rt, rt.alloc());
-    expect_one_a_wait(&rt, &mut table, INTERESTS);
-    // Round again, from the first.
-    expect_one_a_wait(&rt, &mut table, INTERESTS);
-}
-
-// The words are the descriptors.
-fn ready_table<R: Abort>(rt: &R, alloc: Global) -> Table {
-    let mut table = Table::new(alloc);
-    for word in 0..INTERESTS {
-        let fd = open_ready(rt, &mut table, word);
-        expect_ok(rt, table.ctl(ControlOperation::Add, fd, input(word)));
-    }
-    table
-}
-
-// Waits with room for one report the words in their order.
-fn expect_one_a_wait<P: Poller, R: Abort>(rt: &R, poller: &mut P, words: u64) {
-    for word in 0..words {
-        expect_next(rt, poller, word);
-    }
-}
-
-// A wait with room for one reports this word.
-fn expect_next<P: Poller, R: Abort>(rt: &R, poller: &mut P, word: u64) {
-    let mut buffer = [no_event()];
-    expect_same(rt, &poller.wait(0, &mut buffer), &Ok(1));
-    expect_same(rt, &buffer, &[input(word)]);
-}
-
-#[test]
-fn half_of_4096_interests_are_taken_out(rt: HostRuntime) {
-    let mut table = ready_table(&rt, rt.alloc());
-    for fd in 0..INTERESTS as RawFd {
-        if fd % 2 > 0 {
-            expect_ok(&rt, table.ctl(ControlOperation::Delete, fd, no_event()));
-        }
-    }
-    for word in 0..INTERESTS {
-        expect_next(&rt, &mut table, word.wrapping_mul(2) % INTERESTS);
-    }
 }
 
 #[test]
@@ -131,18 +88,14 @@ fn a_thousand_reports(rt: HostRuntime) {
     for word in 0..MANY {
         let report = expect_ok(&rt, vec![in rt.alloc(); input(word)]);
         expect_ok(&rt, script.push_report(report));
+        expect_ok(&rt, script.push_fault(Errno(word as i32)));
     }
-    expect_one_a_wait(&rt, &mut script, MANY);
-}
-
-#[test]
-fn a_thousand_faults(rt: HostRuntime) {
-    let mut script = ScriptPoller::new(rt.alloc());
-    for number in 0..MANY as i32 {
-        expect_ok(&rt, script.push_fault(Errno(number)));
-    }
-    for number in 0..MANY as i32 {
-        expect_same(&rt, &script.wait(0, &mut [no_event()]), &Err(Errno(number)));
+    for word in 0..MANY {
+        let mut buffer = [no_event()];
+        expect_same(&rt, &script.wait(0, &mut buffer), &Ok(1));
+        expect_same(&rt, &buffer, &[input(word)]);
+        let fault = Err(Errno(word as i32));
+        expect_same(&rt, &script.wait(0, &mut buffer), &fault);
     }
 }
 
@@ -150,13 +103,10 @@ fn a_thousand_faults(rt: HostRuntime) {
 fn a_thousand_refusals(rt: HostRuntime) {
     let mut script = ScriptPoller::new(rt.alloc());
     for fd in 0..MANY as i32 {
-        expect_ok(
-            &rt,
-            script.push_refusal(ControlOperation::Add, fd, Errno(fd)),
-        );
+        expect_ok(&rt, script.push_refusal(ADD, fd, Errno(fd)));
     }
     for fd in 0..MANY as i32 {
-        let answer = script.ctl(ControlOperation::Add, fd, no_event());
+        let answer = script.ctl(ADD, fd, no_event());
         expect_same(&rt, &answer, &Err(Errno(fd)));
     }
 }
@@ -171,11 +121,54 @@ fn a_report_of_a_thousand(rt: HostRuntime) {
     expect_ok(&rt, script.push_report(report));
     let mut buffer = [no_event(); 1000];
     expect_same(&rt, &script.wait(0, &mut buffer), &Ok(1000));
-    expect_words_in_turn(&rt, &buffer);
+    for (entry, word) in buffer.iter().zip(0..MANY) {
+        expect_same(&rt, entry, &input(word));
+    }
 }
 
-fn expect_words_in_turn<R: Abort>(rt: &R, entries: &[EpollEvent]) {
-    for (entry, word) in entries.iter().zip(0..MANY) {
-        expect_same(rt, entry, &input(word));
+#[test]
+fn reports_and_faults(rt: HostRuntime) {
+    let mut script = ScriptPoller::new(rt.alloc());
+    let report = expect_ok(&rt, vec![in rt.alloc(); input(1), input(2), input(3)]);
+    expect_ok(&rt, script.push_report(report));
+    expect_ok(&rt, script.push_fault(Errno::EINTR));
+    expect_ok(&rt, script.push_report(Vec::new(rt.alloc())));
+    expect_waits(&rt, &mut script);
+}
+
+// Waits without room, and with room for two events, until the script is over.
+fn expect_waits<R: Abort>(rt: &R, script: &mut ScriptPoller) {
+    let rows = [
+        (Ok(2), [input(1), input(2)]),
+        (Ok(1), [input(3), input(0)]),
+        (Err(Errno::EINTR), [input(0); 2]),
+        (Ok(0), [input(0); 2]),
+        (Ok(0), [input(0); 2]),
+    ];
+    for (answer, entries) in rows {
+        let mut buffer = [input(0); 2];
+        expect_same(rt, &script.wait(-1, &mut []), &Err(Errno::EINVAL));
+        expect_same(rt, &script.wait(-1, &mut buffer), &answer);
+        expect_same(rt, &buffer, &entries);
+    }
+}
+
+#[test]
+fn refusals_in_the_order_of_pushing(rt: HostRuntime) {
+    let mut script = ScriptPoller::new(rt.alloc());
+    for (op, errno) in [(ADD, 22), (DELETE, 5), (ADD, 23)] {
+        expect_ok(&rt, script.push_refusal(op, 3, Errno(errno)));
+    }
+    let rows = [
+        (MODIFY, 3, Ok(())),
+        (ADD, 4, Ok(())),
+        (ADD, 3, Err(Errno(22))),
+        (ADD, 3, Err(Errno(23))),
+        (ADD, 3, Ok(())),
+        (DELETE, 3, Err(Errno(5))),
+        (DELETE, 3, Ok(())),
+    ];
+    for (op, fd, answer) in rows {
+        expect_same(&rt, &script.ctl(op, fd, input(0)), &answer);
     }
 }

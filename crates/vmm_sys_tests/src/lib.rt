@@ -3,19 +3,11 @@
 #![tactic(auto)]
 
 #[cfg(test)]
-mod copies;
-#[cfg(test)]
 mod expecting;
-#[cfg(test)]
-mod fault_poller;
 #[cfg(test)]
 mod fixture;
 #[cfg(test)]
-mod host;
-#[cfg(test)]
 mod hundreds;
-#[cfg(test)]
-mod memory;
 #[cfg(test)]
 mod missed;
 #[cfg(test)]
@@ -23,18 +15,8 @@ mod random_calls;
 #[cfg(test)]
 mod records;
 #[cfg(test)]
-mod script_poller;
-#[cfg(test)]
 mod shared_table;
-#[cfg(test)]
-mod steps;
 #[cfg(test)]
 mod table;
 #[cfg(test)]
-mod time_limits;
-#[cfg(test)]
-mod values;
-#[cfg(test)]
-mod waiter;
-#[cfg(test)]
-mod wake_ups;
+mod waits;

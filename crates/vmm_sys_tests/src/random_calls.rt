@@ -1,8 +1,7 @@
 //! Threads that make calls of one table at random, each beside what it knows of its own descriptors.
 
 use crate::expecting::{expect_ok, expect_same};
-use crate::host::Host;
-use crate::waiter::no_event;
+use crate::fixture::{Host, no_event};
 use rand_core::Rng;
 use rand_pcg::Pcg32;
 use std::alloc::Global;
@@ -70,15 +69,15 @@ impl<R: Host> Member<R> {
     fn new(rt: &R, epoll: &Epoll<R>, number: u64) -> Member<R> {
         let counter = expect_ok(rt, EventFd::new(epoll, 0, rt));
         let line = expect_ok(rt, Line::new(epoll, rt));
-        let known = [
-            (counter.as_raw_fd(), EventSet::OUT),
-            (line.as_raw_fd(), EventSet::empty()),
-        ]
-        .map(|(fd, state)| Known {
+        let known = |fd, state| Known {
             fd,
             state,
             wanted: None,
-        });
+        };
+        let known = [
+            known(counter.as_raw_fd(), EventSet::OUT),
+            known(line.as_raw_fd(), EventSet::empty()),
+        ];
         Member {
             poller: expect_ok(rt, epoll.try_clone()),
             counter,
@@ -192,15 +191,11 @@ fn expect_reported<R: Abort>(rt: &R, own: &Known, report: &[EpollEvent], had_roo
     expect_same(rt, &(least <= times && times <= most), &true);
 }
 
-fn start<R: Host>(rt: R, epoll: &Epoll<R>, number: u64) -> JoinHandle<Member<R>> {
-    let member = Member::new(&rt, epoll, number);
-    expect_ok(&rt, thread::spawn(&rt, move || member.make_calls(&rt)))
-}
-
 fn start_all<R: Host>(rt: R, alloc: Global, epoll: &Epoll<R>) -> Vec<JoinHandle<Member<R>>> {
     let mut started = Vec::new(alloc);
     for number in 0..THREADS {
-        let thread = start(rt, epoll, number);
+        let member = Member::new(&rt, epoll, number);
+        let thread = expect_ok(&rt, thread::spawn(&rt, move || member.make_calls(&rt)));
         expect_same(&rt, &started.push(thread).is_ok(), &true);
     }
     started

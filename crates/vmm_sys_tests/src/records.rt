@@ -36,12 +36,12 @@ fn waited(room: usize, answer: Result<usize, Errno>) -> RecordEntry {
     }
 }
 
-/// A table with two counters above 0, recorded with room for so many entries.
-fn recording<R: Abort>(rt: &R, alloc: Global, most: usize) -> RecordingPoller<Table> {
+/// A table with two counters above 0, recorded with room for seven entries.
+fn recording<R: Abort>(rt: &R, alloc: Global) -> RecordingPoller<Table> {
     let mut table = Table::new(alloc);
     expect_same(rt, &table.add_counter(1), &Ok(0));
     expect_same(rt, &table.add_counter(1), &Ok(1));
-    expect_ok(rt, RecordingPoller::new(table, alloc, most))
+    expect_ok(rt, RecordingPoller::new(table, alloc, 7))
 }
 
 /// Adds the first counter, once more, and the second, and waits with room for three events.
@@ -70,7 +70,7 @@ fn entries() -> [RecordEntry; 7] {
 
 #[test]
 fn a_table_is_recorded_and_replayed(rt: HostRuntime) {
-    let mut recording = recording(&rt, rt.alloc(), 7);
+    let mut recording = recording(&rt, rt.alloc());
     run(&rt, &mut recording);
     expect_same(&rt, &recording.is_complete(), &true);
     expect_same(&rt, &recording.record(), &entries().as_slice());
@@ -85,39 +85,4 @@ fn expect_replayed<R: Abort>(rt: &R, replay: &mut ReplayPoller) {
     let past = replay.ctl(ADD, 0, event(7));
     expect_same(rt, &past, &Err(Errno::EIO));
     expect_same(rt, &(replay.passed(), replay.diverged()), &(7, Some(7)));
-}
-
-#[test]
-fn a_divergence_is_named(rt: HostRuntime) {
-    let report = [
-        added(0, Ok(())),
-        waited(1, Ok(1)),
-        RecordEntry::Reported(event(7)),
-    ];
-    let record = expect_ok(&rt, Vec::from_array(rt.alloc(), report));
-    expect_divergence(&rt, &mut ReplayPoller::new(record));
-}
-
-// Waits with more room than was recorded, and then with as much.
-fn expect_divergence<R: Abort>(rt: &R, replay: &mut ReplayPoller) {
-    expect_same(rt, &replay.ctl(ADD, 0, event(7)), &Ok(()));
-    let mut buffer = [event(0); 2];
-    let wait = replay.wait(-1, &mut buffer);
-    expect_same(rt, &wait, &Err(Errno::EIO));
-    expect_same(rt, &buffer, &[event(0); 2]);
-    let right = replay.wait(-1, &mut buffer[..1]);
-    expect_same(rt, &right, &Err(Errno::EIO));
-    expect_same(
-        rt,
-        &(replay.is_over(), replay.diverged()),
-        &(false, Some(1)),
-    );
-}
-
-#[test]
-fn a_full_record_is_the_front_of_the_run(rt: HostRuntime) {
-    let mut recording = recording(&rt, rt.alloc(), 5);
-    run(&rt, &mut recording);
-    expect_same(&rt, &recording.is_complete(), &false);
-    expect_same(&rt, &recording.record(), &&entries()[..3]);
 }

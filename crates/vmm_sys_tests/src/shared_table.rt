@@ -1,9 +1,8 @@
-//! A table that pollers, counters and lines share, on one thread.
+//! A table that pollers, counters, lines and their copies share; each call is one step of it.
 
 use crate::expecting::{expect_ok, expect_same};
-use crate::fixture::{HIGHEST, entry, want};
-use crate::host::Host;
-use crate::waiter::{expect_set, no_event, report_of};
+use crate::fixture::{HIGHEST, Host, entry, no_event, want};
+use crate::waits::{expect_set, report_of};
 use std::alloc::Global;
 use std::process::Abort;
 use std::sync::Arc;
@@ -189,4 +188,91 @@ fn lines_of_one_table_are_apart(rt: HostRuntime) {
         expect_same(&rt, &epoll.wait(0, &mut buffer), &Ok(count));
         expect_same(&rt, &buffer, &[reported, no_event()]);
     }
+}
+
+#[test]
+fn a_copy_of_a_counter_has_its_value(rt: HostRuntime) {
+    let epoll = expect_ok(&rt, Epoll::new(rt, rt.alloc()));
+    expect_ok(&rt, EventFd::new(&epoll, 7, &rt));
+    let counter = expect_ok(&rt, EventFd::new(&epoll, 0, &rt));
+    let copy = expect_ok(&rt, counter.try_clone());
+    expect_same(&rt, &copy.as_raw_fd(), &counter.as_raw_fd());
+    expect_ok(&rt, counter.write(2, &rt));
+    expect_same(&rt, &copy.read(&rt), &Ok(2));
+    expect_ok(&rt, copy.write(3, &rt));
+    expect_same(&rt, &counter.read(&rt), &Ok(3));
+}
+
+#[test]
+fn what_a_copy_of_a_line_sets_is_reported(rt: HostRuntime) {
+    let mut epoll = expect_ok(&rt, Epoll::new(rt, rt.alloc()));
+    expect_ok(&rt, Line::new(&epoll, &rt));
+    let line = expect_ok(&rt, Line::new(&epoll, &rt));
+    want(&rt, &mut epoll, &line, EventSet::IN);
+    let copy = expect_ok(&rt, line.try_clone());
+    expect_same(&rt, &copy.as_raw_fd(), &line.as_raw_fd());
+    expect_ok(&rt, copy.set(EventSet::IN, &rt));
+    let mut buffer = [no_event()];
+    expect_same(&rt, &epoll.wait(0, &mut buffer), &Ok(1));
+    expect_same(&rt, &buffer, &[entry(&line, EventSet::IN)]);
+}
+
+macro_rules! with_memory {
+    ($call:expr) => {
+        match $call {
+            Err(Errno::ENOMEM) => $call,
+            answer => answer,
+        }
+    };
+}
+
+/// Each call of a shared table that requests memory. With one request refused (`rt try --test --fail-alloc N`) the same call
+/// made again answers what a first one would have; a `ctl` requests none.
+#[test]
+fn requests_of_a_shared_table(rt: HostRuntime) {
+    let mut epoll = expect_ok(&rt, with_memory!(Epoll::new(rt, rt.alloc())));
+    let mut other = expect_ok(&rt, with_memory!(epoll.try_clone()));
+    let counter = expect_ok(&rt, with_memory!(EventFd::new(&epoll, 1, &rt)));
+    expect_same(&rt, &counter.as_raw_fd(), &0);
+    let line = expect_ok(&rt, with_memory!(Line::new(&epoll, &rt)));
+    expect_same(&rt, &line.as_raw_fd(), &1);
+    let added = epoll.ctl(ADD, 0, entry(&counter, EventSet::IN));
+    expect_same(&rt, &added, &Ok(()));
+    let mut buffer = [no_event()];
+    expect_same(&rt, &other.wait(0, &mut buffer), &Ok(1));
+    expect_same(&rt, &buffer, &[entry(&counter, EventSet::IN)]);
+}
+
+const ROUNDS: u64 = 20_000;
+
+#[test]
+fn what_is_written_is_read_or_left(rt: HostRuntime) {
+    let epoll = expect_ok(&rt, Epoll::new(rt, rt.alloc()));
+    let counter = expect_ok(&rt, EventFd::new(&epoll, 0, &rt));
+    let by_one = |k| match k < 2 {
+        true => write_often(&rt, &counter),
+        false => read_often(&rt, &counter),
+    };
+    let sums = thread::map_indices(&rt, rt.alloc(), 4, &by_one);
+    let read = expect_ok(&rt, sums);
+    let taken = read.iter().fold(0u64, |sum, part| sum.wrapping_add(*part));
+    let left = counter.read(&rt).unwrap_or(0);
+    expect_same(&rt, &taken.wrapping_add(left), &(2 * ROUNDS));
+}
+
+// Writes 1 many times, and reads nothing.
+fn write_often<R: Host>(rt: &R, counter: &EventFd) -> u64 {
+    for _ in 0..ROUNDS {
+        expect_same(rt, &counter.write(1, rt), &Ok(()));
+    }
+    0
+}
+
+// Reads many times; answers the sum of what was read.
+fn read_often<R: Host>(rt: &R, counter: &EventFd) -> u64 {
+    let mut sum = 0u64;
+    for _ in 0..ROUNDS {
+        sum = sum.wrapping_add(counter.read(rt).unwrap_or(0));
+    }
+    sum
 }

@@ -1,8 +1,7 @@
-//! The table, as one owner uses it: worked rows of its calls. What they answer is proved.
+//! The table, as one owner uses it: worked rows of its calls, and the numbers of its errors. What they answer is proved.
 
 use crate::expecting::{expect_ok, expect_same};
-use crate::fixture::HIGHEST;
-use crate::waiter::no_event;
+use crate::fixture::{HIGHEST, no_event};
 use std::process::Abort;
 use vmm_sys::epoll::{ControlOperation, EpollEvent, EventSet};
 use vmm_sys::errno::Errno;
@@ -80,26 +79,19 @@ fn a_full_counter_of_a_table(rt: HostRuntime) {
     let mut table = Table::new(rt.alloc());
     expect_same(&rt, &table.add_counter(HIGHEST), &Ok(0));
     expect_same(&rt, &ask(&mut table, ADD, 0, EventSet::OUT), &Ok(()));
-    expect_full(&rt, &mut table);
-}
-
-// Nothing can be written to the counter, of which OUT is wanted, until it is read.
-fn expect_full<R: Abort>(rt: &R, table: &mut Table) {
-    expect_same(rt, &table.write(0, 1), &Err(Errno::EAGAIN));
-    expect_report(rt, table, Ok(0), no_event());
-    expect_same(rt, &table.write(0, u64::MAX), &Err(Errno::EINVAL));
-    expect_same(rt, &table.read(0), &Ok(HIGHEST));
-    expect_same(rt, &table.read(0), &Err(Errno::EAGAIN));
+    expect_same(&rt, &table.write(0, 1), &Err(Errno::EAGAIN));
+    expect_report(&rt, &mut table, Ok(0), no_event());
+    expect_same(&rt, &table.write(0, u64::MAX), &Err(Errno::EINVAL));
+    expect_same(&rt, &table.read(0), &Ok(HIGHEST));
+    expect_same(&rt, &table.read(0), &Err(Errno::EAGAIN));
 }
 
 // Opens counters of these values, and adds an interest in each.
 fn open<R: Abort>(rt: &R, table: &mut Table, values: &[u64]) {
     for &value in values {
         let fd = expect_ok(rt, table.add_counter(value));
-        expect_ok(
-            rt,
-            table.ctl(ADD, fd, EpollEvent::new(IN, fd.max(0) as u64)),
-        );
+        let wanted = EpollEvent::new(IN, fd.max(0) as u64);
+        expect_ok(rt, table.ctl(ADD, fd, wanted));
     }
 }
 
@@ -140,4 +132,23 @@ fn one_is_added_and_one_deleted_between_the_waits(rt: HostRuntime) {
     expect_ok(&rt, table.ctl(ControlOperation::Delete, 1, no_event()));
     expect_one(&rt, &mut table, 2);
     expect_one(&rt, &mut table, 3);
+}
+
+/// Each constant, and its number in Linux.
+const NUMBERS: [(Errno, i32); 8] = [
+    (Errno::ENOENT, 2),
+    (Errno::EINTR, 4),
+    (Errno::EBADF, 9),
+    (Errno::EAGAIN, 11),
+    (Errno::ENOMEM, 12),
+    (Errno::EEXIST, 17),
+    (Errno::EINVAL, 22),
+    (Errno::EMFILE, 24),
+];
+
+#[test]
+fn constants_have_their_numbers(rt: HostRuntime) {
+    for (errno, number) in NUMBERS {
+        expect_same(&rt, &errno.0, &number);
+    }
 }
