@@ -61,14 +61,6 @@ module _ (lists after : List WatchList) (id place : ℕ) (is : IsListOf lists id
     as_long : length after ≡ length lists
     as_long = ap length changed ∙ length-set lists place list
 
-    pub apart_changed : AreApart lists → AreApart after
-    apart_changed apart k l d first below same =
-        let within : l < length lists = omega (arith, as_long, below) in
-        apart k l d first within (sym (same_id k d (omega (arith, first, within))) ∙ same ∙ same_id l d within)
-
-    pub up_to_changed : (newest : ℕ) → AreUpTo newest lists → AreUpTo newest after
-    up_to_changed newest up_to k d below = let within : k < length lists = omega (arith, as_long, below) in omega (arith, same_id k d within, up_to k d within)
-
     -- before and after, in the lists of id j
     times_changed : (j q : ℕ) → times_among after j q + times_if j q old ≡ times_among lists j q + times_if j q list
     times_changed j q = ap (λ l. times_among l j q + times_if j q old) changed ∙ sum_by-set (times_if j q) lists place list list is.0
@@ -83,12 +75,6 @@ module _ (lists after : List WatchList) (id place : ℕ) (is : IsListOf lists id
     more_by : (b : Bool) (now was then new more : ℕ) → new ≡ then + more → now + cond b then 0 ≡ was + cond b new 0 → now ≡ was + cond b more 0
     more_by true now was then new more grown total = omega (arith, grown, total)
     more_by false now was then new more grown total = omega (arith, total)
-
-    pub times_more : (j q more : ℕ) → times_in list.fds.items q ≡ times_in old.fds.items q + more → times_among after j q ≡ times_among lists j q + cond (j == id) more 0
-    times_more j q more grown = more_by (j == id) _ _ _ _ more grown (ap (λ n. times_among after j q + n) (sym (old_times j q)) ∙ times_changed j q ∙ ap (λ n. times_among lists j q + n) (own_times j q))
-
-    pub times_less : (j q more : ℕ) → times_in old.fds.items q ≡ times_in list.fds.items q + more → times_among lists j q ≡ times_among after j q + cond (j == id) more 0
-    times_less j q more grown = more_by (j == id) _ _ _ _ more grown (ap (λ n. times_among lists j q + n) (sym (own_times j q)) ∙ sym (times_changed j q) ∙ ap (λ n. times_among after j q + n) (old_times j q))
 
     none_by : (b : Bool) (now was then : ℕ) → (b ≡ true → was ≡ then) → now + cond b then 0 ≡ was + cond b 0 0 → now ≡ cond b 0 was
     none_by true now was then all total = omega (arith, all refl, total)

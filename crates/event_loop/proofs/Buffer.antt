@@ -27,10 +27,6 @@ none_cancelled (e ∷ es) = ap (λ r. (event_of_entry e, false) ∷ r) (none_can
 pub ready_all_pending : (buffer : List EpollEvent) (n : ℕ) → ready_of buffer [] 0 n ≡ all_pending (map event_of_entry (take n buffer))
 ready_all_pending buffer n = none_cancelled (take n buffer)
 
--- past the last position nothing is left
-pub ready_none : (buffer : List EpollEvent) (cancelled : List ℕ) (i n : ℕ) → n ≤ i → ready_of buffer cancelled i n ≡ []
-ready_none buffer cancelled i n past = ap (map (λ e. (event_of_entry e, is_cancelled cancelled e))) (drop_all i (take n buffer) (omega (arith, length-take n buffer, past)))
-
 -- one more descriptor is cancelled
 entered_each : (before after : List ℕ) (fd : ℕ) → HasEntered before fd after → (es : List EpollEvent)
     → map (λ e. (event_of_entry e, is_cancelled after e)) es ≡ cancel_on fd (map (λ e. (event_of_entry e, is_cancelled before e)) es)

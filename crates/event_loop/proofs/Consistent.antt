@@ -32,15 +32,6 @@ module _ (owner owners : OwnerMap) (owned raised : ℕ) (watched lists : WatchLi
     distinct = distinct;
   }
 
-  -- a descriptor that nobody owns was put into a list, and is taken out again
-  pub consistent_restored : (fd id : ℕ) (between : WatchLists) → AreDistinct lists → HasOneMore watched id fd between → HasOneMore lists id fd between → AreConsistent owner owned raised lists
-  consistent_restored fd id between distinct put taken = record {
-    are_descriptors = holds.are_descriptors;
-    counted = holds.counted;
-    are_watched = λ j q. omega (arith, put j q, taken j q) ∙ holds.are_watched j q;
-    distinct = distinct;
-  }
-
   module _ (fd id : ℕ) (held : owner_of owner fd ≡ Some id) (is : owners ≡ remove owner fd) where
     there : is_some (get owner fd) ≡ true
     there = owned_is_some (get owner fd) id held

@@ -64,9 +64,6 @@ module _ (owners : OwnerMap) (watched lists : WatchLists) (fd : ℕ) (are : AreW
     pub listed_once : times_watched watched i fd ≡ 1
     listed_once = are i fd ∙ ap (λ o. cond (is_id i o) 1 0) was ∙ grind (arith, nat_tests)
 
-pub watched_same : (owners : OwnerMap) (watched lists : WatchLists) → AreWatched owners watched → HasSameLists watched lists → AreWatched owners lists
-watched_same owners watched lists are has j q = has j q ∙ are j q
-
 -- which descriptors are ones from 0 up
 pub descriptors_pushed : (owners : OwnerMap) (fd : ℕ) (one : Ownership) → AreDescriptors owners → fd < 2 ^ 31 → AreDescriptors (insert owners fd one)
 descriptors_pushed owners fd one are below q some = of_test (eq_by_cmp nat_cmp q fd) refl

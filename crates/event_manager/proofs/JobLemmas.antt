@@ -10,11 +10,6 @@ use Rattle.event_loop.specs.declared.registry.Batch.{Batch}
 use Rattle.event_loop.proofs.ExchangeLemmas.{leads_join}
 use Rattle.std.specs.List.{flat_map}
 
--- a step of the registry is the manager's, whatever it has taken
-pub with_taken : {S P : Type 0} {begins : Begins S} {controls : Controls P} {waits : Waits P} (n : ℕ) {before after : LoopState S P} {step : Step S}
-    → HasStepped begins controls waits before step after → HasStepped begins controls waits (record before { taken = n }) step (record after { taken = n })
-with_taken n did = record { stepped = did.stepped; led = did.led; same_taken = refl; same_capacity = did.same_capacity }
-
 none_reported : (fd : ℕ) (report : List Event) → All (λ e. e.fd ≢ fd) report → is_reported fd report ≡ false
 none_reported fd report all = list_any_none (λ (e : Event). e.fd == fd) report (λ k d within. ne_eqb (get_or report k d).fd fd (all k d within))
 

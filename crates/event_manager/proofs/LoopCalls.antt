@@ -42,11 +42,6 @@ module _ {S P : Type 0} (begins : Begins S) (serves : Serves S) (controls : Cont
   join_made before now next calls replies value result made did =
       one_more_made before now next calls replies (call.Add value) (reply.Added result) (Stepped did.0) made (join_matches ⊥ (Unit {0}) value result did.0 did.1) (step_called begins serves no_job controls waits did.2)
 
-  pub leave_made : (before now next : LoopState S P) (calls : List (Call S)) (replies : List (Reply S)) (id : ℕ) (result : Result S Error) → AreMade before calls replies now → (step : Step S) × IsLeave id result step × HasStepped begins controls waits now step next
-      → AreMade before (calls ++ call.Remove id ∷ []) (replies ++ reply.Removed result ∷ []) next
-  leave_made before now next calls replies id result made did =
-      one_more_made before now next calls replies (call.Remove id) (reply.Removed result) (Stepped did.0) made (leave_matches ⊥ (Unit {0}) id result did.0 did.1) (step_called begins serves no_job controls waits did.2)
-
   pub run_made : (before now next : LoopState S P) (calls : List (Call S)) (replies : List (Reply S)) (ms : ℤ) (result : Result ℕ Error) → AreMade before calls replies now → IsLoopIteration begins serves no_job controls waits now ms result next
       → AreMade before (calls ++ call.Run ms ∷ []) (replies ++ reply.Ran result ∷ []) next
   run_made before now next calls replies ms result made did =

@@ -13,10 +13,11 @@ use event_manager::{
 use fixtures::making::make;
 use fixtures::parts::{Idle, OnTable, on_table};
 use fixtures::waits::wait_until_pending;
-use fixtures::work::{Notes, Work, count_of, new_notes};
+use fixtures::work::{LIMIT, Notes, Work, count_of, new_notes};
 use std::alloc::Global;
 use std::marker::Brand;
 use std::sync::Mutex;
+use std::sync::atomic::{AtomicU64, Ordering};
 use std::sync::ledger::Blank;
 use std::thread;
 use vmm_sys::epoll::Epoll;
@@ -26,11 +27,20 @@ type Loop<N, R> = EventManager<Idle, Work, N, Epoll<R>>;
 
 type Sender<N> = RemoteEndpoint<Idle, Work, N>;
 
-/// What the senders share: where each notes its own numbers, and all their tickets.
+/// How many jobs each thread sends, and when the loop runs.
+#[derive(Clone, Copy)]
+struct Plan {
+    count: u64,
+    /// Whether it runs while they send, in place of once behind all of them.
+    runs_beside: bool,
+}
+
+/// What the senders share: where each notes its own numbers, all their tickets, and how many have ended.
 #[derive(Drop)]
 struct Sending<'a, N: NamedCounter> {
     notes: &'a [Notes],
     tickets: Mutex<Vec<Ticket<N>>>,
+    ended: AtomicU64,
 }
 
 /// Sends a job that notes this after the shown ticket, if any: its ticket.
@@ -72,6 +82,20 @@ fn send_many<N: NamedCounter, R: Host>(
     keep(rt, sending, shown);
 }
 
+/// Sends as the sender of this index, and counts it as ended.
+fn send_as<N: NamedCounter, R: Host>(
+    rt: &R,
+    endpoint: &Sender<N>,
+    sending: &Sending<'_, N>,
+    sender: usize,
+    count: u64,
+) {
+    if let Some(notes) = sending.notes.get(sender) {
+        send_many(rt, endpoint, sending, notes, count);
+    }
+    sending.ended.fetch_add(1, Ordering::SeqCst);
+}
+
 /// Sends by so many threads at once.
 fn send_all<N: NamedCounter + Send + Sync, R: Host>(
     rt: &R,
@@ -80,22 +104,16 @@ fn send_all<N: NamedCounter + Send + Sync, R: Host>(
     sending: &Sending<'_, N>,
     count: u64,
 ) {
-    let senders = sending.notes.len();
-    let send = |sender: usize| {
-        if let Some(notes) = sending.notes.get(sender) {
-            send_many(rt, endpoint, sending, notes, count);
-        }
-    };
-    let sent = thread::map_indices(rt, alloc, senders, &send);
+    let sent = thread::map_indices(
+        rt,
+        alloc,
+        sending.notes.len(),
+        &|sender| { send_as(rt, endpoint, sending, sender, count) },
+    );
     expect_same(rt, &sent.is_ok(), &true);
 }
 
-/// How many jobs are sent.
-fn total_of<N: NamedCounter>(sending: &Sending<'_, N>, count: u64) -> usize {
-    sending.notes.len().saturating_mul(count as usize)
-}
-
-/// Runs once when all jobs wait.
+/// Runs once when so many jobs wait.
 fn run_behind<N: NamedCounter, R: Host>(
     rt: &R,
     manager: &mut Loop<N, R>,
@@ -106,6 +124,41 @@ fn run_behind<N: NamedCounter, R: Host>(
     expect_same(rt, &manager.run(rt), &Ok(1));
 }
 
+/// Runs until so many senders have ended and no job waits.
+fn run_beside<N: NamedCounter, R: Host>(
+    rt: &R,
+    manager: &mut Loop<N, R>,
+    endpoint: &Sender<N>,
+    ended: &AtomicU64,
+    senders: usize,
+) {
+    for _turn in 0..LIMIT {
+        let _ = manager.run_with_timeout(1, rt);
+        if ended.load(Ordering::SeqCst) == senders as u64 && endpoint.pending() == Some(0) {
+            break;
+        }
+    }
+}
+
+/// Runs as planned.
+fn run_planned<N: NamedCounter, R: Host>(
+    rt: &R,
+    manager: &mut Loop<N, R>,
+    endpoint: &Sender<N>,
+    sending: &Sending<'_, N>,
+    plan: Plan,
+) {
+    match plan.runs_beside {
+        true => run_beside(rt, manager, endpoint, &sending.ended, sending.notes.len()),
+        false => run_behind(rt, manager, endpoint, total_of(sending, plan)),
+    }
+}
+
+/// How many jobs are sent.
+fn total_of<N: NamedCounter>(sending: &Sending<'_, N>, plan: Plan) -> usize {
+    sending.notes.len().saturating_mul(plan.count as usize)
+}
+
 /// The senders, and the loop.
 fn send_beside_loop<N: NamedCounter + Send + Sync, R: Host>(
     rt: &R,
@@ -113,14 +166,24 @@ fn send_beside_loop<N: NamedCounter + Send + Sync, R: Host>(
     manager: &mut Loop<N, R>,
     endpoint: &Sender<N>,
     sending: &Sending<'_, N>,
-    count: u64,
+    plan: Plan,
 ) {
     thread::join(
         rt,
-        || send_all(rt, alloc, endpoint, sending, count),
-        || run_behind(rt, manager, endpoint, total_of(sending, count)),
+        || send_all(rt, alloc, endpoint, sending, plan.count),
+        || run_planned(rt, manager, endpoint, sending, plan),
     );
     expect_same(rt, &endpoint.pending(), &Some(0));
+}
+
+/// Expects that these are all the tickets, or that they aren't.
+fn expect_gathered<N: NamedCounter, R: Host>(
+    rt: &R,
+    closed: &mut Closed<N>,
+    tickets: &mut Vec<Ticket<N>>,
+    are_all: bool,
+) {
+    expect_same(rt, &closed.gather(tickets), &are_all);
 }
 
 /// Expects that so many tickets were issued and jobs taken, that these are all, and not so without the last of them.
@@ -132,12 +195,12 @@ fn expect_all<N: NamedCounter, R: Host>(
 ) {
     expect_same(rt, &(closed.issued(), closed.taken()), &(count, count));
     let last = tickets.pop();
-    expect_same(rt, &closed.gather(tickets), &false);
+    expect_gathered(rt, closed, tickets, false);
     expect_same(rt, &(tickets.len() as u64), &count.saturating_sub(1));
     if let Some(last) = last {
         let _ = tickets.push(last);
     }
-    expect_same(rt, &closed.gather(tickets), &true);
+    expect_gathered(rt, closed, tickets, true);
 }
 
 /// Senders of a manager of these parts, and its close.
@@ -145,7 +208,7 @@ fn send_on<N: Naming + Send + Sync, R: Host>(
     rt: &R,
     parts: OnTable<R>,
     notes: &[Notes],
-    count: u64,
+    plan: Plan,
     tickets: Blank,
     taken: Blank,
 )
@@ -158,32 +221,54 @@ fn send_on<N: Naming + Send + Sync, R: Host>(
     let sending: Sending<'_, Named<N, EventFd>> = Sending {
         notes,
         tickets: Mutex::new(Vec::new(alloc)),
+        ended: AtomicU64::new(0),
     };
     let mut manager = expect_ok(
         rt,
         make::<_, _, Named<N, EventFd>, _>(parts, Named::new(counter), ledgers),
     );
     let endpoint = expect_ok(rt, manager.remote_endpoint());
-    send_beside_loop(rt, alloc, &mut manager, &endpoint, &sending, count);
+    send_beside_loop(rt, alloc, &mut manager, &endpoint, &sending, plan);
     let mut closed = manager.close(rt);
-    let total = total_of(&sending, count) as u64;
+    let total = total_of(&sending, plan) as u64;
     expect_all(rt, &mut closed, &mut sending.tickets.lock(rt), total);
 }
 
 /// Expects of as many senders as there are notes that all they send is run, in the order of each.
-fn expect_sent<R: Host>(rt: &R, alloc: Global, notes: &[Notes], count: u64) {
+fn expect_sent<R: Host>(rt: &R, alloc: Global, notes: &[Notes], plan: Plan) {
     let parts = expect_ok(rt, on_table(*rt, alloc, 0));
     let tickets = Blank::new(9223372036854775808);
-    send_on::<Brand, R>(rt, parts, notes, count, tickets, Blank::new(1));
+    send_on::<Brand, R>(rt, parts, notes, plan, tickets, Blank::new(1));
     for noted in notes {
-        expect_same(rt, &count_of(rt, noted), &Some(count as usize));
+        expect_same(rt, &count_of(rt, noted), &Some(plan.count as usize));
     }
 }
 
 #[test]
 fn two_threads_send_fifty_each(rt: HostRuntime) {
+    let plan = Plan {
+        count: 50,
+        runs_beside: false,
+    };
     let alloc = rt.alloc();
-    let (first, second) = (new_notes(alloc), new_notes(alloc));
-    let notes = [expect_ok(&rt, first), expect_ok(&rt, second)];
-    expect_sent(&rt, alloc, &notes, 50);
+    let notes = [
+        expect_ok(&rt, new_notes(alloc)),
+        expect_ok(&rt, new_notes(alloc)),
+    ];
+    expect_sent(&rt, alloc, &notes, plan);
+}
+
+#[test]
+fn three_threads_send_a_thousand_each(rt: HostRuntime) {
+    let plan = Plan {
+        count: 1000,
+        runs_beside: true,
+    };
+    let alloc = rt.alloc();
+    let notes = [
+        expect_ok(&rt, new_notes(alloc)),
+        expect_ok(&rt, new_notes(alloc)),
+        expect_ok(&rt, new_notes(alloc)),
+    ];
+    expect_sent(&rt, alloc, &notes, plan);
 }
