@@ -65,7 +65,8 @@ impl<R: Wait + Clock + Abort, S: MutEventSubscriber + Drop> WithManager for Step
         for step in steps {
             match step {
                 Step::Make(call) => {
-                    let calls = expect_ok(rt, Vec::from_array(alloc, [call]));
+                    let mut calls = Vec::new(alloc);
+                    expect_ok(rt, calls.push(call));
                     expect_ok(rt, drive(manager, calls, &mut replies, rt));
                     // Else a run without a limit may have nobody to end it.
                     let is_refused = matches!(replies.last(), Some(Reply::Added(Err(_))));

@@ -14,19 +14,19 @@ use vmm_sys::eventfd::EventFd;
 use vmm_sys::line::Line;
 
 /// Joins a subscriber that adds a descriptor, and makes these requests at its first event.
-fn join<R: Abort>(rt: &R, alloc: Global, own: Events, later: &[Request]) -> Step<'static, Asking> {
+fn join<'a, R: Abort>(rt: &R, alloc: Global, own: Events, later: &[Request]) -> Step<'a, Asking> {
     let mut asking = expect_ok(rt, Asking::new(alloc, &[Request::Add(own)], later));
     asking.turns = 1;
     Step::Make(Call::Add(asking))
 }
 
 /// Lets the subscriber of this number leave.
-fn leave<S, R: Abort>(rt: &R, alloc: Global, number: u64) -> Step<'static, S> {
+fn leave<'a, S, R: Abort>(rt: &R, alloc: Global, number: u64) -> Step<'a, S> {
     Step::Make(Call::Remove(expect_ok(rt, id_of(alloc, number))))
 }
 
 /// A run of at most so many milliseconds.
-fn run<S>(ms: i32) -> Step<'static, S> {
+fn run<'a, S>(ms: i32) -> Step<'a, S> {
     Step::Make(Call::Run(ms))
 }
 
@@ -39,11 +39,11 @@ fn left_in<S: MutEventSubscriber + Drop, R: Host, const N: usize>(
 ) -> Vec<S> {
     let alloc = parts.alloc;
     let (ran, left) = expect_ok(rt, seen_in(alloc, replies_in(rt, parts, steps)));
-    expect_same(
-        rt,
-        &ran.as_slice(),
-        &counts.map(|count| Ok(count)).as_slice(),
-    );
+    let mut expected = Vec::new(alloc);
+    for count in counts {
+        expect_ok(rt, expected.push(Ok(count)));
+    }
+    expect_same(rt, &ran.as_slice(), &expected.as_slice());
     left
 }
 
