@@ -33,11 +33,9 @@ const DELIVERED: u64 = 3;
 /// What a job notes behind a delivery.
 const RAN: u64 = 100;
 
-/// What is done before the close.
-#[derive(Drop)]
-enum Course<'a> {
-    /// Nothing.
-    Nothing,
+/// What is done over a new table.
+#[derive(Clone, Copy)]
+enum OverTable {
     /// Two jobs are sent, and run.
     TwoJobs,
     /// Sends to a full counter, and after a run.
@@ -48,6 +46,17 @@ enum Course<'a> {
     DroppedEndpoint,
     /// Jobs are sent by two endpoints in turn, and run.
     TwoEndpoints,
+    /// Jobs are sent, and wait.
+    Waiting,
+}
+
+/// What is done before the close.
+#[derive(Drop)]
+enum Course<'a> {
+    /// Nothing.
+    Nothing,
+    /// What is done over a new table.
+    OverTable(OverTable),
     /// A job is sent and run whose write to this counter was read.
     BehindRead(&'a EventFd),
     /// A run with an event of the endpoint, and one without behind a kick that this counter keeps.
@@ -57,8 +66,6 @@ enum Course<'a> {
     OneRun(usize, &'a [u64]),
     /// Kicks end waits of a manager with a subscriber of these events, which has none.
     Kicked(Events),
-    /// Jobs are sent, and wait.
-    Waiting,
 }
 
 /// Sends jobs that note 1, 2, 3 and so on, so many: each must have the ticket of its number.
@@ -148,6 +155,34 @@ fn kick<N: NamedCounter, P: EventPoller, R: Host>(
     expect_noted(rt, notes, &[]);
 }
 
+/// Follows a course over a table.
+fn follow_over_table<N: NamedCounter, P: EventPoller, R: Host>(
+    rt: &R,
+    manager: &mut Loop<N, P, R>,
+    endpoint: &Endpoint<N, R>,
+    notes: &Notes,
+    course: OverTable,
+) {
+    match course {
+        OverTable::TwoJobs => send_and_run(rt, manager, endpoint, notes, 2),
+        OverTable::Thousands => send_and_run(rt, manager, endpoint, notes, 5000),
+        OverTable::TwoEndpoints => send_in_turn(rt, manager, endpoint, notes),
+        OverTable::Waiting => fire_counting(rt, endpoint, notes, 2),
+        OverTable::DroppedEndpoint => {
+            fire_and_drop(rt, manager, notes);
+            expect_run(rt, manager, -1, Ok(1));
+            expect_noted(rt, notes, &[1, 2]);
+        }
+        OverTable::Full => {
+            let refusal = Error::EventFd(Errno::EAGAIN);
+            expect_refusals(rt, endpoint, refusal);
+            expect_same(rt, &endpoint.kick(rt), &Err(refusal));
+            expect_run(rt, manager, -1, Ok(1));
+            expect_fire(rt, endpoint, Ok(1));
+        }
+    }
+}
+
 /// Follows the course.
 fn follow<N: NamedCounter, P: EventPoller, R: Host>(
     rt: &R,
@@ -158,38 +193,8 @@ fn follow<N: NamedCounter, P: EventPoller, R: Host>(
 ) {
     match course {
         Course::Nothing => {}
-        Course::TwoJobs => send_and_run(rt, manager, endpoint, notes, 2),
-        Course::Thousands => send_and_run(rt, manager, endpoint, notes, 5000),
-        Course::TwoEndpoints => send_in_turn(rt, manager, endpoint, notes),
+        Course::OverTable(it) => follow_over_table(rt, manager, endpoint, notes, *it),
         Course::Kicked(silent) => kick(rt, manager, endpoint, notes, *silent),
-        Course::Waiting => fire_counting(rt, endpoint, notes, 2),
-        Course::DroppedEndpoint => {
-            fire_and_drop(rt, manager, notes);
-            expect_run(rt, manager, -1, Ok(1));
-            expect_noted(rt, notes, &[1, 2]);
-        }
-        Course::Full => {
-            let refusal = Error::EventFd(Errno::EAGAIN);
-            expect_refusals(rt, endpoint, refusal);
-            expect_same(rt, &endpoint.kick(rt), &Err(refusal));
-            expect_run(rt, manager, -1, Ok(1));
-            expect_fire(rt, endpoint, Ok(1));
-        }
-        Course::BehindRead(_) | Course::BehindKick(_) | Course::OneRun(_, _) => {
-            follow_reports(rt, manager, endpoint, notes, course)
-        }
-    }
-}
-
-/// Follows a course over a script.
-fn follow_reports<N: NamedCounter, P: EventPoller, R: Host>(
-    rt: &R,
-    manager: &mut Loop<N, P, R>,
-    endpoint: &Endpoint<N, R>,
-    notes: &Notes,
-    course: &Course<'_>,
-) {
-    match course {
         Course::BehindRead(counter) => {
             expect_ok(rt, fire_note(rt, endpoint, notes, RAN));
             expect_same(rt, &counter.read(rt), &Ok(1));
@@ -210,7 +215,6 @@ fn follow_reports<N: NamedCounter, P: EventPoller, R: Host>(
             expect_noted(rt, notes, noted);
             expect_pending(rt, endpoint, 0);
         }
-        _ => {}
     }
 }
 
@@ -221,7 +225,10 @@ fn send_more<N: NamedCounter, R: Host>(
     course: &Course<'_>,
 ) -> Option<Ticket<N>> {
     match course {
-        Course::Waiting => Some(expect_ok(rt, endpoint.fire(Work::Own(0), rt))),
+        Course::OverTable(OverTable::Waiting) => Some(expect_ok(
+            rt,
+            endpoint.fire(Work::Own(0), rt),
+        )),
         _ => None,
     }
 }
@@ -328,41 +335,41 @@ fn expect_course<R: Host + Send>(
     rt: R,
     alloc: Global,
     value: u64,
-    course: &Course<'_>,
+    course: OverTable,
     counts: (u64, u64),
 ) {
     let parts = expect_ok(&rt, on_table(rt, alloc, value));
-    expect_over(&rt, parts, course, counts);
+    expect_over(&rt, parts, &Course::OverTable(course), counts);
 }
 
 #[test]
 fn two_fired_jobs_run_in_order(rt: HostRuntime) {
-    expect_course(rt, rt.alloc(), 0, &Course::TwoJobs, (2, 2));
+    expect_course(rt, rt.alloc(), 0, OverTable::TwoJobs, (2, 2));
 }
 
 #[test]
 fn five_thousand_jobs_wait_and_are_run(rt: HostRuntime) {
-    expect_course(rt, rt.alloc(), 0, &Course::Thousands, (5000, 5000));
+    expect_course(rt, rt.alloc(), 0, OverTable::Thousands, (5000, 5000));
 }
 
 #[test]
 fn jobs_outlive_their_endpoint(rt: HostRuntime) {
-    expect_course(rt, rt.alloc(), 0, &Course::DroppedEndpoint, (2, 2));
+    expect_course(rt, rt.alloc(), 0, OverTable::DroppedEndpoint, (2, 2));
 }
 
 #[test]
 fn an_endpoint_is_of_its_manager(rt: HostRuntime) {
-    expect_course(rt, rt.alloc(), 0, &Course::TwoEndpoints, (3, 3));
+    expect_course(rt, rt.alloc(), 0, OverTable::TwoEndpoints, (3, 3));
 }
 
 #[test]
 fn a_full_counter_refuses_the_send(rt: HostRuntime) {
-    expect_course(rt, rt.alloc(), FULL, &Course::Full, (1, 0));
+    expect_course(rt, rt.alloc(), FULL, OverTable::Full, (1, 0));
 }
 
 #[test]
 fn a_close_drops_the_jobs_that_wait(rt: HostRuntime) {
-    expect_course(rt, rt.alloc(), 0, &Course::Waiting, (3, 0));
+    expect_course(rt, rt.alloc(), 0, OverTable::Waiting, (3, 0));
 }
 
 #[test]
