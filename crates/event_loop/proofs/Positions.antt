@@ -8,17 +8,20 @@ use Rattle.std.proofs.lemmas.List.Folds.{list_any-append}
 use Rattle.std.proofs.lemmas.List.Sorted.{list_any-IsPermutation}
 use Rattle.std.specs.FinMap.{get}
 use Rattle.dispatch_tables.specs.Members.{with_member}
-use Rattle.event_loop.specs.Prelude.{Event, Registrations, Owns, owner_of, class_in, IsDispatchOrder, PollerCall, Wait, Exchanges, ExchangesFit, removes, Serves, HasId, Outcome, Nobody, To, Position, exchanges_of, is_removed, still_pending, events_of, IsOutcome, AreDispatched, calls_of_outcome, calls_of_positions, is_reported, AreMade, Controls, Waits, Leads}
+use Rattle.event_loop.specs.Prelude.{Event, Registrations, Owns, owner_of, class_in, IsDispatchOrder, PollerCall, Wait, Exchanges, ExchangesFit, removes, Serves, HasId, Outcome, Nobody, To, Position, exchanges_of, is_removed, still_pending, events_of, with_pending, IsOutcome, AreDispatched, calls_of_outcome, calls_of_positions, is_reported, AreMade, Controls, Waits, Leads}
 use Rattle.dispatch_tables.specs.Owners.{ownership_of}
 use Rattle.dispatch_tables.specs.declared.owners.Owner.{Owner}
 use Rattle.dispatch_tables.proofs.DispatchOrders.{nil_cons, head_is, tail_is}
 use Rattle.dispatch_tables.proofs.DispatchOrders.{ordered_permutation}
 use Rattle.event_loop.specs.RegistrationState.{RegistrationState, not_cancelled, registrations_of, cancel_removed, all_pending, HasWaited}
 use Rattle.event_loop.proofs.DispatchSoFar.{AreDispatchedSoFar, so_far_none, so_far_more, so_far_all}
-use Rattle.event_loop.specs.Subscribers.{registry_of, idle, loop_state, HasOutcome, TakesPosition, IsDispatched, IsBatch}
+use Rattle.event_loop.specs.Subscribers.{registry_of, loop_state, TakesPosition, IsDispatched, IsBatch}
 use Rattle.event_loop.specs.declared.registry.Registry.{Registry}
 use Rattle.event_loop.proofs.ExchangeLemmas.{or_false, cancel_removed_marks, marked, leads_join, exchanges_keep_endpoint}
 use Rattle.dispatch_tables.proofs.Owning.{owner_id}
+
+true_false : (b : Bool) → b ≡ true → b ≡ false → ⊥
+true_false b e f = cc
 
 module _ {S P : Type 0} {controls : Controls P} {waits : Waits P} (serves : Serves S) where
   pub nobody_position : (before after : Registry S P) (event : Event) (cancelled is_endpoint : Bool) (rest : List (Event × Bool))
@@ -33,7 +36,10 @@ module _ {S P : Type 0} {controls : Controls P} {waits : Waits P} (serves : Serv
     later = rest;
     outcome = Nobody;
     was = was;
-    had = (why, λ k. record { values = (subs k).by_id; next = (subs k).next; registrations = registrations_of (registrations k) });
+    had = (
+      (λ i value is. ⊎_elim (λ e. true_false _ e is.1) (λ none. none i value (is.0, is.2)) why),
+      λ k. record { values = (subs k).by_id; next = (subs k).next; registrations = registrations_of (registrations k) },
+    );
     ready = ap (λ (b : RegistrationState). b.ready) registrations;
     led = led;
     same_capacity = ap (λ (b : RegistrationState). b.capacity) registrations;
@@ -56,9 +62,8 @@ module _ {S P : Type 0} {controls : Controls P} {waits : Waits P} (serves : Serv
     was = was;
     had = (
       value,
-      refl,
-      subst (λ (b : RegistrationState). owner_of b.owners event.fd ≡ Some id) registrations owns,
-      has,
+      registrations_of after.ops.epoll.registrations,
+      (subst (λ (b : RegistrationState). owner_of b.owners event.fd ≡ Some id) registrations owns, refl, has),
       served,
       subst (λ (b : RegistrationState). ExchangesFit id (registrations_of b) exchanges calls (registrations_of after.ops.epoll.registrations)) registrations made.fits,
       λ k. record { values = (members k).by_id; next = (members k).next; registrations = registrations_of after.ops.epoll.registrations },
@@ -133,19 +138,7 @@ no_events : {V : Type 0} (positions : List (Position V)) (later : List Event) �
 no_events positions [] e = refl
 no_events positions (x ∷ later) e = absurd (nil_cons _ _ (sym e))
 
-true_false : (b : Bool) → b ≡ true → b ≡ false → ⊥
-true_false b e f = cc
-
 module _ {S P : Type 0} (serves : Serves S) where
-  is_outcome : (before after : Registry S P) (positions : List (Position S)) (event : Event) (es : List Event) (outcome : Outcome S)
-      → HasOutcome serves before event (is_removed event.fd positions) (cancelled_by positions es) outcome after → IsOutcome serves (registry_of before) positions event es outcome (registry_of after)
-  is_outcome before after positions event es Nobody h = (
-    (λ i value f. ⊎_elim (λ e. true_false _ e f.1) (λ none. none i value (f.0, f.2)) h.0),
-    h.1 ∙ ap (λ l. record (registry_of before) { registrations = record (registrations_of before.ops.epoll.registrations) { pending = l } }) (not_cancelled_marks positions es),
-  )
-  is_outcome before after positions event es (To i exchanges calls held) h =
-      (h.0, registrations_of after.ops.epoll.registrations, (h.2, h.1, h.3), h.4, subst (λ l. ExchangesFit i (record (registrations_of before.ops.epoll.registrations) { pending = l }) exchanges calls (registrations_of after.ops.epoll.registrations)) (not_cancelled_marks positions es) h.5, h.6)
-
   module _ (controls : Controls P) (waits : Waits P) where
     -- the batch, as far as it was dispatched
     pub record DispatchedSoFar (start now : Registry S P) (report : List Event) (endpoint_ready : Bool) : Type 0 where
@@ -172,13 +165,15 @@ module _ {S P : Type 0} (serves : Serves S) where
         let first = head_is _ _ _ _ both in
         let rest = tail_is _ _ _ _ both in
         let position : Position S = record { event = e; outcome = step.outcome } in
-        let had = subst (λ r. HasOutcome serves now e (is_removed e.fd positions) r step.outcome next) (sym rest) (subst (λ p. HasOutcome serves now p.0 p.1 step.later step.outcome next) (sym first) step.had) in
+        let here = subst (λ p. IsOutcome serves (with_pending (not_cancelled step.later) (registry_of now)) p.1 p.0 step.outcome (registry_of next)) (sym first) step.had in
+        let left = ap not_cancelled (sym rest) ∙ not_cancelled_marks positions es in
+        let had = subst (λ l. IsOutcome serves (with_pending l (registry_of now)) (is_removed e.fd positions) e step.outcome (registry_of next)) left here in
         record {
           positions = positions ++ position ∷ [];
           later = es;
           events = events_more positions position es ∙ events;
           ready = step.ready ∙ ap (cancel_removed (exchanges_of step.outcome)) (sym rest) ∙ cancelled_more positions position es;
-          dispatched = so_far_more serves (registry_of start) (registry_of now) (registry_of next) positions e es step.outcome dispatched (is_outcome now next positions e es step.outcome had);
+          dispatched = so_far_more serves (registry_of start) (registry_of now) (registry_of next) positions e es step.outcome dispatched had;
           led = subst (λ xs. Leads controls waits start.ops.epoll.poller xs next.ops.epoll.poller) (sym (calls_more positions position)) (leads_join controls waits start.ops.epoll.poller now.ops.epoll.poller next.ops.epoll.poller (calls_of_positions positions) (calls_of_outcome step.outcome) led step.led);
           same_capacity = step.same_capacity ∙ same;
           same_endpoint = step.same_endpoint ∙ same_endpoint;
@@ -199,7 +194,7 @@ module _ {S P : Type 0} (serves : Serves S) where
         record {
           positions = so_far.positions;
           events = whole;
-          dispatched = subst (λ l. AreDispatched serves (registry_of start) [] so_far.positions (record (registry_of now) { registrations = record (registrations_of now.ops.epoll.registrations) { pending = not_cancelled l } })) (sym none) all;
+          dispatched = subst (λ l. AreDispatched serves (registry_of start) [] so_far.positions (with_pending (not_cancelled l) (registry_of now))) (sym none) all;
           led = so_far.led;
           same_capacity = so_far.same_capacity;
           over = none;
@@ -223,13 +218,9 @@ waited_all_pending s t (Ok report) result n h is =
 waited_all_pending s t (Err e) result n h is = absurd (ok_err result n e is h.0)
 
 module _ {V : Type 0} (serves : Serves V) where
-  from_any_pending_one : (b : model.Registry V) (x : List Event) (e : Event) (es : List Event) (outcome : Outcome V) (a : model.Registry V) → IsOutcome serves (record b { registrations = record b.registrations { pending = x } }) [] e es outcome a → IsOutcome serves b [] e es outcome a
-  from_any_pending_one b x e es Nobody a h = h
-  from_any_pending_one b x e es (To i exchanges calls held) a h = h
-
-  from_any_pending : (b : model.Registry V) (x : List Event) (positions : List (Position V)) (a : model.Registry V) → AreDispatched serves (record b { registrations = record b.registrations { pending = x } }) [] positions a → AreDispatched serves b [] positions a
+  from_any_pending : (b : model.Registry V) (x : List Event) (positions : List (Position V)) (a : model.Registry V) → AreDispatched serves (with_pending x b) [] positions a → AreDispatched serves b [] positions a
   from_any_pending b x [] a h = h
-  from_any_pending b x (position ∷ positions) a h = (h.0, from_any_pending_one b x position.event (events_of positions) position.outcome h.0 h.1, h.2)
+  from_any_pending b x (position ∷ positions) a h = h
 
 module _ {S P : Type 0} (serves : Serves S) (controls : Controls P) (waits : Waits P) where
   pub batch_ok : (start after : Registry S P) (registrations : RegistrationState) (poller : P) (ms : ℤ) (answer : Result (List Event) Errno) (result : Result ℕ Errno) (n : ℕ) (endpoint_ready : Bool)
@@ -241,8 +232,8 @@ module _ {S P : Type 0} (serves : Serves S) (controls : Controls P) (waits : Wai
       let came = ap (λ (b : RegistrationState). b.ready) after_wait in
       let ready = ap (map (λ (p : Event × Bool). p.0)) came ∙ fst_all_pending ordered in
       let from = subst (λ (b : RegistrationState). AreDispatched serves (record { values = start.subscribers.by_id; next = start.subscribers.next; registrations = registrations_of b }) [] dispatched.positions (registry_of after)) after_wait dispatched.dispatched in
-      let onto = subst (λ l. AreDispatched serves (idle (registry_of start)) [] dispatched.positions (record (registry_of after) { registrations = record (registrations_of after.ops.epoll.registrations) { pending = not_cancelled l } })) dispatched.over
-      (from_any_pending serves (idle (registry_of start)) (not_cancelled (all_pending ordered)) dispatched.positions (registry_of after) from) in
+      let onto = subst (λ l. AreDispatched serves (with_pending [] (registry_of start)) [] dispatched.positions (with_pending (not_cancelled l) (registry_of after))) dispatched.over
+      (from_any_pending serves (with_pending [] (registry_of start)) (not_cancelled (all_pending ordered)) dispatched.positions (registry_of after) from) in
       record {
         waited = Ok report;
         positions = dispatched.positions;

@@ -34,26 +34,29 @@ still_pending earlier later = filter (λ e. not (is_removed e.fd earlier)) later
 abbrev pub events_of : {V : Type 0} → List (Position V) → List Event
 events_of positions = map (λ position. position.event) positions
 
--- the event is for id i, which holds this value: i owns its descriptor now, and no earlier exchange removed it
-abbrev pub IsFor : {V : Type 0} → Registry V → List (Position V) → Event → ℕ → V → Type 0
-IsFor registry earlier event i value = Owns i registry.registrations event.fd × (is_removed event.fd earlier ≡ false) × HasId registry i value
+-- the registry in which these events are pending
+abbrev pub with_pending : {V : Type 0} → List Event → Registry V → Registry V
+with_pending events registry = record registry { registrations = record registry.registrations { pending = events } }
+
+-- the event, whose descriptor was removed or not since the wait, is for id i, which holds this value: i owns its descriptor now
+abbrev pub IsFor : {V : Type 0} → Registry V → Bool → Event → ℕ → V → Type 0
+IsFor registry removed event i value = Owns i registry.registrations event.fd × (removed ≡ false) × HasId registry i value
 
 module _ {V : Type 0} (serves : Serves V) where
-  -- the outcome of one position, between the earlier ones and the later events
-  abbrev pub IsOutcome : Registry V → List (Position V) → Event → List Event → Outcome V → Registry V → Type 0
-  IsOutcome before earlier event later Nobody after =
-      ((i : ℕ) (value : V) → ¬ IsFor before earlier event i value)
-      × (after ≡ record before { registrations = record before.registrations { pending = still_pending earlier later } })
-  IsOutcome before earlier event later (To i exchanges calls held) after =
-      (value : V) × (registrations : Registrations) × IsFor before earlier event i value × serves value event exchanges held
-      × ExchangesFit i (record before.registrations { pending = still_pending earlier later }) exchanges calls registrations
+  -- what became of an event whose descriptor was removed or not since the wait
+  abbrev pub IsOutcome : Registry V → Bool → Event → Outcome V → Registry V → Type 0
+  IsOutcome before removed event Nobody after = ((i : ℕ) (value : V) → ¬ IsFor before removed event i value) × (after ≡ before)
+  IsOutcome before removed event (To i exchanges calls held) after =
+      (value : V) × (registrations : Registrations) × IsFor before removed event i value × serves value event exchanges held
+      × ExchangesFit i before.registrations exchanges calls registrations
       × (after ≡ record before { values = finite.insert before.values i held; registrations = registrations })
 
   -- the positions, in the order in which they are dispatched, each after the earlier ones; at the end nothing is pending
   abbrev pub AreDispatched : Registry V → List (Position V) → List (Position V) → Registry V → Type 0
-  AreDispatched before earlier [] after = after ≡ record before { registrations = record before.registrations { pending = [] } }
+  AreDispatched before earlier [] after = after ≡ with_pending [] before
   AreDispatched before earlier (position ∷ later) after =
-      (mid : Registry V) × IsOutcome before earlier position.event (events_of later) position.outcome mid × AreDispatched mid (earlier ++ position ∷ []) later after
+      (mid : Registry V) × IsOutcome (with_pending (still_pending earlier (events_of later)) before) (is_removed position.event.fd earlier) position.event position.outcome mid
+      × AreDispatched mid (earlier ++ position ∷ []) later after
 
   -- a dispatch of the report: an outcome for each of its events, which come by the classes that they have before it
   abbrev pub IsDispatch : Registry V → List Event → List (Position V) → Registry V → Type 0

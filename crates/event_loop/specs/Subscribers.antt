@@ -1,14 +1,11 @@
 -- A registry of the program, seen by the definitions, and one position of its ready list.
-use Rattle.std.specs.Prelude.{◌≡◌, ℕ, ℤ, ◌==◌, List, Bool, true, false, [], ◌∷◌, ◌⊎◌, Result, Ok, Err}
-use Rattle.std.specs.FinMap as map
+use Rattle.std.specs.Prelude.{◌≡◌, ℕ, ℤ, ◌==◌, List, Bool, false, [], ◌∷◌, ◌⊎◌, Result, Ok, Err}
 use Rattle.dispatch_tables.specs.Event.{Event}
 use Rattle.event_loop.specs.PollerCall.{Wait, Controls, Waits, Leads}
-use Rattle.event_loop.specs.Exchange.{ExchangesFit, Serves}
-use Rattle.event_loop.specs.Registrations.{Owns}
-use Rattle.event_loop.specs.Registry.{HasId}
+use Rattle.event_loop.specs.Exchange.{Serves}
 use Rattle.event_loop.specs.Registry as model
 use Rattle.event_loop.specs.RegistrationState.{registrations_of, not_cancelled, cancel_removed}
-use Rattle.event_loop.specs.Dispatch.{Outcome, Nobody, To, Position, exchanges_of, events_of, AreDispatched}
+use Rattle.event_loop.specs.Dispatch.{Outcome, Position, exchanges_of, events_of, with_pending, IsOutcome, AreDispatched}
 use Rattle.vmm_sys.specs.declared.errno.Errno.{Errno}
 use Rattle.event_loop.specs.Iteration.{calls_of_outcome, calls_of_positions, answer_of, is_reported}
 use Rattle.event_loop.specs.LoopState.{LoopState, IsDispatchedAfter, new_loop}
@@ -18,10 +15,6 @@ use Rattle.vmm_sys.specs.declared.entries.ControlOperation.TheVariants as operat
 use Rattle.event_loop.specs.declared.registry.Batch.{Batch}
 use Rattle.event_loop.specs.declared.registry.Registry.{Registry}
 
--- with nothing pending
-abbrev pub idle : {S : Type 0} → model.Registry S → model.Registry S
-idle registry = record registry { registrations = record registry.registrations { pending = [] } }
-
 module _ {S P : Type 0} where
   -- in the middle of a batch: the pending events are the entries of the ready list that aren't cancelled
   abbrev pub registry_of : Registry S P → model.Registry S
@@ -29,19 +22,9 @@ module _ {S P : Type 0} where
 
   -- between two batches nothing is pending: the next wait writes over the ready list; a registry alone takes no jobs
   abbrev pub loop_state : Registry S P → LoopState S P
-  loop_state r = record { registry = idle (registry_of r); taken = 0; poller = r.ops.epoll.poller; capacity = r.ops.epoll.registrations.capacity }
+  loop_state r = record { registry = with_pending [] (registry_of r); taken = 0; poller = r.ops.epoll.poller; capacity = r.ops.epoll.registrations.capacity }
 
   module _ (serves : Serves S) where
-    -- the position had this outcome; `cancelled` says whether it was cancelled before, `later` is what comes after it
-    abbrev pub HasOutcome : Registry S P → Event → Bool → List (Event × Bool) → Outcome S → Registry S P → Type 0
-    HasOutcome before event cancelled later Nobody after =
-        ((cancelled ≡ true) ⊎ ((i : ℕ) (value : S) → ¬ (Owns i (registrations_of before.ops.epoll.registrations) event.fd × HasId (registry_of before) i value)))
-        × (registry_of after ≡ record (registry_of before) { registrations = record (registrations_of before.ops.epoll.registrations) { pending = not_cancelled later } })
-    HasOutcome before event cancelled later (To i exchanges calls held) after =
-        (value : S) × (cancelled ≡ false) × Owns i (registrations_of before.ops.epoll.registrations) event.fd × HasId (registry_of before) i value × serves value event exchanges held
-        × ExchangesFit i (record (registrations_of before.ops.epoll.registrations) { pending = not_cancelled later }) exchanges calls (registrations_of after.ops.epoll.registrations)
-        × (registry_of after ≡ record (registry_of before) { values = map.insert (registry_of before).values i held; registrations = registrations_of after.ops.epoll.registrations })
-
     -- one position was taken; `is_endpoint` says whether its event was on the endpoint's descriptor
     pub record TakesPosition (controls : Controls P) (waits : Waits P) (before : Registry S P) (is_endpoint : Bool) (after : Registry S P) : Type 0 where
       pub event : Event
@@ -49,7 +32,7 @@ module _ {S P : Type 0} where
       pub later : List (Event × Bool)
       pub outcome : Outcome S
       pub was : before.ops.epoll.registrations.ready ≡ (event, cancelled) ∷ later
-      pub had : HasOutcome before event cancelled later outcome after
+      pub had : IsOutcome serves (with_pending (not_cancelled later) (registry_of before)) cancelled event outcome (registry_of after)
       pub ready : after.ops.epoll.registrations.ready ≡ cancel_removed (exchanges_of outcome) later
       pub led : Leads controls waits before.ops.epoll.poller (calls_of_outcome outcome) after.ops.epoll.poller
       pub same_capacity : after.ops.epoll.registrations.capacity ≡ before.ops.epoll.registrations.capacity

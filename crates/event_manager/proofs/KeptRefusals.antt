@@ -1,12 +1,12 @@
 -- Of a loop without jobs whose subscribers keep their refusals: where none is kept at the end, memory was never lacking.
-use Rattle.std.proofs.Common.{◌≡◌, ℕ, List, [], ◌∷◌, ◌++◌, refl, sym, ap, subst, ◌∙◌, cond, map, inl, inr, arith, Option, Some, Ok, Err, Result, nat_cmp, is_eq, Equal}
+use Rattle.std.proofs.Common.{Bool, ◌≡◌, ℕ, List, [], ◌∷◌, ◌++◌, refl, sym, ap, subst, ◌∙◌, cond, map, inl, inr, arith, Option, Some, Ok, Err, Result, nat_cmp, is_eq, Equal}
 use Rattle.std.specs.List.{AllZip}
 use Rattle.std.specs.FinMap.{FinMap, get, insert, get-insert}
 use Rattle.std.specs.Cmp.{nat_cmp_total, nat_cmp_is}
 use Rattle.std.proofs.lemmas.Bool.Decides.{eqb_tells}
 use Rattle.std.proofs.lemmas.List.Elements.{Contains-append_cases}
 use Rattle.vmm_sys.specs.declared.errno.Errno.{Errno}
-use Rattle.event_loop.specs.Prelude.{Event, Exchanges, Answer, answers_of, Begins, Serves, Registry, Joined, NotJoined, Left, Replaced, Requested, Refused, HasId, AreBelow, Position, Outcome, Nobody, To, IsOutcome, AreDispatched, events_of, exchanges_of, ManagerState, JobRun, IsIteration, no_job}
+use Rattle.event_loop.specs.Prelude.{Event, Exchanges, Answer, answers_of, Begins, Serves, Registry, Joined, NotJoined, Left, Replaced, Requested, Refused, HasId, AreBelow, Position, Outcome, Nobody, To, with_pending, is_removed, still_pending, IsOutcome, AreDispatched, events_of, exchanges_of, ManagerState, JobRun, IsIteration, no_job}
 use Rattle.event_manager.specs.Trace.{Effect, Stepped, Iterated, Entry, Matches, HasEffect, IsTrace}
 use Rattle.event_manager.specs.Determinism.{HaveMemory, answers_of_positions, answers_of_jobs, answers_of_effect, answers_in}
 use Rattle.event_loop.specs.declared.error.Error.TheVariants.{OutOfMemory}
@@ -68,9 +68,9 @@ module _ {V : Type 0} (begins : Begins V) (serves : Serves V) (ids : ℕ → Typ
   abbrev pub AreWithin : Registry V → Type 0
   AreWithin registry = AllHeld (λ i v. ids i) registry
 
-  outcome_within : (before : Registry V) (earlier : List (Position V)) (event : Event) (later : List Event) (outcome : Outcome V) (mid : Registry V) → IsOutcome serves before earlier event later outcome mid → AreWithin before → AreWithin mid
-  outcome_within before earlier event later Nobody mid (nobody, is) within i v has = within i v (ap (λ g. get g.values i) (sym is) ∙ has)
-  outcome_within before earlier event later (To id exchanges calls held) mid (value, registrations, for, serves_so, fits, is) within i v has =
+  outcome_within : (before : Registry V) (removed : Bool) (event : Event) (outcome : Outcome V) (mid : Registry V) → IsOutcome serves before removed event outcome mid → AreWithin before → AreWithin mid
+  outcome_within before removed event Nobody mid (nobody, is) within i v has = within i v (ap (λ g. get g.values i) (sym is) ∙ has)
+  outcome_within before removed event (To id exchanges calls held) mid (value, registrations, for, serves_so, fits, is) within i v has =
       elim (from_insert i id before.values v held (ap (λ g. get g.values i) (sym is) ∙ has)) [
         | inl same ↦ subst ids (sym same) (within id value for.2)
         | inr other ↦ within i v other
@@ -79,7 +79,7 @@ module _ {V : Type 0} (begins : Begins V) (serves : Serves V) (ids : ℕ → Typ
   dispatch_within : (before : Registry V) (earlier positions : List (Position V)) (after : Registry V) → AreDispatched serves before earlier positions after → AreWithin before → AreWithin after
   dispatch_within before earlier [] after is within = λ i v has. within i v (ap (λ g. get g.values i) (sym is) ∙ has)
   dispatch_within before earlier (position ∷ later) after (mid, outcome, rest) within =
-      dispatch_within mid (earlier ++ position ∷ []) later after rest (outcome_within before earlier position.event (events_of later) position.outcome mid outcome within)
+      dispatch_within mid (earlier ++ position ∷ []) later after rest (outcome_within (with_pending (still_pending earlier (events_of later)) before) (is_removed position.event.fd earlier) position.event position.outcome mid outcome within)
 
   wait_within : (before : ManagerState V) (waited : Result (List Event) Errno) (positions : List (Position V)) (jobs : List (JobRun V ⊥ (Unit {0}))) (after : ManagerState V) → IsIteration begins serves no_job before waited positions jobs after → AreWithin before.registry → AreWithin after.registry
   wait_within before (Err errno) positions jobs after (no_positions, no_jobs, is) within = subst (λ (s : ManagerState V). AreWithin s.registry) (sym is) within
@@ -112,10 +112,10 @@ module _ {V : Type 0} (begins : Begins V) (serves : Serves V) (ids : ℕ → Typ
     abbrev pub AllAgree : Registry V → Type 0
     AllAgree registry = AllHeld (λ i v. Agrees v) registry
 
-    outcome_agrees : (before : Registry V) (earlier : List (Position V)) (event : Event) (later : List Event) (outcome : Outcome V) (mid : Registry V) → IsOutcome serves before earlier event later outcome mid → AllAgree mid
+    outcome_agrees : (before : Registry V) (removed : Bool) (event : Event) (outcome : Outcome V) (mid : Registry V) → IsOutcome serves before removed event outcome mid → AllAgree mid
         → AllAgree before × HaveMemory (answers_of (exchanges_of outcome))
-    outcome_agrees before earlier event later Nobody mid (nobody, is) all = (same_values (λ i v. Agrees v) before mid (ap (λ g. g.values) is) all, none_lacking)
-    outcome_agrees before earlier event later (To id exchanges calls held) mid (value, registrations, for, serves_so, fits, is) all =
+    outcome_agrees before removed event Nobody mid (nobody, is) all = (same_values (λ i v. Agrees v) before mid (ap (λ g. g.values) is) all, none_lacking)
+    outcome_agrees before removed event (To id exchanges calls held) mid (value, registrations, for, serves_so, fits, is) all =
         let here = served value event exchanges held serves_so (all id held (ap (λ g. get g.values id) is ∙ insert_same_value id before.values held)) in (
           λ i v has. elim (eqb_tells i id) [
             | inl same ↦ subst Agrees (sym (same_held before i id v value same.1 has for.2)) here.0
@@ -128,7 +128,7 @@ module _ {V : Type 0} (begins : Begins V) (serves : Serves V) (ids : ℕ → Typ
     dispatch_agrees before earlier [] after is all = (same_values (λ i v. Agrees v) before after (ap (λ g. g.values) is) all, none_lacking)
     dispatch_agrees before earlier (position ∷ later) after (mid, outcome, rest) all =
         let behind = dispatch_agrees mid (earlier ++ position ∷ []) later after rest all in
-        let here = outcome_agrees before earlier position.event (events_of later) position.outcome mid outcome behind.0 in
+        let here = outcome_agrees (with_pending (still_pending earlier (events_of later)) before) (is_removed position.event.fd earlier) position.event position.outcome mid outcome behind.0 in
         (here.0, both_have (answers_of (exchanges_of position.outcome)) (answers_of_positions later) here.1 behind.1)
 
     wait_agrees : (before : ManagerState V) (waited : Result (List Event) Errno) (positions : List (Position V)) (jobs : List (JobRun V ⊥ (Unit {0}))) (after : ManagerState V) → IsIteration begins serves no_job before waited positions jobs after → AllAgree after.registry

@@ -2,8 +2,8 @@
 use Rattle.std.proofs.Common.{◌≡◌, ◌≢◌, ℕ, Bool, true, false, ◌||◌, ◌==◌, refl, sym, ◌∙◌, ap, subst, Some, inl, inr, nat_cmp, List, [], ◌∷◌, ◌++◌, cond, filter, All, IfSome, true≢false, if◌then◌else◌, eq-eqb, eqb-true}
 use Rattle.std.specs.FinMap.{FinMap, get}
 use Rattle.std.proofs.lemmas.Bool.Decides.{eqb_tells}
-use Rattle.event_loop.specs.Prelude.{Event, owner_of, PollerCall, Exchanges, removes, Serves, Registry, Outcome, Nobody, To, Position, exchanges_of, is_removed, still_pending, events_of, IsFor, IsOutcome, AreDispatched}
-use Rattle.event_manager.specs.Projection.{owned_by, only_values, projected_registrations, projected_registry, is_to, receiver_of, asks_to_add, adds}
+use Rattle.event_loop.specs.Prelude.{Event, owner_of, PollerCall, Exchanges, removes, Serves, Registry, Outcome, Nobody, To, Position, exchanges_of, is_id, is_removed, still_pending, events_of, with_pending, IsFor, IsOutcome, AreDispatched}
+use Rattle.event_manager.specs.Projection.{owned_by, only_values, projected_registrations, projected_registry, receiver_of, asks_to_add, adds}
 use Rattle.std.proofs.lemmas.List.Elements.{All-nil, All-cons}
 use Rattle.dispatch_tables.proofs.DispatchOrders.{nil_cons, head_is, tail_is}
 use Rattle.event_manager.proofs.FiniteMaps.{only_outcome-insert_own, only_outcome-insert_other}
@@ -15,7 +15,7 @@ use Rattle.std.specs.List.{flat_map}
 
 -- the exchanges of id i in an outcome; in positions
 abbrev pub outcome_exchanges : {V : Type 0} → ℕ → Outcome V → Exchanges
-outcome_exchanges i outcome = if is_to i outcome then exchanges_of outcome else []
+outcome_exchanges i outcome = if is_id i (receiver_of outcome) then exchanges_of outcome else []
 
 abbrev pub positions_exchanges : {V : Type 0} → ℕ → List (Position V) → Exchanges
 positions_exchanges i positions = flat_map (λ position. outcome_exchanges i position.outcome) positions
@@ -34,7 +34,7 @@ IsOnlyFor i position = IfSome (receiver_of position.outcome) (λ j. j ≡ i)
 
 -- what id i got, it gets, in the same order; what other ids got becomes nobody's
 pub record AreProjected {V : Type 0} (i : ℕ) (positions projected : List (Position V)) : Type 0 where
-  pub same : filter (λ position. is_to i position.outcome) projected ≡ filter (λ position. is_to i position.outcome) positions
+  pub same : filter (λ position. is_id i (receiver_of position.outcome)) projected ≡ filter (λ position. is_id i (receiver_of position.outcome)) positions
   pub only : All (IsOnlyFor i) projected
 
 -- the positions and those of the projection: those on descriptors of i's are in both, in one
@@ -54,9 +54,9 @@ module _ {V : Type 0} (serves : Serves V) (i : ℕ) (mine : ℕ → Bool) (n : �
   IsClaimed exchanges = (fd : ℕ) → asks_to_add fd exchanges ≡ true → mine fd ≡ true
 
   -- one position that both have
-  record Same (before : Registry V) (pending : List Event) (removed : List (Position V)) (e : Event) (later : List Event) (outcome shown : Outcome V) (after : Registry V) : Type 0 where
+  record Same (before : Registry V) (pending : List Event) (removed : Bool) (e : Event) (outcome shown : Outcome V) (after : Registry V) : Type 0 where
     left : List Event
-    fits : IsOutcome serves (projected_with i n pending before) removed e later shown (projected_with i n left after)
+    fits : IsOutcome serves (projected_with i n pending before) removed e shown (projected_with i n left after)
     still : IsMine i mine after.registrations.owners
     next : after.next ≡ before.next
     alike : (fd : ℕ) → mine fd ≡ true → removes fd (exchanges_of shown) ≡ removes fd (exchanges_of outcome)
@@ -64,15 +64,17 @@ module _ {V : Type 0} (serves : Serves V) (i : ℕ) (mine : ℕ → Bool) (n : �
   abbrev Agree : List (Position V) → List (Position V) → Type 0
   Agree earlier removed = (fd : ℕ) → mine fd ≡ true → is_removed fd removed ≡ is_removed fd earlier
 
-  own_to : (before : Registry V) (pending : List Event) (earlier removed : List (Position V)) (e : Event) (real later : List Event) (exchanges : Exchanges) (calls : List PollerCall) (held : V) (after : Registry V) → mine e.fd ≡ true → IsMine i mine before.registrations.owners → IsClaimed exchanges → Agree earlier removed → IsOutcome serves before earlier e real (To i exchanges calls held) after → Same before pending removed e later (To i exchanges calls held) (To i exchanges calls held) after
-  own_to before pending earlier removed e real later exchanges calls held after here m claimed agree (value, registrations, for, serving, fits, is) =
-      let t = own_exchanges i mine (still_pending removed later) (record before.registrations { pending = still_pending earlier real }) exchanges calls registrations m claimed fits in
+  own_to : (before : Registry V) (pending : List Event) (gone removed : Bool) (e : Event) (exchanges : Exchanges) (calls : List PollerCall) (held : V) (after : Registry V)
+      → IsMine i mine before.registrations.owners → IsClaimed exchanges → removed ≡ gone → IsOutcome serves before gone e (To i exchanges calls held) after
+      → Same before pending removed e (To i exchanges calls held) (To i exchanges calls held) after
+  own_to before pending gone removed e exchanges calls held after m claimed agree (value, registrations, for, serving, fits, is) =
+      let t = own_exchanges i mine pending before.registrations exchanges calls registrations m claimed fits in
       record {
         left = t.left;
         fits = (
           value,
           projected_registrations i t.left registrations,
-          (owned_projected i before.registrations.owners e.fd for.0, agree e.fd here ∙ for.1, has_projected i before.values value for.2),
+          (owned_projected i before.registrations.owners e.fd for.0, agree ∙ for.1, has_projected i before.values value for.2),
           serving,
           t.fits,
           ap (projected_with i n t.left) is ∙ ap (λ (v : FinMap nat_cmp V). record { values = v; next = n; registrations = projected_registrations i t.left registrations }) (only_outcome-insert_own i before.values held),
@@ -82,26 +84,28 @@ module _ {V : Type 0} (serves : Serves V) (i : ℕ) (mine : ℕ → Bool) (n : �
         alike = λ fd h. refl;
       }
 
-  none_for : (before : Registry V) (pending : List Event) (earlier removed : List (Position V)) (e : Event) → mine e.fd ≡ true → Agree earlier removed → ((j : ℕ) (v : V) → ¬ IsFor before earlier e j v) → (j : ℕ) (v : V) → ¬ IsFor (projected_with i n pending before) removed e j v
-  none_for before pending earlier removed e here agree nobody j v (owns, kept, has) =
+  none_for : (before : Registry V) (pending : List Event) (gone removed : Bool) (e : Event) → removed ≡ gone → ((j : ℕ) (v : V) → ¬ IsFor before gone e j v) → (j : ℕ) (v : V) → ¬ IsFor (projected_with i n pending before) removed e j v
+  none_for before pending gone removed e agree nobody j v (owns, kept, has) =
       let is : j ≡ i = projected_is_own i j before.registrations.owners e.fd owns in
-      nobody i v (owned_from_projected i before.registrations.owners e.fd (subst (λ k. owner_of (owned_by i before.registrations.owners) e.fd ≡ Some k) is owns), sym (agree e.fd here) ∙ kept, has_from_projected i before.values v (subst (λ k. get (only_values i before.values) k ≡ Some v) is has))
+      nobody i v (owned_from_projected i before.registrations.owners e.fd (subst (λ k. owner_of (owned_by i before.registrations.owners) e.fd ≡ Some k) is owns), sym agree ∙ kept, has_from_projected i before.values v (subst (λ k. get (only_values i before.values) k ≡ Some v) is has))
 
-  one_same : (before : Registry V) (pending : List Event) (earlier removed : List (Position V)) (e : Event) (real later : List Event) (outcome : Outcome V) (after : Registry V) → mine e.fd ≡ true → IsMine i mine before.registrations.owners → IsClaimed (outcome_exchanges i outcome) → Agree earlier removed → IsOutcome serves before earlier e real outcome after → Same before pending removed e later outcome (only_outcome i outcome) after
-  one_same before pending earlier removed e real later Nobody after here m claimed agree (nobody, is) = record {
-    left = still_pending removed later;
-    fits = (none_for before pending earlier removed e here agree nobody, ap (projected_with i n (still_pending removed later)) is);
+  one_same : (before : Registry V) (pending : List Event) (gone removed : Bool) (e : Event) (outcome : Outcome V) (after : Registry V) → mine e.fd ≡ true
+      → IsMine i mine before.registrations.owners → IsClaimed (outcome_exchanges i outcome) → removed ≡ gone → IsOutcome serves before gone e outcome after
+      → Same before pending removed e outcome (only_outcome i outcome) after
+  one_same before pending gone removed e Nobody after here m claimed agree (nobody, is) = record {
+    left = pending;
+    fits = (none_for before pending gone removed e agree nobody, ap (projected_with i n pending) is);
     still = subst (λ (r : Registry V). IsMine i mine r.registrations.owners) (sym is) m;
     next = ap (λ (r : Registry V). r.next) is;
     alike = λ fd h. refl;
   }
-  one_same before pending earlier removed e real later (To j exchanges calls held) after here m claimed agree out =
+  one_same before pending gone removed e (To j exchanges calls held) after here m claimed agree out =
       elim (eqb_tells j i) [
         | inl p ↦
             let made : IsClaimed exchanges = λ fd t. claimed fd (ap (λ b. asks_to_add fd (if b then exchanges else [])) p.0 ∙ t) in
-            subst (λ b. Same before pending removed e later (To j exchanges calls held) (if b then To j exchanges calls held else Nobody) after) (sym p.0)
-            (subst (λ k. IsOutcome serves before earlier e real (To k exchanges calls held) after → Same before pending removed e later (To k exchanges calls held) (To k exchanges calls held) after) (sym p.1)
-            (own_to before pending earlier removed e real later exchanges calls held after here m made agree) out)
+            subst (λ b. Same before pending removed e (To j exchanges calls held) (if b then To j exchanges calls held else Nobody) after) (sym p.0)
+            (subst (λ k. IsOutcome serves before gone e (To k exchanges calls held) after → Same before pending removed e (To k exchanges calls held) (To k exchanges calls held) after) (sym p.1)
+            (own_to before pending gone removed e exchanges calls held after m made agree) out)
         | inr p ↦ absurd (true≢false (sym here ∙ m.other e.fd j p.1 (out.2).0))
       ]
 
@@ -113,19 +117,20 @@ module _ {V : Type 0} (serves : Serves V) (i : ℕ) (mine : ℕ → Bool) (n : �
     apart : (fd : ℕ) → mine fd ≡ true → removes fd (exchanges_of outcome) ≡ false
     nobody : only_outcome i outcome ≡ Nobody
 
-  one_unseen : (before : Registry V) (earlier : List (Position V)) (e : Event) (later : List Event) (outcome : Outcome V) (after : Registry V) → mine e.fd ≡ false → IsMine i mine before.registrations.owners → ((fd : ℕ) (j : ℕ) → j ≢ i → adds fd (outcome_exchanges j outcome) ≡ true → mine fd ≡ false) → IsOutcome serves before earlier e later outcome after → Unseen before outcome after
-  one_unseen before earlier e later Nobody after there m foreign (nobody, is) = record {
+  one_unseen : (before : Registry V) (gone : Bool) (e : Event) (outcome : Outcome V) (after : Registry V) → mine e.fd ≡ false → IsMine i mine before.registrations.owners
+      → ((fd : ℕ) (j : ℕ) → j ≢ i → adds fd (outcome_exchanges j outcome) ≡ true → mine fd ≡ false) → IsOutcome serves before gone e outcome after → Unseen before outcome after
+  one_unseen before gone e Nobody after there m foreign (nobody, is) = record {
     same = λ p. ap (projected_with i n p) is;
     still = subst (λ (r : Registry V). IsMine i mine r.registrations.owners) (sym is) m;
     next = ap (λ (r : Registry V). r.next) is;
     apart = λ fd h. refl;
     nobody = refl;
   }
-  one_unseen before earlier e later (To j exchanges calls held) after there m foreign (value, registrations, for, serving, fits, is) =
+  one_unseen before gone e (To j exchanges calls held) after there m foreign (value, registrations, for, serving, fits, is) =
       elim (eqb_tells j i) [
         | inl p ↦ absurd (true≢false (sym (m.own e.fd (subst (λ k. owner_of before.registrations.owners e.fd ≡ Some k) p.1 for.0)) ∙ there))
         | inr p ↦
-            let t = other_exchanges i j mine (record before.registrations { pending = still_pending earlier later }) exchanges calls registrations p.1 m (λ fd a. foreign fd j p.1 (ap (λ b. adds fd (if b then exchanges else [])) (eq-eqb j j refl) ∙ a)) fits in
+            let t = other_exchanges i j mine before.registrations exchanges calls registrations p.1 m (λ fd a. foreign fd j p.1 (ap (λ b. adds fd (if b then exchanges else [])) (eq-eqb j j refl) ∙ a)) fits in
             record {
               same = λ q. ap (projected_with i n q) is ∙ (λ k. record { values = only_outcome-insert_other i j before.values held p.1 k; next = n; registrations = t.same q k });
               still = subst (λ (r : Registry V). IsMine i mine r.registrations.owners) (sym is) t.still;
@@ -136,8 +141,8 @@ module _ {V : Type 0} (serves : Serves V) (i : ℕ) (mine : ℕ → Bool) (n : �
       ]
 
   -- one position that only the projection has
-  one_added : (before : Registry V) (pending : List Event) (removed : List (Position V)) (e : Event) (later : List Event) → mine e.fd ≡ false → IsMine i mine before.registrations.owners → IsOutcome serves (projected_with i n pending before) removed e later Nobody (projected_with i n (still_pending removed later) before)
-  one_added before pending removed e later there m = (
+  one_added : (before : Registry V) (pending : List Event) (removed : Bool) (e : Event) → mine e.fd ≡ false → IsMine i mine before.registrations.owners → IsOutcome serves (projected_with i n pending before) removed e Nobody (projected_with i n pending before)
+  one_added before pending removed e there m = (
     (λ j v for. true≢false (sym (m.own e.fd (owned_from_projected i before.registrations.owners e.fd (subst (λ k. owner_of (owned_by i before.registrations.owners) e.fd ≡ Some k) (projected_is_own i j before.registrations.owners e.fd for.0) for.0))) ∙ there)),
     refl,
   )
@@ -167,7 +172,8 @@ module _ {V : Type 0} (serves : Serves V) (i : ℕ) (mine : ℕ → Bool) (n : �
     next = ap (λ (r : Registry V). r.next) is;
   }
   projected_dispatch pending before earlier removed (_ ∷ real) (_ ∷ shown) after (both d here w) m claimed foreign agree (mid, out, more) =
-      let one = one_same before pending earlier removed d.event (events_of real) (events_of shown) d.outcome mid here m (λ fd t. claimed fd (calls_first fd (outcome_exchanges i d.outcome) (positions_exchanges i real) t)) agree out in
+      let one = one_same (with_pending (still_pending earlier (events_of real)) before) (still_pending removed (events_of shown)) _ _ d.event d.outcome mid here m
+      (λ fd t. claimed fd (calls_first fd (outcome_exchanges i d.outcome) (positions_exchanges i real) t)) (agree d.event.fd here) out in
       let rest = projected_dispatch one.left mid (earlier ++ d ∷ []) (removed ++ only_position i d ∷ []) real shown after w one.still
       (λ fd t. claimed fd (calls_then fd (outcome_exchanges i d.outcome) (positions_exchanges i real) t))
       (λ fd j differ t. foreign fd j differ (adds_then fd (outcome_exchanges j d.outcome) (positions_exchanges j real) t))
@@ -175,7 +181,7 @@ module _ {V : Type 0} (serves : Serves V) (i : ℕ) (mine : ℕ → Bool) (n : �
       in
       record { fits = (projected_with i n one.left mid, one.fits, rest.fits); still = rest.still; next = rest.next ∙ one.next }
   projected_dispatch pending before earlier removed (_ ∷ real) shown after (skipped d there nobody w) m claimed foreign agree (mid, out, more) =
-      let one = one_unseen before earlier d.event (events_of real) d.outcome mid there m (λ fd j differ t. foreign fd j differ (adds_first fd (outcome_exchanges j d.outcome) (positions_exchanges j real) t)) out in
+      let one = one_unseen (with_pending (still_pending earlier (events_of real)) before) _ d.event d.outcome mid there m (λ fd j differ t. foreign fd j differ (adds_first fd (outcome_exchanges j d.outcome) (positions_exchanges j real) t)) out in
       let rest = projected_dispatch pending mid (earlier ++ d ∷ []) removed real shown after w one.still
       (λ fd t. claimed fd (calls_then fd (outcome_exchanges i d.outcome) (positions_exchanges i real) t))
       (λ fd j differ t. foreign fd j differ (adds_then fd (outcome_exchanges j d.outcome) (positions_exchanges j real) t))
@@ -187,7 +193,8 @@ module _ {V : Type 0} (serves : Serves V) (i : ℕ) (mine : ℕ → Bool) (n : �
       record {
         fits = (
           projected_with i n (still_pending removed (events_of shown)) before,
-          subst (λ o. IsOutcome serves (projected_with i n pending before) removed d.event (events_of shown) o (projected_with i n (still_pending removed (events_of shown)) before)) (sym nobody) (one_added before pending removed d.event (events_of shown) there m),
+          subst (λ o. IsOutcome serves (projected_with i n (still_pending removed (events_of shown)) before) (is_removed d.event.fd removed) d.event o (projected_with i n (still_pending removed (events_of shown)) before)) (sym nobody)
+              (one_added before (still_pending removed (events_of shown)) (is_removed d.event.fd removed) d.event there m),
           rest.fits,
         );
         still = rest.still;
@@ -204,8 +211,8 @@ module _ {V : Type 0} (serves : Serves V) (i : ℕ) (mine : ℕ → Bool) (n : �
   foreign_positions before earlier [] after m claimed foreign h = tt
   foreign_positions before earlier (d ∷ real) after m claimed foreign (mid, out, more) =
       let first : (b : Bool) → mine d.event.fd ≡ b → (mine d.event.fd ≡ false → only_outcome i d.outcome ≡ Nobody) × IsMine i mine mid.registrations.owners = elim [
-        | true ↦ λ e. let one = one_same before [] earlier earlier d.event (events_of real) [] d.outcome mid e m (λ fd t. claimed fd (calls_first fd (outcome_exchanges i d.outcome) (positions_exchanges i real) t)) (λ fd h. refl) out in ((λ f. absurd (true≢false (sym e ∙ f))), one.still)
-        | false ↦ λ e. let one = one_unseen before earlier d.event (events_of real) d.outcome mid e m (λ fd j differ t. foreign fd j differ (adds_first fd (outcome_exchanges j d.outcome) (positions_exchanges j real) t)) out in ((λ f. one.nobody), one.still)
+        | true ↦ λ e. let one = one_same (with_pending (still_pending earlier (events_of real)) before) [] _ _ d.event d.outcome mid e m (λ fd t. claimed fd (calls_first fd (outcome_exchanges i d.outcome) (positions_exchanges i real) t)) refl out in ((λ f. absurd (true≢false (sym e ∙ f))), one.still)
+        | false ↦ λ e. let one = one_unseen (with_pending (still_pending earlier (events_of real)) before) _ d.event d.outcome mid e m (λ fd j differ t. foreign fd j differ (adds_first fd (outcome_exchanges j d.outcome) (positions_exchanges j real) t)) out in ((λ f. one.nobody), one.still)
       ]
       in
       let p = first (mine d.event.fd) refl in
@@ -275,7 +282,7 @@ to_nobody id exchanges calls after e = true≢false (ap is_somebody e)
 
 module _ {V : Type 0} (i : ℕ) where
   abbrev to_i : List (Position V) → List (Position V)
-  to_i positions = filter (λ position. is_to i position.outcome) positions
+  to_i positions = filter (λ position. is_id i (receiver_of position.outcome)) positions
 
   both_alike : (e : Event) (o : Outcome V) (real shown : List (Position V)) → to_i shown ≡ to_i real
       → to_i (record { event = e; outcome = only_outcome i o } ∷ shown) ≡ to_i (record { event = e; outcome = o } ∷ real)
@@ -290,7 +297,7 @@ module _ {V : Type 0} (i : ℕ) where
   only_is_only Nobody = tt
   only_is_only (To j exchanges calls after) = elim (j == i) as (λ b. (j == i) ≡ b → IfSome (receiver_of (if b then To j exchanges calls after else Nobody)) (λ k. k ≡ i)) [ true ↦ λ t. eqb-true j i t | false ↦ λ t. tt ] refl
 
-  not_to : (o : Outcome V) → only_outcome i o ≡ Nobody → is_to i o ≡ false
+  not_to : (o : Outcome V) → only_outcome i o ≡ Nobody → is_id i (receiver_of o) ≡ false
   not_to Nobody h = refl
   not_to (To j exchanges calls after) h =
       elim (j == i) as (λ b. (j == i) ≡ b → (if b then To j exchanges calls after else Nobody) ≡ Nobody → b ≡ false) [ true ↦ λ t g. absurd (to_nobody j exchanges calls after g) | false ↦ λ t g. refl ] refl h
@@ -305,4 +312,4 @@ module _ {V : Type 0} (i : ℕ) where
       record { same = rest.same ∙ sym (ap (λ b. cond b (d ∷ to_i real) (to_i real)) (not_to d.outcome nobody)); only = rest.only }
   woven_projected mine real (_ ∷ shown) (added d there nobody w) =
       let rest = woven_projected mine real shown w in
-      record { same = ap (λ o. cond (is_to i o) (only_position i d ∷ to_i shown) (to_i shown)) nobody ∙ rest.same; only = All-cons (IsOnlyFor i) (only_position i d) shown (only_is_only d.outcome) rest.only }
+      record { same = ap (λ o. cond (is_id i (receiver_of o)) (only_position i d ∷ to_i shown) (to_i shown)) nobody ∙ rest.same; only = All-cons (IsOnlyFor i) (only_position i d) shown (only_is_only d.outcome) rest.only }

@@ -1,9 +1,9 @@
 -- The projection of a trace is a trace: non-interference.
-use Rattle.std.proofs.Common.{◌≡◌, ◌≢◌, ℕ, ◌+◌, ◌≤◌, Bool, true, false, ◌||◌, refl, sym, ◌∙◌, ap, ap₂, subst, cond, map, filter, Some, None, Option, ◌⊎◌, inl, inr, List, [], ◌∷◌, true≢false, if◌then◌else◌, eq-eqb, eqb-true, le-ltb, le_of_eq, arith, Ok, Err, Result}
+use Rattle.std.proofs.Common.{◌≡◌, ◌≢◌, ℕ, nat_lt, ◌+◌, ◌≤◌, Bool, true, false, ◌||◌, refl, sym, ◌∙◌, ap, ap₂, subst, cond, map, filter, Some, None, Option, ◌⊎◌, inl, inr, List, [], ◌∷◌, true≢false, if◌then◌else◌, eq-eqb, eqb-true, le-ltb, le_of_eq, arith, Ok, Err, Result}
 use Rattle.std.proofs.lemmas.List.Elements.{All-nil, All-cons}
-use Rattle.event_loop.specs.Prelude.{Event, Exchanges, Begins, Serves, Registrations, Owns, owner_of, class_in, IsDispatchOrder, is_id, May, Position, events_of, ManagerState, JobRun, IsIteration, AreRun}
+use Rattle.event_loop.specs.Prelude.{Event, Exchanges, Begins, Serves, Registrations, Owns, owner_of, class_in, IsDispatchOrder, is_id, id_of, May, Position, events_of, ManagerState, JobRun, IsIteration, AreRun}
 use Rattle.event_manager.specs.Trace.{Effect, Stepped, Iterated, Entry, Matches, HasEffect, IsTrace}
-use Rattle.event_manager.specs.Projection.{projected_registrations, projected_registry, projected_state, effect_exchanges, exchanges_in, asks_to_add, adds, stays, names, seen_of, seen_in, IsOnly, IsProjection, projected_next, NonInterference}
+use Rattle.event_manager.specs.Projection.{projected_registrations, projected_registry, projected_state, effect_exchanges, exchanges_in, asks_to_add, adds, stays, seen_of, seen_in, IsOnly, IsProjection, NonInterference}
 use Rattle.vmm_sys.specs.declared.errno.Errno.{Errno}
 use Rattle.event_manager.proofs.ProjectedExchanges.{IsMine, same_at_mine, calls_first, calls_then, adds_first, adds_then, or_left, or_right}
 use Rattle.event_manager.proofs.ProjectedSteps.{own_step, other_step}
@@ -14,6 +14,10 @@ use Rattle.dispatch_tables.proofs.Owning.{class_by}
 -- at a descriptor of i's, i's own registrations give the class that all give
 own_class : (i : ℕ) (mine : ℕ → Bool) (pending : List Event) (registrations : Registrations) → IsMine i mine registrations.owners → (fd : ℕ) → mine fd ≡ true → class_in (projected_registrations i pending registrations).owners fd ≡ class_in registrations.owners fd
 own_class i mine pending registrations m fd e = ap class_by (same_at_mine i mine registrations.owners fd m e)
+
+is_id_Some : (i : ℕ) (o : Option ℕ) → is_id i o ≡ true → o ≡ Some i
+is_id_Some i None h = absurd (true≢false (sym h))
+is_id_Some i (Some j) h = ap Some (eqb-true j i h)
 
 module _ {V J R : Type 0} (i : ℕ) where
   -- an effect with what belongs to other ids taken out
@@ -28,7 +32,7 @@ module _ {V J R : Type 0} (i : ℕ) where
   seen_alike (Iterated iteration) shown (positions, are, is) = ap (seen_of i) is ∙ ap (λ ps. Iterated (record iteration { positions = ps })) are.same
 
   shown_only : (effect shown : Effect V J R) → IsProjectedEffect effect shown → stays i effect ≡ true → IsOnly i shown
-  shown_only (Stepped step) shown is e = subst (IsOnly i) (sym is) e
+  shown_only (Stepped step) shown is e = subst (IsOnly i) (sym is) (is_id_Some i (id_of step) e)
   shown_only (Iterated iteration) shown (positions, are, is) e = subst (IsOnly i) (sym is) are.only
 
   shown_stays : (effect shown : Effect V J R) → IsProjectedEffect effect shown → stays i effect ≡ true → stays i shown ≡ true
@@ -138,11 +142,11 @@ module _ {V J R : Type 0} (begins : Begins V) (serves : Serves V) (may : May V J
         let t = wait_projected n before iteration.waited iteration.positions iteration.jobs after same m claimed apart h in
         inl (refl, record { next = n; shown = Iterated (record iteration { positions = t.shown }); projected = (t.shown, t.projected, refl); has_effect = t.fits; still = t.still; joins = λ le. joins (subst (λ k. k ≤ i) t.next le) })
     effect_projected n before (Stepped step) after same m claimed apart joins h =
-        let at : (b : Bool) → names i step ≡ b → ((b ≡ true) × Kept n before (Stepped step) after) ⊎ ((b ≡ false) × Dropped n before after) = elim [
+        let at : (b : Bool) → is_id i (id_of step) ≡ b → ((b ≡ true) × Kept n before (Stepped step) after) ⊎ ((b ≡ false) × Dropped n before after) = elim [
           | true ↦ λ e. let s = own_step begins i mine n before.registry step after.registry e m claimed joins h.0 in inl (refl, record { next = s.next; shown = Stepped step; projected = refl; has_effect = (s.fits, h.1); still = s.still; joins = s.joins })
           | false ↦ λ e. let s = other_step begins i mine before.registry step after.registry e m apart h.0 in inr (refl, record { same = (λ k. record { registry = s.same n k; taken = h.1 k }); still = s.still; joins = λ le. joins (let l = s.later in omega arith) })
         ]
-        in at (names i step) refl
+        in at (is_id i (id_of step)) refl
 
     matches_projected : (effect shown : Effect V J R) (c : _) (r : _) → IsProjectedEffect i effect shown → Matches effect c r → Matches shown c r
     matches_projected (Stepped step) shown c r is h = subst (λ s. Matches s c r) (sym is) h
@@ -180,10 +184,6 @@ module _ {V J R : Type 0} (begins : Begins V) (serves : Serves V) (may : May V J
   or_split true b h = inl refl
   or_split false b h = inr h
 
-  is_id_Some : (i : ℕ) (o : Option ℕ) → is_id i o ≡ true → o ≡ Some i
-  is_id_Some i None h = absurd (true≢false (sym h))
-  is_id_Some i (Some j) h = ap Some (eqb-true j i h)
-
   not_true : (b : Bool) → (b ≡ true → ⊥) → b ≡ false
   not_true true h = absurd (h refl)
   not_true false h = refl
@@ -192,7 +192,7 @@ module _ {V J R : Type 0} (begins : Begins V) (serves : Serves V) (may : May V J
   non_interference before trace after h i same apart =
       let mine : ℕ → Bool = λ fd. is_id i (owner_of before.registry.registrations.owners fd) || asks_to_add fd (exchanges_in i trace) in
       let claims : (fd : ℕ) → mine fd ≡ true → Owns i before.registry.registrations fd ⊎ (asks_to_add fd (exchanges_in i trace) ≡ true) = λ fd e. elim (or_split (is_id i (owner_of before.registry.registrations.owners fd)) (asks_to_add fd (exchanges_in i trace)) e) [ inl p ↦ inl (is_id_Some i _ p) | inr p ↦ inr p ] in
-      trace_projected i mine (projected_next i before) before trace after same
+      trace_projected i mine (if nat_lt i before.registry.next then before.registry.next else i) before trace after same
       (record {
         own = λ fd e. or_left _ _ (ap (is_id i) e ∙ eq-eqb i i refl);
         other = λ fd j differ e. not_true _ (λ t. (apart fd j differ (claims fd t)).0 e);

@@ -1,8 +1,8 @@
 -- A replay is the run.
-use Rattle.std.proofs.Common.{◌≡◌, ℕ, ◌+◌, ℤ, refl, sym, ap, subst, ◌∙◌, Some, None, Option, List, [], ◌∷◌, ◌++◌, map, Ok, Err, Result}
+use Rattle.std.proofs.Common.{Bool, ◌≡◌, ℕ, ◌+◌, ℤ, refl, sym, ap, subst, ◌∙◌, Some, None, Option, List, [], ◌∷◌, ◌++◌, map, Ok, Err, Result}
 use Rattle.std.specs.List.{AllZip, flat_map}
 use Rattle.std.specs.FinMap.{insert}
-use Rattle.event_loop.specs.Prelude.{Event, PollerCall, Wait, Exchanges, answers_of, Begins, Serves, Registry, Joined, NotJoined, Left, Replaced, Requested, Refused, calls_of, May, Outcome, Nobody, To, Position, IsOutcome, AreDispatched, events_of, exchanges_of, still_pending, ManagerState, JobRun, AreRun, IsIteration, calls_of_outcome, calls_of_positions, calls_of_jobs, class_in}
+use Rattle.event_loop.specs.Prelude.{Event, PollerCall, Wait, Exchanges, answers_of, Begins, Serves, Registry, Joined, NotJoined, Left, Replaced, Requested, Refused, calls_of, May, Outcome, Nobody, To, Position, with_pending, IsOutcome, AreDispatched, events_of, exchanges_of, is_removed, still_pending, ManagerState, JobRun, AreRun, IsIteration, calls_of_outcome, calls_of_positions, calls_of_jobs, class_in}
 use Rattle.dispatch_tables.proofs.DispatchOrders.{head_is, tail_is, one_order}
 use Rattle.vmm_sys.specs.declared.errno.Errno.{Errno}
 use Rattle.event_manager.specs.Trace.{Effect, Stepped, Iterated, Entry, Matches, HasEffect, IsTrace, calls_of_effect, calls_of_trace}
@@ -19,36 +19,35 @@ module _ {V : Type 0} (serves : Serves V) where
   abbrev DecidesAnswers : Type 0
   DecidesAnswers = (event : Event) → IsFunction (λ v exchanges w. serves v event exchanges w)
 
-  delivery_alike : DecidesAnswers → (before : Registry V) (earlier : List (Position V)) (event : Event) (later : List Event) (id : ℕ)
+  delivery_alike : DecidesAnswers → (before : Registry V) (removed : Bool) (event : Event) (id : ℕ)
       (exchanges others : Exchanges) (calls made rest more : List PollerCall) (held kept : V) (after onto : Registry V)
       → HaveMemory (answers_of exchanges) → HaveMemory (answers_of others) → AreSameCalls (calls ++ rest) (made ++ more)
-      → IsOutcome serves before earlier event later (To id exchanges calls held) after
-      → IsOutcome serves before earlier event later (To id others made kept) onto
+      → IsOutcome serves before removed event (To id exchanges calls held) after
+      → IsOutcome serves before removed event (To id others made kept) onto
       → (To id exchanges calls held ≡ To id others made kept) × (after ≡ onto)
-  delivery_alike function before earlier event later id exchanges others calls made rest more held kept after onto m n same
+  delivery_alike function before removed event id exchanges others calls made rest more held kept after onto m n same
       (value, ours, is_for, served, fits, e) (older, theirs, was_for, serving, fit, f) =
       let one : older ≡ value = let v = is_for.2 in let w = was_for.2 in cc in
       let alike = function event value exchanges others held kept served (subst (λ v. serves v event others kept) one serving) in
-      let pending = record before.registrations { pending = still_pending earlier later } in
-      let all = exchanges_alike id pending exchanges others calls made rest more ours theirs alike.0 m n same fits fit in
+      let all = exchanges_alike id before.registrations exchanges others calls made rest more ours theirs alike.0 m n same fits fit in
       let holds = alike.1 all.0 in (
         (λ j. To id (all.0 j) (all.1 j) (holds j)),
         e ∙ (λ j. record before { values = insert before.values id (holds j); registrations = all.2 j }) ∙ sym f,
       )
 
-  outcome_alike : DecidesAnswers → (before : Registry V) (earlier : List (Position V)) (event : Event) (later : List Event)
+  outcome_alike : DecidesAnswers → (before : Registry V) (removed : Bool) (event : Event)
       (outcome other : Outcome V) (rest more : List PollerCall) (after onto : Registry V)
       → HaveMemory (answers_of (exchanges_of outcome)) → HaveMemory (answers_of (exchanges_of other))
       → AreSameCalls (calls_of_outcome outcome ++ rest) (calls_of_outcome other ++ more)
-      → IsOutcome serves before earlier event later outcome after → IsOutcome serves before earlier event later other onto
+      → IsOutcome serves before removed event outcome after → IsOutcome serves before removed event other onto
       → (outcome ≡ other) × (after ≡ onto)
-  outcome_alike function before earlier event later Nobody Nobody rest more after onto m n same h k = (refl, h.1 ∙ sym k.1)
-  outcome_alike function before earlier event later Nobody (To i others made kept) rest more after onto m n same h k = absurd (h.0 i k.0 k.2)
-  outcome_alike function before earlier event later (To id exchanges calls held) Nobody rest more after onto m n same h k = absurd (k.0 id h.0 h.2)
-  outcome_alike function before earlier event later (To id exchanges calls held) (To i others made kept) rest more after onto m n same h k =
+  outcome_alike function before removed event Nobody Nobody rest more after onto m n same h k = (refl, h.1 ∙ sym k.1)
+  outcome_alike function before removed event Nobody (To i others made kept) rest more after onto m n same h k = absurd (h.0 i k.0 k.2)
+  outcome_alike function before removed event (To id exchanges calls held) Nobody rest more after onto m n same h k = absurd (k.0 id h.0 h.2)
+  outcome_alike function before removed event (To id exchanges calls held) (To i others made kept) rest more after onto m n same h k =
       let ids : i ≡ id = let v = (h.2).0 in let w = (k.2).0 in cc in
-      let here = subst (λ x. IsOutcome serves before earlier event later (To x others made kept) onto) ids k in
-      let all = delivery_alike function before earlier event later id exchanges others calls made rest more held kept after onto m n same h here in
+      let here = subst (λ x. IsOutcome serves before removed event (To x others made kept) onto) ids k in
+      let all = delivery_alike function before removed event id exchanges others calls made rest more held kept after onto m n same h here in
       (all.0 ∙ sym (ap (λ x. To x others made kept) ids), all.1)
 
   positions_alike : DecidesAnswers → (before : Registry V) (earlier positions others : List (Position V)) (rest more : List PollerCall)
@@ -67,8 +66,11 @@ module _ {V : Type 0} (serves : Serves V) where
       let event = head_is p.event q.event (events_of positions) (events_of others) events in
       let later = tail_is p.event q.event (events_of positions) (events_of others) events in
       let parts = in_parts calls (calls_of_positions positions) made (calls_of_positions others) _ _ rest more refl refl same in
-      let here = subst (λ (r : Event × List Event). IsOutcome serves before earlier r.0 r.1 q.outcome between) (sym (λ j. (event j, later j))) k in
-      let one = outcome_alike function before earlier p.event (events_of positions) p.outcome q.outcome
+      let from = with_pending (still_pending earlier (events_of positions)) before in
+      let here =
+      subst (λ (r : Event × List Event). IsOutcome serves (with_pending (still_pending earlier r.1) before) (is_removed r.0.fd earlier) r.0 q.outcome between)
+      (sym (λ j. (event j, later j))) k in
+      let one = outcome_alike function from (is_removed p.event.fd earlier) p.event p.outcome q.outcome
       (calls_of_positions positions ++ rest) (calls_of_positions others ++ more) mid between (memory_first first _ m) (memory_first front _ n) parts h here in
       let position : p ≡ q = λ j. record { event = event j; outcome = one.0 j } in
       let theirs_here =

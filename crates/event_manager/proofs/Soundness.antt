@@ -4,7 +4,7 @@ use Rattle.std.specs.FinMap.{FinMap, get, insert, remove, get-insert, get-remove
 use Rattle.std.specs.Cmp.{nat_cmp_total, nat_cmp_is}
 use Rattle.std.specs.Ordering.{eq_by_cmp}
 use Rattle.std.proofs.lemmas.Bool.Decides.{eqb_tells}
-use Rattle.event_loop.specs.Prelude.{Event, Registrations, Owns, IsFree, PollerCall, Answer, Exchanges, Fits, by_manager, by_poller, by_agreement, ExchangesFit, ReachesPoller, registrations_after, Begins, Serves, Registry, Step, Joined, NotJoined, Left, Replaced, Requested, Refused, Steps, is_id, without_owner, HasId, LacksId, AreBelow, May, Outcome, Nobody, To, Position, IsOutcome, AreDispatched, still_pending, events_of, ManagerState, JobRun, IsIteration, AreRun, AllSteps, Ownership, OwnerMap, owner_of}
+use Rattle.event_loop.specs.Prelude.{Event, Registrations, Owns, IsFree, PollerCall, Answer, Exchanges, Fits, by_manager, by_poller, by_agreement, ExchangesFit, ReachesPoller, registrations_after, Begins, Serves, Registry, Step, Joined, NotJoined, Left, Replaced, Requested, Refused, Steps, is_id, without_owner, HasId, LacksId, AreBelow, May, Outcome, Nobody, To, Position, with_pending, IsOutcome, AreDispatched, is_removed, still_pending, events_of, ManagerState, JobRun, IsIteration, AreRun, AllSteps, Ownership, OwnerMap, owner_of}
 use Rattle.event_loop.specs.declared.events.Request.{Request}
 use Rattle.event_loop.specs.declared.events.Request.TheVariants.{Add, AddWithPriority, Modify, Remove}
 use Rattle.event_manager.specs.Trace.{Effect, Stepped, Iterated, Entry, HasEffect, IsTrace, new_state}
@@ -141,14 +141,18 @@ module _ {V : Type 0} where
       })
   sound_step begins before (Refused id) after s h = sound_at after before h.1 s
 
-  sound_outcome : (serves : Serves V) (before : Registry V) (earlier : List (Position V)) (e : Event) (later : List Event) (outcome : Outcome V) (after : Registry V) → IsSound before → IsOutcome serves before earlier e later outcome after → IsSound after
-  sound_outcome serves before earlier e later Nobody after s (nobody, is) = sound_at after _ is (record { owners = s.owners; endpoint_free = s.endpoint_free })
-  sound_outcome serves before earlier e later (To i exchanges calls held) after s (value, registrations, for, serving, fits, is) =
-      sound_at after _ is (sound_exchanges before i before.next held exchanges calls (record before.registrations { pending = still_pending earlier later }) registrations s refl refl fits)
+  -- a registry as an event finds it, between the earlier positions and those that follow
+  abbrev left : Registry V → List (Position V) → List (Position V) → Registry V
+  left before earlier positions = with_pending (still_pending earlier (events_of positions)) before
+
+  sound_outcome : (serves : Serves V) (before : Registry V) (removed : Bool) (e : Event) (outcome : Outcome V) (after : Registry V) → IsSound before → IsOutcome serves before removed e outcome after → IsSound after
+  sound_outcome serves before removed e Nobody after s (nobody, is) = sound_at after _ is (record { owners = s.owners; endpoint_free = s.endpoint_free })
+  sound_outcome serves before removed e (To i exchanges calls held) after s (value, registrations, for, serving, fits, is) =
+      sound_at after _ is (sound_exchanges before i before.next held exchanges calls before.registrations registrations s refl refl fits)
 
   sound_positions : (serves : Serves V) (before : Registry V) (earlier positions : List (Position V)) (after : Registry V) → IsSound before → AreDispatched serves before earlier positions after → IsSound after
   sound_positions serves before earlier [] after s is = sound_at after _ is (record { owners = s.owners; endpoint_free = s.endpoint_free })
-  sound_positions serves before earlier (d ∷ positions) after s (mid, out, more) = sound_positions serves mid (earlier ++ d ∷ []) positions after (sound_outcome serves before earlier d.event (events_of positions) d.outcome mid s out) more
+  sound_positions serves before earlier (d ∷ positions) after s (mid, out, more) = sound_positions serves mid (earlier ++ d ∷ []) positions after (sound_outcome serves (left before earlier positions) (is_removed d.event.fd earlier) d.event d.outcome mid (record { owners = s.owners; endpoint_free = s.endpoint_free }) out) more
 
   -- held ids stay below the next
   below_at : (after made : Registry V) → after ≡ made → AreBelow made.next made.values → AreBelow after.next after.values
@@ -163,22 +167,22 @@ module _ {V : Type 0} where
   below_step begins before (Requested id exchanges calls) after h (value, registrations, has, fits, e) = below_at after _ e h
   below_step begins before (Refused id) after h s = below_at after before s.1 h
 
-  below_outcome : (serves : Serves V) (before : Registry V) (earlier : List (Position V)) (e : Event) (later : List Event) (outcome : Outcome V) (after : Registry V) → AreBelow before.next before.values → IsOutcome serves before earlier e later outcome after → AreBelow after.next after.values
-  below_outcome serves before earlier e later Nobody after h (nobody, is) = below_at after _ is h
-  below_outcome serves before earlier e later (To i exchanges calls held) after h (value, registrations, for, serving, fits, is) = below_at after _ is (below_insert i before.next before.values held (h i value for.2) h)
+  below_outcome : (serves : Serves V) (before : Registry V) (removed : Bool) (e : Event) (outcome : Outcome V) (after : Registry V) → AreBelow before.next before.values → IsOutcome serves before removed e outcome after → AreBelow after.next after.values
+  below_outcome serves before removed e Nobody after h (nobody, is) = below_at after _ is h
+  below_outcome serves before removed e (To i exchanges calls held) after h (value, registrations, for, serving, fits, is) = below_at after _ is (below_insert i before.next before.values held (h i value for.2) h)
 
   below_positions : (serves : Serves V) (before : Registry V) (earlier positions : List (Position V)) (after : Registry V) → AreBelow before.next before.values → AreDispatched serves before earlier positions after → AreBelow after.next after.values
   below_positions serves before earlier [] after h is = below_at after _ is h
-  below_positions serves before earlier (d ∷ positions) after h (mid, out, more) = below_positions serves mid (earlier ++ d ∷ []) positions after (below_outcome serves before earlier d.event (events_of positions) d.outcome mid h out) more
+  below_positions serves before earlier (d ∷ positions) after h (mid, out, more) = below_positions serves mid (earlier ++ d ∷ []) positions after (below_outcome serves (left before earlier positions) (is_removed d.event.fd earlier) d.event d.outcome mid h out) more
 
   -- the next id
-  next_outcome : (serves : Serves V) (before : Registry V) (earlier : List (Position V)) (e : Event) (later : List Event) (outcome : Outcome V) (after : Registry V) → IsOutcome serves before earlier e later outcome after → after.next ≡ before.next
-  next_outcome serves before earlier e later Nobody after (nobody, is) = ap (λ (r : Registry V). r.next) is
-  next_outcome serves before earlier e later (To i exchanges calls held) after (value, registrations, for, serving, fits, is) = ap (λ (r : Registry V). r.next) is
+  next_outcome : (serves : Serves V) (before : Registry V) (removed : Bool) (e : Event) (outcome : Outcome V) (after : Registry V) → IsOutcome serves before removed e outcome after → after.next ≡ before.next
+  next_outcome serves before removed e Nobody after (nobody, is) = ap (λ (r : Registry V). r.next) is
+  next_outcome serves before removed e (To i exchanges calls held) after (value, registrations, for, serving, fits, is) = ap (λ (r : Registry V). r.next) is
 
   next_positions : (serves : Serves V) (before : Registry V) (earlier positions : List (Position V)) (after : Registry V) → AreDispatched serves before earlier positions after → after.next ≡ before.next
   next_positions serves before earlier [] after is = ap (λ (r : Registry V). r.next) is
-  next_positions serves before earlier (d ∷ positions) after (mid, out, more) = next_positions serves mid (earlier ++ d ∷ []) positions after more ∙ next_outcome serves before earlier d.event (events_of positions) d.outcome mid out
+  next_positions serves before earlier (d ∷ positions) after (mid, out, more) = next_positions serves mid (earlier ++ d ∷ []) positions after more ∙ next_outcome serves (left before earlier positions) (is_removed d.event.fd earlier) d.event d.outcome mid out
 
   given_step : (begins : Begins V) (before : Registry V) (step : Step V) (after : Registry V) → Steps begins before step after → AreGiven before.next (step ∷ []) after.next
   given_step begins before (Joined value id exchanges calls held) after (registrations, capacity, is, fits, beg, e) = (is, ap (λ (r : Registry V). r.next) e)
@@ -223,15 +227,15 @@ module _ {V : Type 0} where
   gone_step begins i before (Requested id exchanges calls) after g (value, registrations, has, fits, e) = (λ steps rest. (differs i id before value g has, rest), gone_at i after _ e (record { lacks = g.lacks; given = g.given }))
   gone_step begins i before (Refused id) after g h = (λ steps rest. rest, gone_at i after before h.1 g)
 
-  gone_outcome : (serves : Serves V) (i : ℕ) (before : Registry V) (earlier : List (Position V)) (e : Event) (later : List Event) (outcome : Outcome V) (after : Registry V) → IsGone i before → IsOutcome serves before earlier e later outcome after → IsGone i after
-  gone_outcome serves i before earlier e later Nobody after g (nobody, is) = gone_at i after _ is (record { lacks = g.lacks; given = g.given })
-  gone_outcome serves i before earlier e later (To id exchanges calls held) after g (value, registrations, for, serving, fits, is) =
+  gone_outcome : (serves : Serves V) (i : ℕ) (before : Registry V) (removed : Bool) (e : Event) (outcome : Outcome V) (after : Registry V) → IsGone i before → IsOutcome serves before removed e outcome after → IsGone i after
+  gone_outcome serves i before removed e Nobody after g (nobody, is) = gone_at i after _ is (record { lacks = g.lacks; given = g.given })
+  gone_outcome serves i before removed e (To id exchanges calls held) after g (value, registrations, for, serving, fits, is) =
       let differ = differs i id before value g for.2 in
       gone_at i after _ is (record { lacks = lacks_insert i id before.values held (λ t. differ (sym t)) g.lacks; given = g.given })
 
   gone_positions : (serves : Serves V) (i : ℕ) (before : Registry V) (earlier positions : List (Position V)) (after : Registry V) → IsGone i before → AreDispatched serves before earlier positions after → IsGone i after
   gone_positions serves i before earlier [] after g is = gone_at i after _ is (record { lacks = g.lacks; given = g.given })
-  gone_positions serves i before earlier (d ∷ positions) after g (mid, out, more) = gone_positions serves i mid (earlier ++ d ∷ []) positions after (gone_outcome serves i before earlier d.event (events_of positions) d.outcome mid g out) more
+  gone_positions serves i before earlier (d ∷ positions) after g (mid, out, more) = gone_positions serves i mid (earlier ++ d ∷ []) positions after (gone_outcome serves i (left before earlier positions) (is_removed d.event.fd earlier) d.event d.outcome mid (record { lacks = g.lacks; given = g.given }) out) more
 
   left_is_gone : (begins : Begins V) (before : Registry V) (id : ℕ) (value : V) (calls : List PollerCall) (after : Registry V) → AreBelow before.next before.values → Steps begins before (Left id value calls) after → IsGone id after
   left_is_gone begins before id value calls after s (fds, has, is_owner, deletes, e) = gone_at id after _ e (record { lacks = removed_value id before.values; given = s id value has })

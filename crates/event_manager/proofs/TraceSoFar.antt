@@ -89,7 +89,7 @@ module _ {S J R P : Type 0} (begins : Begins S) (serves : Serves S) (may : May S
         sound = follows.sound;
         non_interference = non_interference begins serves may before trace after is;
         isolated_step = λ from step onto h. isolated_step begins from step onto h;
-        isolated_delivery = λ from earlier event later outcome onto h j other. isolated_delivery serves from earlier event later outcome onto h j other;
+        isolated_delivery = λ from removed event outcome onto h. isolated_delivery serves from removed event outcome onto h;
         leave_frees = λ from onto i value calls h. left_frees begins from onto i value calls h;
       }
 

@@ -25,37 +25,27 @@ projected_registry i next registry = record { values = only_values i registry.va
 abbrev pub projected_state : {V : Type 0} → ℕ → ℕ → ManagerState V → ManagerState V
 projected_state i next state = record { registry = projected_registry i next state.registry; taken = state.taken }
 
--- the next id of the projection: that of the trace where i has joined, else i
-abbrev pub projected_next : {V : Type 0} → ℕ → ManagerState V → ℕ
-projected_next i state = if nat_lt i state.registry.next then state.registry.next else i
-
--- the id that got the event, if one did; whether id i got it
+-- the id that got the event, if one did
 abbrev pub receiver_of : {V : Type 0} → Outcome V → Option ℕ
 receiver_of Nobody = None
 receiver_of (To id exchanges calls after) = Some id
 
-abbrev pub is_to : {V : Type 0} → ℕ → Outcome V → Bool
-is_to i outcome = is_id i (receiver_of outcome)
-
 -- whether the effect is i's: a step that names i, or the join that gave it; each iteration
-abbrev pub names : {V : Type 0} → ℕ → Step V → Bool
-names i step = is_id i (id_of step)
-
 abbrev pub stays : {V J R : Type 0} → ℕ → Effect V J R → Bool
-stays i (Stepped step) = names i step
+stays i (Stepped step) = is_id i (id_of step)
 stays i (Iterated iteration) = true
 
 -- what i sees of an effect: of an iteration the positions that it got; of a trace: the effects that are its own, with their calls and replies
 abbrev pub seen_of : {V J R : Type 0} → ℕ → Effect V J R → Effect V J R
 seen_of i (Stepped step) = Stepped step
-seen_of i (Iterated iteration) = Iterated (record iteration { positions = filter (λ position. is_to i position.outcome) iteration.positions })
+seen_of i (Iterated iteration) = Iterated (record iteration { positions = filter (λ position. is_id i (receiver_of position.outcome)) iteration.positions })
 
 abbrev pub seen_in : {V J R : Type 0} → ℕ → List (Entry V J R) → List (Entry V J R)
 seen_in {V} {J} {R} i trace = map (λ (entry : Entry V J R). record entry { effect = seen_of i entry.effect }) (filter (λ entry. stays i entry.effect) trace)
 
 -- nobody but i has part in the effect
 abbrev pub IsOnly : {V J R : Type 0} → ℕ → Effect V J R → Type 0
-IsOnly i (Stepped step) = names i step ≡ true
+IsOnly i (Stepped step) = id_of step ≡ Some i
 IsOnly i (Iterated iteration) = All (λ position. IfSome (receiver_of position.outcome) (λ j. j ≡ i)) iteration.positions
 
 -- A projection of a trace to i: i sees the same in it, and nobody else has part in it. Its positions come in the order that i's own registrations give.
@@ -70,7 +60,7 @@ step_exchanges i step = []
 
 abbrev pub effect_exchanges : {V J R : Type 0} → ℕ → Effect V J R → Exchanges
 effect_exchanges i (Stepped step) = step_exchanges i step
-effect_exchanges i (Iterated iteration) = flat_map (λ position. if is_to i position.outcome then exchanges_of position.outcome else []) iteration.positions
+effect_exchanges i (Iterated iteration) = flat_map (λ position. if is_id i (receiver_of position.outcome) then exchanges_of position.outcome else []) iteration.positions
 
 abbrev pub exchanges_in : {V J R : Type 0} → ℕ → List (Entry V J R) → Exchanges
 exchanges_in i trace = flat_map (λ entry. effect_exchanges i entry.effect) trace
@@ -92,8 +82,10 @@ IsApart i before trace =
     (fd : ℕ) (j : ℕ) → j ≢ i → Owns i before.registry.registrations fd ⊎ IsTrue (asks_to_add fd (exchanges_in i trace))
     → ¬ Owns j before.registry.registrations fd × (adds fd (exchanges_in j trace) ≡ false)
 
--- Non-interference: of a trace in which no job ran, a projection to each i that is apart is itself a trace.
+-- Non-interference: of a trace in which no job ran, a projection to each i that is apart is itself a trace. Its next id is that of the
+-- trace where i has joined before, else i.
 abbrev pub NonInterference : {V J R : Type 0} → Begins V → Serves V → May V J R → ManagerState V → List (Entry V J R) → ManagerState V → Type 0
 NonInterference {V} {J} {R} begins serves may before trace after =
     (i : ℕ) → after.taken ≡ before.taken → IsApart i before trace
-    → (next : ℕ) × (projected : List (Entry V J R)) × IsProjection i trace projected × IsTrace begins serves may (projected_state i (projected_next i before) before) projected (projected_state i next after)
+    → (next : ℕ) × (projected : List (Entry V J R)) × IsProjection i trace projected
+    × IsTrace begins serves may (projected_state i (if nat_lt i before.registry.next then before.registry.next else i) before) projected (projected_state i next after)

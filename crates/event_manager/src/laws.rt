@@ -4,18 +4,18 @@ ghost use Rattle.std.specs.Hash as fed;
 ghost use Rattle.std.specs.List.{fold};
 ghost use Rattle.std.specs.Ordering.{nat_cmp};
 ghost use Rattle.std.specs.List.Sorted.{IsPermutation};
-ghost use Rattle.std.specs.Prelude.{IsTrue, ◌↔◌, ◌≡◌, ℕ, false, List, [], ◌∷◌, ◌++◌, map};
+ghost use Rattle.std.specs.Prelude.{IsTrue, Bool, ◌↔◌, ◌≡◌, ℕ, false, List, [], ◌∷◌, ◌++◌, map};
 ghost use Rattle.dispatch_tables.specs.Event.{Event};
 ghost use Rattle.event_loop.specs.PollerCall.{PollerCall};
 ghost use Rattle.event_loop.specs.Registrations.{Registrations};
 ghost use Rattle.dispatch_tables.specs.Priority.{number_of};
 ghost use Rattle.event_loop.specs.DispatchOrder.{IsDispatchOrder};
 ghost use Rattle.event_loop.specs.Exchange.{Exchanges, ExchangesFit};
-ghost use Rattle.event_loop.specs.Registry.{Registry, Step, Steps, Left, AreBelow};
-ghost use Rattle.event_loop.specs.Dispatch.{Position, Outcome, IsOutcome, still_pending};
+ghost use Rattle.event_loop.specs.Registry.{Registry, Step, Steps, Left, AreBelow, is_id, id_of};
+ghost use Rattle.event_loop.specs.Dispatch.{Position, Outcome, is_removed, still_pending, with_pending, IsOutcome};
 ghost use Rattle.event_loop.specs.Iteration.{ManagerState};
 ghost use Rattle.event_manager.specs.Trace.{Entry, HasEffect, IsTrace, new_state};
-ghost use Rattle.event_manager.specs.Projection.{NonInterference, names, is_to};
+ghost use Rattle.event_manager.specs.Projection.{NonInterference, receiver_of};
 ghost use Rattle.event_manager.specs.Guarantees.{AreGiven, steps_of, RemovedStayGone, RemovedStayUnknown, IsSound, IsUntouched, FreesExactly};
 ghost use Rattle.vmm_sys.specs.Recording.{Recording};
 ghost use Rattle.vmm_sys.specs.Replay.{Replay};
@@ -92,10 +92,9 @@ pub fn owners_are_subscribers<S: MutEventSubscriber, J: Job<S>>()
 /// pending events of all others; an event that nobody gets leaves those of all; a leave frees exactly the descriptors of its id, whatever the poller answers.
 pub fn others_are_untouched<S: MutEventSubscriber>()
     ensures steps { (before : Registry S) (step : Step S) (after : Registry S) → Steps S.begins before step after →
-        (j : ℕ) → names j step ≡ false → IsUntouched j before after }
-    ensures deliveries { (before : Registry S) (earlier : List (Position S)) (e : Event) (later : List Event)
-        (outcome : Outcome S) (after : Registry S) → IsOutcome S.serves before earlier e later outcome after →
-        (j : ℕ) → is_to j outcome ≡ false → IsUntouched j (record before { registrations = record before.registrations { pending = still_pending earlier later } }) after }
+        (j : ℕ) → is_id j (id_of step) ≡ false → IsUntouched j before after }
+    ensures deliveries { (before : Registry S) (removed : Bool) (event : Event) (outcome : Outcome S) (after : Registry S) →
+        IsOutcome S.serves before removed event outcome after → (j : ℕ) → is_id j (receiver_of outcome) ≡ false → IsUntouched j before after }
     ensures leaving { (before after : Registry S) (i : ℕ) (value : S) (calls : List PollerCall) →
         Steps S.begins before (Left i value calls) after → FreesExactly i before.registrations after.registrations }
 {}
@@ -115,7 +114,7 @@ pub fn one_dispatch_order()
 /// What is pending after a position: the later events whose descriptor no exchange so far removed.
 pub fn pending_after_a_position<S: MutEventSubscriber>()
     ensures { (before : Registry S) (earlier : List (Position S)) (event : Event) (later : List Event) (outcome : Outcome S) (after : Registry S) →
-        IsOutcome S.serves before earlier event later outcome after →
+        IsOutcome S.serves (with_pending (still_pending earlier later) before) (is_removed event.fd earlier) event outcome after →
         after.registrations.pending ≡ still_pending (earlier ++ record { event = event; outcome = outcome } ∷ []) later }
 {}
 

@@ -5,7 +5,7 @@ use Rattle.dispatch_tables.specs.Members.{Members, with_member}
 use Rattle.dispatch_tables.proofs.MapEntries.{insert_twice, get_same, some_is}
 use Rattle.event_loop.proofs.ExchangeLemmas.{idle_fits}
 use Rattle.event_loop.specs.Registry.{Joined, NotJoined}
-use Rattle.event_loop.specs.Subscribers.{idle}
+use Rattle.event_loop.specs.Dispatch.{with_pending}
 use Rattle.event_loop.specs.declared.error.Error.TheVariants.{OutOfMemory}
 use Rattle.event_loop.specs.RegistrationState.{registrations_of}
 use Rattle.event_loop.proofs.registry.Registry.join.Goals as goal
@@ -16,7 +16,7 @@ returns-in_err-open g c = rw c.in_err-open.ensures (NotJoined c.args.subscriber 
 pub returns-in_err-place : goal.returns-in_err-place
 returns-in_err-place g c =
     let old = c.args.self.now in
-    let same = ap (λ (members : Members _). idle (record { values = members.by_id; next = members.next; registrations = registrations_of old.ops.epoll.registrations })) c.in_err-place.ensures.err in
+    let same = ap (λ (members : Members _). with_pending [] (record { values = members.by_id; next = members.next; registrations = registrations_of old.ops.epoll.registrations })) c.in_err-place.ensures.err in
     rw c.in_ok-open.ensures (NotJoined c.args.subscriber OutOfMemory, search rules, record { stepped = (inr (omega (arith, c.if-id.false, c.next_id-id.ensures.next), refl), same); led = refl; same_taken = refl; same_capacity = refl })
 
 pub unreachable-requires : goal.unreachable-requires

@@ -2,7 +2,7 @@ use Rattle.std.proofs.Common.{refl, sym, ap, []}
 use Rattle.dispatch_tables.specs.Members.{Members}
 use Rattle.event_loop.specs.Registry.{Left, Refused}
 use Rattle.event_loop.specs.RegistrationState.{RegistrationState, registrations_of}
-use Rattle.event_loop.specs.Subscribers.{idle}
+use Rattle.event_loop.specs.Dispatch.{with_pending}
 use Rattle.event_loop.proofs.registry.Registry.leave.Goals as goal
 
 pub returns-in-Some : goal.returns-in-Some
@@ -24,5 +24,5 @@ returns-in-Some g c =
 pub returns-in-None : goal.returns-in-None
 returns-in-None g c =
     let old = c.args.self.now in
-    let same = ap (λ (members : Members _). idle (record { values = members.by_id; next = members.next; registrations = registrations_of old.ops.epoll.registrations })) c.in-None.ensures.absent in
+    let same = ap (λ (members : Members _). with_pending [] (record { values = members.by_id; next = members.next; registrations = registrations_of old.ops.epoll.registrations })) c.in-None.ensures.absent in
     (Refused c.args.id, (refl, refl), record { stepped = (sym c.in-None.ensures.value, same); led = refl; same_taken = refl; same_capacity = refl })
