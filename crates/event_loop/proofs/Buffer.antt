@@ -1,6 +1,6 @@
 -- The positions of a buffer.
 use Rattle.std.proofs.Common.{◌≡◌, ℕ, suc, ◌+◌, ◌<◌, ◌≤◌, ◌==◌, ◌||◌, refl, sym, ap, subst, ◌∙◌, List, [], ◌∷◌, Bool, false, length, get_or, take, drop, add-one, arith, length-take, get_or-take, drop-cons, map, ℤ, Ok}
-use Rattle.std.proofs.lemmas.List.{length-take-le, drop_all}
+use Rattle.std.proofs.lemmas.List.{length-take-le}
 use Rattle.dispatch_tables.specs.Event.{Event, event_of_entry}
 use Rattle.dispatch_tables.specs.Cancelled.{HasEntered}
 use base.Stored.{Gv}

@@ -11,7 +11,7 @@ use Rattle.std.specs.FinMap.{get, insert, remove, get-insert, get-remove, same_m
 use Rattle.event_loop.specs.Prelude.{Ownership, OwnerMap, owner_of, Registrations, is_id, without_owner, AreOwnedBy}
 use Rattle.dispatch_tables.proofs.Owning.{owner_id-cond, owner_of-insert, owner_of-remove, owned_is_some, owner_id}
 use Rattle.dispatch_tables.proofs.TimesListed.{flipped, counted, contained, distinct}
-use Rattle.dispatch_tables.specs.WatchLists.{times_in, times_watched, HasOneMore, HasNone, HasSameLists}
+use Rattle.dispatch_tables.specs.WatchLists.{times_in, times_watched, HasOneMore, HasNone}
 use Rattle.event_loop.specs.Consistency.{AreWatched, AreDescriptors}
 use Rattle.event_loop.specs.Releasing.{AreWithout}
 use Rattle.dispatch_tables.specs.declared.watch_lists.WatchLists.{WatchLists}

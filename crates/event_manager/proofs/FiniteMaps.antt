@@ -107,34 +107,24 @@ value_answer : {V : Type 0} (u o : Option V) (b c : Bool) → (b ≡ true → c 
 value_answer u o true c same = rw (same refl) refl
 value_answer u o false c same = refl
 
-value_unseen : {V : Type 0} (u o : Option V) (b c : Bool) → (b ≡ true → c ≡ false) → cond c (cond b u o) None ≡ cond c o None
-value_unseen u o true c apart = rw (apart refl) refl
-value_unseen u o false c apart = refl
+at_own : {V : Type 0} (o p : Option V) (b : Bool) → (b ≡ true → o ≡ p) → cond b o None ≡ cond b p None
+at_own o p true same = same refl
+at_own o p false same = refl
 
-pub only_outcome-insert_own : {V : Type 0} (i : ℕ) (values : FinMap nat_cmp V) (v : V) → only_values i (insert values i v) ≡ insert (only_values i values) i v
-only_outcome-insert_own i values v = same_map nat_cmp_total nat_cmp-IsAntisymmetric _ _ (λ q.
+pub only_values-insert : {V : Type 0} (i : ℕ) (values : FinMap nat_cmp V) (v : V) → only_values i (insert values i v) ≡ insert (only_values i values) i v
+only_values-insert i values v = same_map nat_cmp_total nat_cmp-IsAntisymmetric _ _ (λ q.
     get_only i (insert values i v) q
     ∙ ap (λ o. cond (q == i) o None) (get-insert nat_cmp_total values i v q)
     ∙ value_answer (Some v) (get values q) (eq_by_cmp nat_cmp q i) (q == i) (λ e. eq-eqb q i (nat_tied q i e))
     ∙ sym (get-insert nat_cmp_total (only_values i values) i v q ∙ ap (λ o. cond (eq_by_cmp nat_cmp q i) (Some v) o) (get_only i values q)))
 
-pub only_outcome-insert_other : {V : Type 0} (i j : ℕ) (values : FinMap nat_cmp V) (v : V) → j ≢ i → only_values i (insert values j v) ≡ only_values i values
-only_outcome-insert_other i j values v differ = same_map nat_cmp_total nat_cmp-IsAntisymmetric _ _ (λ q.
-    get_only i (insert values j v) q
-    ∙ ap (λ o. cond (q == i) o None) (get-insert nat_cmp_total values j v q)
-    ∙ value_unseen (Some v) (get values q) (eq_by_cmp nat_cmp q j) (q == i) (λ e. ne_eqb q i (λ s. differ (sym (nat_tied q j e) ∙ s)))
-    ∙ sym (get_only i values q))
-
-pub only_outcome-remove_own : {V : Type 0} (i : ℕ) (values : FinMap nat_cmp V) → only_values i (remove values i) ≡ remove (only_values i values) i
-only_outcome-remove_own i values = same_map nat_cmp_total nat_cmp-IsAntisymmetric _ _ (λ q.
+pub only_values-remove : {V : Type 0} (i : ℕ) (values : FinMap nat_cmp V) → only_values i (remove values i) ≡ remove (only_values i values) i
+only_values-remove i values = same_map nat_cmp_total nat_cmp-IsAntisymmetric _ _ (λ q.
     get_only i (remove values i) q
     ∙ ap (λ o. cond (q == i) o None) (get-remove nat_cmp_total values i q)
     ∙ value_answer None (get values q) (eq_by_cmp nat_cmp q i) (q == i) (λ e. eq-eqb q i (nat_tied q i e))
     ∙ sym (get-remove nat_cmp_total (only_values i values) i q ∙ ap (λ o. cond (eq_by_cmp nat_cmp q i) None o) (get_only i values q)))
 
-pub only_outcome-remove_other : {V : Type 0} (i j : ℕ) (values : FinMap nat_cmp V) → j ≢ i → only_values i (remove values j) ≡ only_values i values
-only_outcome-remove_other i j values differ = same_map nat_cmp_total nat_cmp-IsAntisymmetric _ _ (λ q.
-    get_only i (remove values j) q
-    ∙ ap (λ o. cond (q == i) o None) (get-remove nat_cmp_total values j q)
-    ∙ value_unseen None (get values q) (eq_by_cmp nat_cmp q j) (q == i) (λ e. ne_eqb q i (λ s. differ (sym (nat_tied q j e) ∙ s)))
-    ∙ sym (get_only i values q))
+pub only_values-same : {V : Type 0} (i : ℕ) (values others : FinMap nat_cmp V) → get values i ≡ get others i → only_values i values ≡ only_values i others
+only_values-same i values others same = same_map nat_cmp_total nat_cmp-IsAntisymmetric _ _ (λ q.
+    get_only i values q ∙ at_own (get values q) (get others q) (q == i) (λ e. ap (get values) (eqb-true q i e) ∙ same ∙ sym (ap (get others) (eqb-true q i e))) ∙ sym (get_only i others q))

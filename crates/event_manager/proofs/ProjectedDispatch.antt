@@ -6,11 +6,12 @@ use Rattle.event_loop.specs.Prelude.{Event, owner_of, PollerCall, Exchanges, rem
 use Rattle.event_manager.specs.Projection.{owned_by, only_values, projected_registrations, projected_registry, receiver_of, asks_to_add, adds}
 use Rattle.std.proofs.lemmas.List.Elements.{All-nil, All-cons}
 use Rattle.dispatch_tables.proofs.DispatchOrders.{nil_cons, head_is, tail_is}
-use Rattle.event_manager.proofs.FiniteMaps.{only_outcome-insert_own, only_outcome-insert_other}
-use Rattle.event_manager.proofs.ProjectedExchanges.{IsMine, own_exchanges, other_exchanges, owned_projected, owned_from_projected, projected_is_own, calls_first, calls_then, adds_first, adds_then}
-use Rattle.event_loop.proofs.ExchangeLemmas.{or_false}
+use Rattle.event_manager.proofs.FiniteMaps.{only_values-insert}
+use Rattle.event_manager.proofs.ProjectedExchanges.{IsMine, own_exchanges, other_exchanges, owned_projected, owned_from_projected, projected_is_own, asked_first, asked_then, adds_first, adds_then}
+use Rattle.event_loop.proofs.ExchangeLemmas.{or_false, exchanges_keep_endpoint}
 use Rattle.event_loop.proofs.Positions.{is_removed-push}
-use Rattle.event_manager.proofs.ProjectedSteps.{has_projected, has_from_projected}
+use Rattle.event_manager.proofs.ProjectedSteps.{projected_with, untouched_projected, has_projected, has_from_projected}
+use Rattle.event_manager.proofs.Isolation.{isolated_delivery}
 use Rattle.std.specs.List.{flat_map}
 
 -- the exchanges of id i in an outcome; in positions
@@ -45,10 +46,6 @@ pub data Woven {V : Type 0} (i : ℕ) (mine : ℕ → Bool) : List (Position V) 
   skipped : (d : Position V) {a b : List (Position V)} → mine d.event.fd ≡ false → only_outcome i d.outcome ≡ Nobody → Woven i mine a b → Woven i mine (d ∷ a) b
   added : (d : Position V) {a b : List (Position V)} → mine d.event.fd ≡ false → only_outcome i d.outcome ≡ Nobody → Woven i mine a b → Woven i mine a (only_position i d ∷ b)
 
--- the projected registry, with these events pending
-abbrev projected_with : {V : Type 0} → ℕ → ℕ → List Event → Registry V → Registry V
-projected_with i n pending r = record { values = only_values i r.values; next = n; registrations = projected_registrations i pending r.registrations }
-
 module _ {V : Type 0} (serves : Serves V) (i : ℕ) (mine : ℕ → Bool) (n : ℕ) where
   abbrev IsClaimed : Exchanges → Type 0
   IsClaimed exchanges = (fd : ℕ) → asks_to_add fd exchanges ≡ true → mine fd ≡ true
@@ -77,7 +74,7 @@ module _ {V : Type 0} (serves : Serves V) (i : ℕ) (mine : ℕ → Bool) (n : �
           (owned_projected i before.registrations.owners e.fd for.0, agree ∙ for.1, has_projected i before.values value for.2),
           serving,
           t.fits,
-          ap (projected_with i n t.left) is ∙ ap (λ (v : FinMap nat_cmp V). record { values = v; next = n; registrations = projected_registrations i t.left registrations }) (only_outcome-insert_own i before.values held),
+          ap (projected_with i n t.left) is ∙ ap (λ (v : FinMap nat_cmp V). record { values = v; next = n; registrations = projected_registrations i t.left registrations }) (only_values-insert i before.values held),
         );
         still = subst (λ (r : Registry V). IsMine i mine r.registrations.owners) (sym is) t.still;
         next = ap (λ (r : Registry V). r.next) is;
@@ -132,7 +129,8 @@ module _ {V : Type 0} (serves : Serves V) (i : ℕ) (mine : ℕ → Bool) (n : �
         | inr p ↦
             let t = other_exchanges i j mine before.registrations exchanges calls registrations p.1 m (λ fd a. foreign fd j p.1 (ap (λ b. adds fd (if b then exchanges else [])) (eq-eqb j j refl) ∙ a)) fits in
             record {
-              same = λ q. ap (projected_with i n q) is ∙ (λ k. record { values = only_outcome-insert_other i j before.values held p.1 k; next = n; registrations = t.same q k });
+              same = λ q. untouched_projected i n q before after (isolated_delivery serves before gone e (To j exchanges calls held) after (value, registrations, for, serving, fits, is) i p.0)
+                  (ap (λ (r : Registry V). r.registrations.endpoint) is ∙ exchanges_keep_endpoint j before.registrations exchanges calls registrations fits);
               still = subst (λ (r : Registry V). IsMine i mine r.registrations.owners) (sym is) t.still;
               next = ap (λ (r : Registry V). r.next) is;
               apart = t.apart;
@@ -148,7 +146,7 @@ module _ {V : Type 0} (serves : Serves V) (i : ℕ) (mine : ℕ → Bool) (n : �
   )
 
   -- all positions
-  pub record DealtAlone (before : Registry V) (pending : List Event) (removed : List (Position V)) (shown : List (Position V)) (after : Registry V) : Type 0 where
+  pub record DispatchProjected (before : Registry V) (pending : List Event) (removed : List (Position V)) (shown : List (Position V)) (after : Registry V) : Type 0 where
     pub fits : AreDispatched serves (projected_with i n pending before) removed shown (projected_registry i n after)
     pub still : IsMine i mine after.registrations.owners
     pub next : after.next ≡ before.next
@@ -165,7 +163,7 @@ module _ {V : Type 0} (serves : Serves V) (i : ℕ) (mine : ℕ → Bool) (n : �
   agree_add earlier removed shown agree none fd h =
       is_removed-push fd removed shown ∙ ap (λ o. is_removed fd removed || removes fd (exchanges_of o)) none ∙ or_false _ ∙ agree fd h
 
-  pub projected_dispatch : (pending : List Event) (before : Registry V) (earlier removed : List (Position V)) (real shown : List (Position V)) (after : Registry V) → Woven i mine real shown → IsMine i mine before.registrations.owners → IsClaimed (positions_exchanges i real) → ((fd : ℕ) (j : ℕ) → j ≢ i → adds fd (positions_exchanges j real) ≡ true → mine fd ≡ false) → Agree earlier removed → AreDispatched serves before earlier real after → DealtAlone before pending removed shown after
+  pub projected_dispatch : (pending : List Event) (before : Registry V) (earlier removed : List (Position V)) (real shown : List (Position V)) (after : Registry V) → Woven i mine real shown → IsMine i mine before.registrations.owners → IsClaimed (positions_exchanges i real) → ((fd : ℕ) (j : ℕ) → j ≢ i → adds fd (positions_exchanges j real) ≡ true → mine fd ≡ false) → Agree earlier removed → AreDispatched serves before earlier real after → DispatchProjected before pending removed shown after
   projected_dispatch pending before earlier removed [] [] after ends m claimed foreign agree is = record {
     fits = ap (projected_registry i n) is;
     still = subst (λ (r : Registry V). IsMine i mine r.registrations.owners) (sym is) m;
@@ -173,9 +171,9 @@ module _ {V : Type 0} (serves : Serves V) (i : ℕ) (mine : ℕ → Bool) (n : �
   }
   projected_dispatch pending before earlier removed (_ ∷ real) (_ ∷ shown) after (both d here w) m claimed foreign agree (mid, out, more) =
       let one = one_same (with_pending (still_pending earlier (events_of real)) before) (still_pending removed (events_of shown)) _ _ d.event d.outcome mid here m
-      (λ fd t. claimed fd (calls_first fd (outcome_exchanges i d.outcome) (positions_exchanges i real) t)) (agree d.event.fd here) out in
+      (λ fd t. claimed fd (asked_first fd (outcome_exchanges i d.outcome) (positions_exchanges i real) t)) (agree d.event.fd here) out in
       let rest = projected_dispatch one.left mid (earlier ++ d ∷ []) (removed ++ only_position i d ∷ []) real shown after w one.still
-      (λ fd t. claimed fd (calls_then fd (outcome_exchanges i d.outcome) (positions_exchanges i real) t))
+      (λ fd t. claimed fd (asked_then fd (outcome_exchanges i d.outcome) (positions_exchanges i real) t))
       (λ fd j differ t. foreign fd j differ (adds_then fd (outcome_exchanges j d.outcome) (positions_exchanges j real) t))
       (agree_push earlier removed d (only_position i d) agree one.alike) more
       in
@@ -183,7 +181,7 @@ module _ {V : Type 0} (serves : Serves V) (i : ℕ) (mine : ℕ → Bool) (n : �
   projected_dispatch pending before earlier removed (_ ∷ real) shown after (skipped d there nobody w) m claimed foreign agree (mid, out, more) =
       let one = one_unseen (with_pending (still_pending earlier (events_of real)) before) _ d.event d.outcome mid there m (λ fd j differ t. foreign fd j differ (adds_first fd (outcome_exchanges j d.outcome) (positions_exchanges j real) t)) out in
       let rest = projected_dispatch pending mid (earlier ++ d ∷ []) removed real shown after w one.still
-      (λ fd t. claimed fd (calls_then fd (outcome_exchanges i d.outcome) (positions_exchanges i real) t))
+      (λ fd t. claimed fd (asked_then fd (outcome_exchanges i d.outcome) (positions_exchanges i real) t))
       (λ fd j differ t. foreign fd j differ (adds_then fd (outcome_exchanges j d.outcome) (positions_exchanges j real) t))
       (agree_skip earlier removed d agree one.apart) more
       in
@@ -211,12 +209,12 @@ module _ {V : Type 0} (serves : Serves V) (i : ℕ) (mine : ℕ → Bool) (n : �
   foreign_positions before earlier [] after m claimed foreign h = tt
   foreign_positions before earlier (d ∷ real) after m claimed foreign (mid, out, more) =
       let first : (b : Bool) → mine d.event.fd ≡ b → (mine d.event.fd ≡ false → only_outcome i d.outcome ≡ Nobody) × IsMine i mine mid.registrations.owners = elim [
-        | true ↦ λ e. let one = one_same (with_pending (still_pending earlier (events_of real)) before) [] _ _ d.event d.outcome mid e m (λ fd t. claimed fd (calls_first fd (outcome_exchanges i d.outcome) (positions_exchanges i real) t)) refl out in ((λ f. absurd (true≢false (sym e ∙ f))), one.still)
+        | true ↦ λ e. let one = one_same (with_pending (still_pending earlier (events_of real)) before) [] _ _ d.event d.outcome mid e m (λ fd t. claimed fd (asked_first fd (outcome_exchanges i d.outcome) (positions_exchanges i real) t)) refl out in ((λ f. absurd (true≢false (sym e ∙ f))), one.still)
         | false ↦ λ e. let one = one_unseen (with_pending (still_pending earlier (events_of real)) before) _ d.event d.outcome mid e m (λ fd j differ t. foreign fd j differ (adds_first fd (outcome_exchanges j d.outcome) (positions_exchanges j real) t)) out in ((λ f. one.nobody), one.still)
       ]
       in
       let p = first (mine d.event.fd) refl in
-      (p.0, foreign_positions mid (earlier ++ d ∷ []) real after p.1 (λ fd t. claimed fd (calls_then fd (outcome_exchanges i d.outcome) (positions_exchanges i real) t)) (λ fd j differ t. foreign fd j differ (adds_then fd (outcome_exchanges j d.outcome) (positions_exchanges j real) t)) more)
+      (p.0, foreign_positions mid (earlier ++ d ∷ []) real after p.1 (λ fd t. claimed fd (asked_then fd (outcome_exchanges i d.outcome) (positions_exchanges i real) t)) (λ fd j differ t. foreign fd j differ (adds_then fd (outcome_exchanges j d.outcome) (positions_exchanges j real) t)) more)
 
   abbrev on_mine : List Event → List Event
   on_mine events = filter (λ e. mine e.fd) events

@@ -1,6 +1,7 @@
 -- The projection of one id's exchanges, and of a neighbour's.
 use Rattle.std.proofs.Common.{Ok, is_ok, ◌≡◌, ◌≢◌, ℕ, cond, Bool, true, false, ◌||◌, refl, sym, ◌∙◌, ap, subst, arith, Some, None, Option, inl, inr, Err, List, [], ◌∷◌, ◌++◌, true≢false, if◌then◌else◌, ◌==◌, eq-eqb}
 use Rattle.std.specs.FinMap.{get, insert, remove}
+use Rattle.std.proofs.lemmas.Bool.{or_left, or_right, or_from}
 use Rattle.std.proofs.lemmas.Bool.Decides.{nat_tests, eqb_tells}
 use Rattle.std.proofs.lemmas.List.Folds.{list_any-append}
 use Rattle.event_loop.specs.Prelude.{Event, Registrations, PollerCall, Answer, Exchanges, Fits, by_manager, by_poller, by_agreement, ExchangesFit, IsRefusedByManager, ReachesPoller, registrations_after, removes, is_removal, Ownership, OwnerMap, owner_of, is_id}
@@ -12,7 +13,7 @@ use Rattle.dispatch_tables.specs.declared.priority.Priority.TheVariants.{Lowest}
 use Rattle.event_manager.specs.Projection.{owned_by, projected_registrations, is_add, asks_to_add, adds}
 use Rattle.dispatch_tables.proofs.NumberTests.{fd_tells}
 use Rattle.dispatch_tables.proofs.Owning.{from_insert, from_remove, owner_id}
-use Rattle.event_manager.proofs.FiniteMaps.{get-owned_by, owner_of-owned_by, owned_by-insert_own, owned_by-insert_other, owned_by-remove, owned_by-remove_other, entered}
+use Rattle.event_manager.proofs.FiniteMaps.{get-owned_by, owner_of-owned_by, owned_by-insert_own, owned_by-remove, entered}
 use Rattle.event_loop.proofs.ExchangeLemmas.{not_on}
 
 pub int_eq_same : (fd : ℕ) → (fd == fd) ≡ true
@@ -141,7 +142,6 @@ own_fits i mine pending registrations request answer calls after m claimed (by_a
 
 -- one request of a neighbour's
 pub record OtherFits (i : ℕ) (mine : ℕ → Bool) (registrations : Registrations) (request : Request) (answer : Answer) (after : Registrations) : Type 0 where
-  pub same : (pending : List Event) → projected_registrations i pending after ≡ projected_registrations i pending registrations
   pub still : IsMine i mine after.owners
   pub apart : (fd : ℕ) → mine fd ≡ true → is_removal fd request answer ≡ false
 
@@ -165,14 +165,12 @@ unasked_is_error i registrations (Remove e) answer h = (_, h.1)
 
 other_unchanged : (i : ℕ) (mine : ℕ → Bool) (registrations : Registrations) (request : Request) (answer : Answer) (after : Registrations) → IsMine i mine registrations.owners → (error : _) → answer ≡ Err error → after ≡ registrations → OtherFits i mine registrations request answer after
 other_unchanged i mine registrations request answer after m error r e = record {
-  same = λ p. ap (projected_registrations i p) e;
   still = subst (λ b. IsMine i mine b.owners) (sym e) m;
   apart = λ fd t. no_removal fd request answer error r;
 }
 
 other_entered : (i j : ℕ) (mine : ℕ → Bool) (registrations : Registrations) (e : Event) (priority : Priority) (request : Request) → j ≢ i → IsMine i mine registrations.owners → mine e.fd ≡ false → get registrations.owners e.fd ≡ None → ((fd : ℕ) → is_removal fd request (Ok tt) ≡ false) → OtherFits i mine registrations request (Ok tt) (entered j e priority registrations)
 other_entered i j mine registrations e priority request differ m foreign free none = record {
-  same = λ p k. record { owners = owned_by-insert_other i registrations.owners e.fd (record { id = j; priority = priority }) differ free k; endpoint = registrations.endpoint; pending = p };
   still = mine-insert i mine registrations.owners e.fd (record { id = j; priority = priority }) m (λ s. absurd (differ s)) (λ s. foreign);
   apart = λ fd t. none fd;
 }
@@ -180,9 +178,8 @@ other_entered i j mine registrations e priority request differ m foreign free no
 other_agreed : (i j : ℕ) (mine : ℕ → Bool) (registrations : Registrations) (request : Request) → j ≢ i → IsMine i mine registrations.owners → ((fd : ℕ) → is_add fd request ≡ true → mine fd ≡ false) → ReachesPoller j registrations request → OtherFits i mine registrations request (Ok tt) (registrations_after j request registrations)
 other_agreed i j mine registrations (Add e) differ m foreign h = other_entered i j mine registrations e Lowest (Add e) differ m (foreign e.fd (int_eq_same e.fd)) h.0 (λ fd. refl)
 other_agreed i j mine registrations (AddWithPriority e priority) differ m foreign h = other_entered i j mine registrations e priority (AddWithPriority e priority) differ m (foreign e.fd (int_eq_same e.fd)) h.0 (λ fd. refl)
-other_agreed i j mine registrations (Modify e) differ m foreign h = record { same = λ p. refl; still = m; apart = λ fd t. refl }
+other_agreed i j mine registrations (Modify e) differ m foreign h = record { still = m; apart = λ fd t. refl }
 other_agreed i j mine registrations (Remove e) differ m foreign h = record {
-  same = λ p k. record { owners = owned_by-remove_other i registrations.owners e.fd j differ h k; endpoint = registrations.endpoint; pending = p };
   still = mine-remove i mine registrations.owners e.fd m;
   apart = λ fd t. elim (fd_tells e.fd fd) [
     | inl p ↦ absurd (true≢false (sym t ∙ ap mine (sym p.1) ∙ m.other e.fd j differ h))
@@ -199,25 +196,13 @@ other_fits i j mine registrations request answer calls after differ m foreign (b
     (other_agreed i j mine registrations request differ m (λ fd t. foreign fd (ap (λ x. if is_ok x then is_add fd request else false) r ∙ t)) h))
 
 -- whole exchanges
-pub or_left : (a b : Bool) → a ≡ true → (a || b) ≡ true
-or_left true b e = refl
-or_left false b e = absurd (true≢false (sym e))
-
-pub or_right : (a b : Bool) → b ≡ true → (a || b) ≡ true
-or_right true b e = refl
-or_right false b e = e
-
-pub or_false : (a b : Bool) → a ≡ false → b ≡ false → (a || b) ≡ false
-or_false true b e h = absurd (true≢false e)
-or_false false b e h = h
-
-pub record OwnTalk (i : ℕ) (mine : ℕ → Bool) (pending : List Event) (registrations : Registrations) (exchanges : Exchanges) (calls : List PollerCall) (after : Registrations) : Type 0 where
+pub record OwnExchanges (i : ℕ) (mine : ℕ → Bool) (pending : List Event) (registrations : Registrations) (exchanges : Exchanges) (calls : List PollerCall) (after : Registrations) : Type 0 where
   pub left : List Event
   pub none : pending ≡ [] → left ≡ []
   pub fits : ExchangesFit i (projected_registrations i pending registrations) exchanges calls (projected_registrations i left after)
   pub still : IsMine i mine after.owners
 
-pub own_exchanges : (i : ℕ) (mine : ℕ → Bool) (pending : List Event) (registrations : Registrations) (exchanges : Exchanges) (calls : List PollerCall) (after : Registrations) → IsMine i mine registrations.owners → ((fd : ℕ) → asks_to_add fd exchanges ≡ true → mine fd ≡ true) → ExchangesFit i registrations exchanges calls after → OwnTalk i mine pending registrations exchanges calls after
+pub own_exchanges : (i : ℕ) (mine : ℕ → Bool) (pending : List Event) (registrations : Registrations) (exchanges : Exchanges) (calls : List PollerCall) (after : Registrations) → IsMine i mine registrations.owners → ((fd : ℕ) → asks_to_add fd exchanges ≡ true → mine fd ≡ true) → ExchangesFit i registrations exchanges calls after → OwnExchanges i mine pending registrations exchanges calls after
 own_exchanges i mine pending registrations [] calls after m claimed h = record {
   left = pending;
   none = λ z. z;
@@ -234,14 +219,12 @@ own_exchanges i mine pending registrations (exchange ∷ exchanges) calls after 
       still = others.still;
     }
 
-pub record OtherTalk (i : ℕ) (mine : ℕ → Bool) (registrations : Registrations) (exchanges : Exchanges) (after : Registrations) : Type 0 where
-  pub same : (pending : List Event) → projected_registrations i pending after ≡ projected_registrations i pending registrations
+pub record OtherExchanges (i : ℕ) (mine : ℕ → Bool) (registrations : Registrations) (exchanges : Exchanges) (after : Registrations) : Type 0 where
   pub still : IsMine i mine after.owners
   pub apart : (fd : ℕ) → mine fd ≡ true → removes fd exchanges ≡ false
 
-pub other_exchanges : (i j : ℕ) (mine : ℕ → Bool) (registrations : Registrations) (exchanges : Exchanges) (calls : List PollerCall) (after : Registrations) → j ≢ i → IsMine i mine registrations.owners → ((fd : ℕ) → adds fd exchanges ≡ true → mine fd ≡ false) → ExchangesFit j registrations exchanges calls after → OtherTalk i mine registrations exchanges after
+pub other_exchanges : (i j : ℕ) (mine : ℕ → Bool) (registrations : Registrations) (exchanges : Exchanges) (calls : List PollerCall) (after : Registrations) → j ≢ i → IsMine i mine registrations.owners → ((fd : ℕ) → adds fd exchanges ≡ true → mine fd ≡ false) → ExchangesFit j registrations exchanges calls after → OtherExchanges i mine registrations exchanges after
 other_exchanges i j mine registrations [] calls after differ m foreign h = record {
-  same = λ p. ap (projected_registrations i p) h.1;
   still = subst (λ b. IsMine i mine b.owners) (sym h.1) m;
   apart = λ fd t. refl;
 }
@@ -249,9 +232,8 @@ other_exchanges i j mine registrations (exchange ∷ exchanges) calls after diff
     let one = other_fits i j mine registrations exchange.0 exchange.1 first mid differ m (λ fd t. foreign fd (or_left _ _ t)) fits in
     let others = other_exchanges i j mine mid exchanges rest after differ one.still (λ fd t. foreign fd (or_right _ _ t)) more in
     record {
-      same = λ p. others.same p ∙ one.same p;
       still = others.still;
-      apart = λ fd t. or_false _ _ (one.apart fd t) (others.apart fd t);
+      apart = λ fd t. or_from _ _ (one.apart fd t) (others.apart fd t);
     }
 
 asks_to_add-append : (fd : ℕ) (a b : Exchanges) → asks_to_add fd (a ++ b) ≡ (asks_to_add fd a || asks_to_add fd b)
@@ -260,11 +242,11 @@ asks_to_add-append fd a b = list_any-append (λ (exchange : Request × Answer). 
 adds-append : (fd : ℕ) (a b : Exchanges) → adds fd (a ++ b) ≡ (adds fd a || adds fd b)
 adds-append fd a b = list_any-append (λ (exchange : Request × Answer). if is_ok exchange.1 then is_add fd exchange.0 else false) a b
 
-pub calls_first : (fd : ℕ) (a b : Exchanges) → asks_to_add fd a ≡ true → asks_to_add fd (a ++ b) ≡ true
-calls_first fd a b h = asks_to_add-append fd a b ∙ or_left _ _ h
+pub asked_first : (fd : ℕ) (a b : Exchanges) → asks_to_add fd a ≡ true → asks_to_add fd (a ++ b) ≡ true
+asked_first fd a b h = asks_to_add-append fd a b ∙ or_left _ _ h
 
-pub calls_then : (fd : ℕ) (a b : Exchanges) → asks_to_add fd b ≡ true → asks_to_add fd (a ++ b) ≡ true
-calls_then fd a b h = asks_to_add-append fd a b ∙ or_right _ _ h
+pub asked_then : (fd : ℕ) (a b : Exchanges) → asks_to_add fd b ≡ true → asks_to_add fd (a ++ b) ≡ true
+asked_then fd a b h = asks_to_add-append fd a b ∙ or_right _ _ h
 
 pub adds_first : (fd : ℕ) (a b : Exchanges) → adds fd a ≡ true → adds fd (a ++ b) ≡ true
 adds_first fd a b h = adds-append fd a b ∙ or_left _ _ h

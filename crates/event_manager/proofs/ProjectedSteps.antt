@@ -2,10 +2,13 @@
 use Rattle.std.proofs.Common.{◌≡◌, ◌≢◌, ℕ, ◌+◌, ◌<◌, ◌≤◌, ◌==◌, cond, Bool, true, false, not, refl, sym, ◌∙◌, ap, subst, arith, Some, None, Option, inl, inr, nat_cmp, List, [], true≢false, if◌then◌else◌, eq-eqb, eqb-true, le_of_eq}
 use Rattle.std.specs.FinMap.{FinMap, get}
 use Rattle.std.proofs.lemmas.Bool.Decides.{eqb_tells}
-use Rattle.event_loop.specs.Prelude.{OwnerMap, owner_of, Registrations, PollerCall, Exchanges, ExchangesFit, Begins, Registry, Step, Joined, NotJoined, Left, Replaced, Requested, Refused, Steps, is_id, id_of, without_owner, ids_end}
+use Rattle.event_loop.specs.Prelude.{Event, OwnerMap, owner_of, Registrations, PollerCall, Exchanges, ExchangesFit, Begins, Registry, Step, Joined, NotJoined, Left, Replaced, Requested, Refused, Steps, is_id, id_of, without_owner, ids_end}
 use Rattle.event_manager.specs.Projection.{only_values, projected_registrations, projected_registry, step_exchanges, asks_to_add, adds}
 use Rattle.event_loop.proofs.WithoutOwner.{owner_of-without_owner}
-use Rattle.event_manager.proofs.FiniteMaps.{get_only, owned_by-without_owner, owned_by-disowned_other, only_outcome-insert_own, only_outcome-insert_other, only_outcome-remove_own, only_outcome-remove_other}
+use Rattle.event_manager.proofs.FiniteMaps.{get_only, owned_by-without_owner, only_values-insert, only_values-remove, only_values-same}
+use Rattle.event_manager.specs.Guarantees.{IsUntouched}
+use Rattle.event_manager.proofs.Isolation.{isolated_step}
+use Rattle.event_loop.proofs.ExchangeLemmas.{exchanges_keep_endpoint}
 use Rattle.event_manager.proofs.ProjectedExchanges.{IsMine, own_exchanges, other_exchanges, owned_projected, owned_from_projected}
 
 -- an owner's map without an id's descriptors
@@ -21,6 +24,16 @@ from_disowned j owners fd k h = disowned_answer k j (owner_of owners fd) (sym (o
 
 pub mine-without_owner : (i j : ℕ) (mine : ℕ → Bool) (owners : OwnerMap) → IsMine i mine owners → IsMine i mine (without_owner j owners)
 mine-without_owner i j mine owners m = record { own = λ q h. m.own q (from_disowned j owners q i h); other = λ q k differ h. m.other q k differ (from_disowned j owners q k h) }
+
+-- the projected registry, with these events pending
+abbrev pub projected_with : {V : Type 0} → ℕ → ℕ → List Event → Registry V → Registry V
+projected_with i n pending r = record { values = only_values i r.values; next = n; registrations = projected_registrations i pending r.registrations }
+
+-- an id that is untouched sees no change
+pub untouched_projected : {V : Type 0} (i n : ℕ) (pending : List Event) (before after : Registry V) → IsUntouched i before after → after.registrations.endpoint ≡ before.registrations.endpoint
+    → projected_with i n pending after ≡ projected_with i n pending before
+untouched_projected i n pending before after (value, owners, left) endpoint k =
+    record { values = only_values-same i after.values before.values value k; next = n; registrations = record { owners = owners k; endpoint = endpoint k; pending = pending } }
 
 -- projected values
 pub has_projected : {V : Type 0} (i : ℕ) (values : FinMap nat_cmp V) (v : V) → get values i ≡ Some v → get (only_values i values) i ≡ Some v
@@ -64,7 +77,7 @@ module _ {V : Type 0} (begins : Begins V) where
           sym k,
           subst (λ p. ExchangesFit i (projected_registrations i [] before.registrations) exchanges calls (projected_registrations i p registrations)) (t.none refl) t.fits,
           beg,
-          ap (projected_registry i (n + 1)) e ∙ ap (λ (v : FinMap nat_cmp V). record { values = v; next = n + 1; registrations = projected_registrations i [] registrations }) (only_outcome-insert_own i before.values held),
+          ap (projected_registry i (n + 1)) e ∙ ap (λ (v : FinMap nat_cmp V). record { values = v; next = n + 1; registrations = projected_registrations i [] registrations }) (only_values-insert i before.values held),
         );
         still = subst (λ (r : Registry V). IsMine i mine r.registrations.owners) (sym e) t.still;
         joins = λ le. absurd (omega arith);
@@ -81,7 +94,7 @@ module _ {V : Type 0} (begins : Begins V) where
       has_projected i before.values value has,
       (is_owner.0, λ fd. ((λ c. owned_projected i before.registrations.owners fd ((is_owner.1 fd).0 c)), λ o. (is_owner.1 fd).1 (owned_from_projected i before.registrations.owners fd o))),
       deletes,
-      ap (projected_registry i n) e ∙ (λ k. projected_of i n (only_outcome-remove_own i before.values k) (record {
+      ap (projected_registry i n) e ∙ (λ k. projected_of i n (only_values-remove i before.values k) (record {
         owners = owned_by-without_owner i before.registrations.owners k;
         endpoint = before.registrations.endpoint;
         pending = [];
@@ -96,7 +109,7 @@ module _ {V : Type 0} (begins : Begins V) where
     next = n;
     fits = (
       has_projected i before.values old has,
-      ap (projected_registry i n) e ∙ ap (λ (v : FinMap nat_cmp V). record { values = v; next = n; registrations = projected_registrations i [] before.registrations }) (only_outcome-insert_own i before.values new),
+      ap (projected_registry i n) e ∙ ap (λ (v : FinMap nat_cmp V). record { values = v; next = n; registrations = projected_registrations i [] before.registrations }) (only_values-insert i before.values new),
     );
     still = subst (λ (r : Registry V). IsMine i mine r.registrations.owners) (sym e) m;
     joins = λ le. joins (subst (λ (r : Registry V). r.next ≤ i) e le);
@@ -141,50 +154,33 @@ module _ {V : Type 0} (begins : Begins V) where
     pub still : IsMine i mine after.registrations.owners
     pub later : before.next ≤ after.next
 
-  other_same : (i : ℕ) (mine : ℕ → Bool) (before after : Registry V) → IsMine i mine before.registrations.owners → after ≡ before → OtherStep i mine before after
-  other_same i mine before after m e = record {
-    same = λ n. ap (projected_registry i n) e;
+  -- where the descriptors stay, and ids
+  other_kept : (i : ℕ) (mine : ℕ → Bool) (before made after : Registry V) → after ≡ made → made.registrations.endpoint ≡ before.registrations.endpoint → before.next ≤ made.next
+      → IsUntouched i before after → IsMine i mine made.registrations.owners → OtherStep i mine before after
+  other_kept i mine before made after e endpoint later h m = record {
+    same = λ n. untouched_projected i n [] before after h (ap (λ (r : Registry V). r.registrations.endpoint) e ∙ endpoint);
     still = subst (λ (r : Registry V). IsMine i mine r.registrations.owners) (sym e) m;
-    later = le_of_eq (sym (ap (λ (r : Registry V). r.next) e));
+    later = subst (λ (r : Registry V). before.next ≤ r.next) (sym e) later;
   }
 
   made : (j : ℕ) (exchanges : Exchanges) (fd : ℕ) → adds fd exchanges ≡ true → adds fd (if j == j then exchanges else []) ≡ true
   made j exchanges fd t = ap (λ b. adds fd (if b then exchanges else [])) (eq-eqb j j refl) ∙ t
 
-  pub other_step : (i : ℕ) (mine : ℕ → Bool) (before : Registry V) (step : Step V) (after : Registry V) → is_id i (id_of step) ≡ false → IsMine i mine before.registrations.owners → ((fd : ℕ) (j : ℕ) → j ≢ i → adds fd (step_exchanges j step) ≡ true → mine fd ≡ false) → Steps begins before step after → OtherStep i mine before after
-  other_step i mine before (Joined value id exchanges calls held) after named m foreign (registrations, capacity, is, fits, beg, e) =
-      let differ : id ≢ i = λ s. true≢false (sym (eq-eqb id i s) ∙ named) in
-      let t = other_exchanges i id mine before.registrations exchanges calls registrations differ m (λ fd a. foreign fd id differ (made id exchanges fd a)) fits in
-      record {
-        same = λ n. ap (projected_registry i n) e ∙ (λ k. projected_of i n (only_outcome-insert_other i id before.values held differ k) (t.same [] k));
-        still = subst (λ (r : Registry V). IsMine i mine r.registrations.owners) (sym e) t.still;
-        later = let grown : after.next ≡ before.next + 1 = ap (λ (r : Registry V). r.next) e in omega arith;
-      }
-  other_step i mine before (NotJoined value error) after named m foreign h = other_same i mine before after m h.1
-  other_step i mine before (Left id value calls) after named m foreign (fds, has, is_owner, deletes, e) =
-      let differ : id ≢ i = λ s. true≢false (sym (eq-eqb id i s) ∙ named) in
-      record {
-        same = λ n. ap (projected_registry i n) e ∙ (λ k. projected_of i n (only_outcome-remove_other i id before.values differ k) (record {
-          owners = owned_by-disowned_other i before.registrations.owners id differ k;
-          endpoint = before.registrations.endpoint;
-          pending = [];
-        }));
-        still = subst (λ (r : Registry V). IsMine i mine r.registrations.owners) (sym e) (mine-without_owner i id mine before.registrations.owners m);
-        later = le_of_eq (sym (ap (λ (r : Registry V). r.next) e));
-      }
-  other_step i mine before (Replaced id old new) after named m foreign (has, e) =
-      let differ : id ≢ i = λ s. true≢false (sym (eq-eqb id i s) ∙ named) in
-      record {
-        same = λ n. ap (projected_registry i n) e ∙ (λ k. projected_of i n (only_outcome-insert_other i id before.values new differ k) (projected_registrations i [] before.registrations));
-        still = subst (λ (r : Registry V). IsMine i mine r.registrations.owners) (sym e) m;
-        later = le_of_eq (sym (ap (λ (r : Registry V). r.next) e));
-      }
-  other_step i mine before (Requested id exchanges calls) after named m foreign (value, registrations, has, fits, e) =
-      let differ : id ≢ i = λ s. true≢false (sym (eq-eqb id i s) ∙ named) in
-      let t = other_exchanges i id mine before.registrations exchanges calls registrations differ m (λ fd a. foreign fd id differ (made id exchanges fd a)) fits in
-      record {
-        same = λ n. ap (projected_registry i n) e ∙ (λ k. projected_of i n (only_values i before.values) (t.same [] k));
-        still = subst (λ (r : Registry V). IsMine i mine r.registrations.owners) (sym e) t.still;
-        later = le_of_eq (sym (ap (λ (r : Registry V). r.next) e));
-      }
-  other_step i mine before (Refused id) after named m foreign h = other_same i mine before after m h.1
+  pub other_step : (i : ℕ) (mine : ℕ → Bool) (before : Registry V) (step : Step V) (after : Registry V) → is_id i (id_of step) ≡ false → IsMine i mine before.registrations.owners
+      → ((fd : ℕ) (j : ℕ) → j ≢ i → adds fd (step_exchanges j step) ≡ true → mine fd ≡ false) → Steps begins before step after → OtherStep i mine before after
+  other_step i mine before step after named m foreign h = by_step step (isolated_step begins before step after h i named) named foreign h
+    where
+      by_step : (step : Step V) → IsUntouched i before after → is_id i (id_of step) ≡ false → ((fd : ℕ) (j : ℕ) → j ≢ i → adds fd (step_exchanges j step) ≡ true → mine fd ≡ false) → Steps begins before step after → OtherStep i mine before after
+      by_step (Joined value id exchanges calls held) u named foreign (registrations, capacity, is, fits, beg, e) =
+          let differ : id ≢ i = λ s. true≢false (sym (eq-eqb id i s) ∙ named) in
+          let t = other_exchanges i id mine before.registrations exchanges calls registrations differ m (λ fd a. foreign fd id differ (made id exchanges fd a)) fits in
+          other_kept i mine before _ after e (exchanges_keep_endpoint id before.registrations exchanges calls registrations fits) (omega arith) u t.still
+      by_step (NotJoined value error) u named foreign h = other_kept i mine before _ after h.1 refl (le_of_eq refl) u m
+      by_step (Left id value calls) u named foreign (fds, has, is_owner, deletes, e) =
+          other_kept i mine before _ after e refl (le_of_eq refl) u (mine-without_owner i id mine before.registrations.owners m)
+      by_step (Replaced id old new) u named foreign (has, e) = other_kept i mine before _ after e refl (le_of_eq refl) u m
+      by_step (Requested id exchanges calls) u named foreign (value, registrations, has, fits, e) =
+          let differ : id ≢ i = λ s. true≢false (sym (eq-eqb id i s) ∙ named) in
+          let t = other_exchanges i id mine before.registrations exchanges calls registrations differ m (λ fd a. foreign fd id differ (made id exchanges fd a)) fits in
+          other_kept i mine before _ after e (exchanges_keep_endpoint id before.registrations exchanges calls registrations fits) (le_of_eq refl) u t.still
+      by_step (Refused id) u named foreign h = other_kept i mine before _ after h.1 refl (le_of_eq refl) u m

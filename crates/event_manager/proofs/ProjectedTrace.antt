@@ -1,11 +1,12 @@
 -- The projection of a trace is a trace: non-interference.
 use Rattle.std.proofs.Common.{◌≡◌, ◌≢◌, ℕ, nat_lt, ◌+◌, ◌≤◌, Bool, true, false, ◌||◌, refl, sym, ◌∙◌, ap, ap₂, subst, cond, map, filter, Some, None, Option, ◌⊎◌, inl, inr, List, [], ◌∷◌, true≢false, if◌then◌else◌, eq-eqb, eqb-true, le-ltb, le_of_eq, arith, Ok, Err, Result}
+use Rattle.std.proofs.lemmas.Bool.{or_left, or_right, or_cases}
 use Rattle.std.proofs.lemmas.List.Elements.{All-nil, All-cons}
 use Rattle.event_loop.specs.Prelude.{Event, Exchanges, Begins, Serves, Registrations, Owns, owner_of, class_in, IsDispatchOrder, is_id, id_of, May, Position, events_of, ManagerState, JobRun, IsIteration, AreRun}
 use Rattle.event_manager.specs.Trace.{Effect, Stepped, Iterated, Entry, Matches, HasEffect, IsTrace}
 use Rattle.event_manager.specs.Projection.{projected_registrations, projected_registry, projected_state, effect_exchanges, exchanges_in, asks_to_add, adds, stays, seen_of, seen_in, IsOnly, IsProjection, NonInterference}
 use Rattle.vmm_sys.specs.declared.errno.Errno.{Errno}
-use Rattle.event_manager.proofs.ProjectedExchanges.{IsMine, same_at_mine, calls_first, calls_then, adds_first, adds_then, or_left, or_right}
+use Rattle.event_manager.proofs.ProjectedExchanges.{IsMine, same_at_mine, asked_first, asked_then, adds_first, adds_then}
 use Rattle.event_manager.proofs.ProjectedSteps.{own_step, other_step}
 use Rattle.dispatch_tables.proofs.DispatchOrders.{by_class, ordered_by_class, one_order_of_mine}
 use Rattle.event_manager.proofs.ProjectedDispatch.{AreProjected, projected_dispatch, foreign_positions, weave, woven_projected, positions_exchanges}
@@ -87,14 +88,14 @@ module _ {V J R : Type 0} (begins : Begins V) (serves : Serves V) (may : May V J
     Apart exchanges = (fd : ℕ) (j : ℕ) → j ≢ i → adds fd (exchanges j) ≡ true → mine fd ≡ false
 
     -- an iteration
-    record TurnAlone (n : ℕ) (before : ManagerState V) (waited : Result (List Event) Errno) (positions : List (Position V)) (jobs : List (JobRun V J R)) (after : ManagerState V) : Type 0 where
+    record IterationProjected (n : ℕ) (before : ManagerState V) (waited : Result (List Event) Errno) (positions : List (Position V)) (jobs : List (JobRun V J R)) (after : ManagerState V) : Type 0 where
       shown : List (Position V)
       projected : AreProjected i positions shown
       fits : IsIteration begins serves may (projected_state i n before) waited shown jobs (projected_state i n after)
       still : IsMine i mine after.registry.registrations.owners
       next : after.registry.next ≡ before.registry.next
 
-    wait_projected : (n : ℕ) (before : ManagerState V) (waited : Result (List Event) Errno) (positions : List (Position V)) (jobs : List (JobRun V J R)) (after : ManagerState V) → after.taken ≡ before.taken → IsMine i mine before.registry.registrations.owners → IsClaimed (positions_exchanges i positions) → Apart (λ j. positions_exchanges j positions) → IsIteration begins serves may before waited positions jobs after → TurnAlone n before waited positions jobs after
+    wait_projected : (n : ℕ) (before : ManagerState V) (waited : Result (List Event) Errno) (positions : List (Position V)) (jobs : List (JobRun V J R)) (after : ManagerState V) → after.taken ≡ before.taken → IsMine i mine before.registry.registrations.owners → IsClaimed (positions_exchanges i positions) → Apart (λ j. positions_exchanges j positions) → IsIteration begins serves may before waited positions jobs after → IterationProjected n before waited positions jobs after
     wait_projected n before (Err errno) positions jobs after same m claimed apart (no_positions, none, is) = record {
       shown = [];
       projected = subst (λ ps. AreProjected i ps []) (sym no_positions) (record { same = refl; only = All-nil _ });
@@ -159,8 +160,8 @@ module _ {V J R : Type 0} (begins : Begins V) (serves : Serves V) (may : May V J
         let b = trace_grows mid trace after more in
         let first : mid.taken ≡ before.taken = omega arith in
         let rest_same : after.taken ≡ mid.taken = omega arith in
-        let claimed1 : IsClaimed (effect_exchanges i entry.effect) = λ fd t. claimed fd (calls_first fd (effect_exchanges i entry.effect) (exchanges_in i trace) t) in
-        let claimed2 : IsClaimed (exchanges_in i trace) = λ fd t. claimed fd (calls_then fd (effect_exchanges i entry.effect) (exchanges_in i trace) t) in
+        let claimed1 : IsClaimed (effect_exchanges i entry.effect) = λ fd t. claimed fd (asked_first fd (effect_exchanges i entry.effect) (exchanges_in i trace) t) in
+        let claimed2 : IsClaimed (exchanges_in i trace) = λ fd t. claimed fd (asked_then fd (effect_exchanges i entry.effect) (exchanges_in i trace) t) in
         let apart1 : Apart (λ j. effect_exchanges j entry.effect) = λ fd j differ t. apart fd j differ (adds_first fd (effect_exchanges j entry.effect) (exchanges_in j trace) t) in
         let apart2 : Apart (λ j. exchanges_in j trace) = λ fd j differ t. apart fd j differ (adds_then fd (effect_exchanges j entry.effect) (exchanges_in j trace) t) in
         elim (effect_projected n before entry.effect mid first m claimed1 apart1 joins has_effect) [
@@ -180,10 +181,6 @@ module _ {V J R : Type 0} (begins : Begins V) (serves : Serves V) (may : May V J
               )
         ]
 
-  or_split : (a b : Bool) → (a || b) ≡ true → (a ≡ true) ⊎ (b ≡ true)
-  or_split true b h = inl refl
-  or_split false b h = inr h
-
   not_true : (b : Bool) → (b ≡ true → ⊥) → b ≡ false
   not_true true h = absurd (h refl)
   not_true false h = refl
@@ -191,7 +188,7 @@ module _ {V J R : Type 0} (begins : Begins V) (serves : Serves V) (may : May V J
   pub non_interference : (before : ManagerState V) (trace : List (Entry V J R)) (after : ManagerState V) → IsTrace begins serves may before trace after → NonInterference begins serves may before trace after
   non_interference before trace after h i same apart =
       let mine : ℕ → Bool = λ fd. is_id i (owner_of before.registry.registrations.owners fd) || asks_to_add fd (exchanges_in i trace) in
-      let claims : (fd : ℕ) → mine fd ≡ true → Owns i before.registry.registrations fd ⊎ (asks_to_add fd (exchanges_in i trace) ≡ true) = λ fd e. elim (or_split (is_id i (owner_of before.registry.registrations.owners fd)) (asks_to_add fd (exchanges_in i trace)) e) [ inl p ↦ inl (is_id_Some i _ p) | inr p ↦ inr p ] in
+      let claims : (fd : ℕ) → mine fd ≡ true → Owns i before.registry.registrations fd ⊎ (asks_to_add fd (exchanges_in i trace) ≡ true) = λ fd e. elim (or_cases (is_id i (owner_of before.registry.registrations.owners fd)) (asks_to_add fd (exchanges_in i trace)) e) [ inl p ↦ inl (is_id_Some i _ p) | inr p ↦ inr p ] in
       trace_projected i mine (if nat_lt i before.registry.next then before.registry.next else i) before trace after same
       (record {
         own = λ fd e. or_left _ _ (ap (is_id i) e ∙ eq-eqb i i refl);
