@@ -30,7 +30,9 @@ module _ {M : Type 0} where
   abbrev pub StepsTo : Step M → Told M → Told M → Type 0
   StepsTo (Send message) before after = (answer : Result (Unit {0}) (SendError M)) × IsSend raises before.messages before.value message answer after.messages after.value
   StepsTo Ring before after = (answer : Result (Unit {0}) Errno) × raises before.value answer after.value × (after.messages ≡ before.messages)
-  StepsTo Take before after = (list : List M) × (answer : Result (Unit {0}) AllocError) × (longer : List M) × IsTaken before.messages list answer after.messages longer × IsSettled lowers before.messages before.value after.messages after.value
+  StepsTo Take before after =
+      (list : List M) × (answer : Result (Unit {0}) AllocError) × (longer : List M) × IsTaken before.messages list answer after.messages longer
+      × IsSettled lowers before.messages before.value after.messages after.value
   StepsTo Receive before after = (answer : Option M) × IsReceived before.messages answer after.messages × IsSettled lowers before.messages before.value after.messages after.value
   StepsTo Close before after = (all : List M) × IsClosed before.messages all after.messages × IsSettled lowers before.messages before.value after.messages after.value
   StepsTo Join before after = (answer : Result (Unit {0}) AllocError) × IsJoined before.messages answer after.messages × (after.value ≡ before.value)

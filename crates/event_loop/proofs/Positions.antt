@@ -11,8 +11,7 @@ use Rattle.dispatch_tables.specs.Members.{with_member}
 use Rattle.event_loop.specs.Prelude.{Event, Registrations, Owns, owner_of, class_in, IsDispatchOrder, PollerCall, Wait, Exchanges, ExchangesFit, removes, Serves, HasId, Nobody, To, Position, exchanges_of, is_removed, still_pending, events_of, with_pending, IsOutcome, AreDispatched, calls_of_outcome, calls_of_positions, is_reported, AreMade, Controls, Waits, Leads}
 use Rattle.dispatch_tables.specs.Owners.{ownership_of}
 use Rattle.dispatch_tables.specs.declared.owners.Owner.{Owner}
-use Rattle.dispatch_tables.proofs.DispatchOrders.{nil_cons, head_is, tail_is}
-use Rattle.dispatch_tables.proofs.DispatchOrders.{ordered_permutation}
+use Rattle.dispatch_tables.proofs.DispatchOrders.{nil_cons, head_is, tail_is, ordered_permutation}
 use Rattle.event_loop.specs.RegistrationState.{RegistrationState, not_cancelled, registrations_of, cancel_removed, all_pending, HasWaited}
 use Rattle.event_loop.proofs.DispatchSoFar.{AreDispatchedSoFar, so_far_none, so_far_more, so_far_all}
 use Rattle.event_loop.specs.Subscribers.{registry_of, loop_state, TakesPosition, IsDispatched, IsBatch}

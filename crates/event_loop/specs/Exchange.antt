@@ -49,7 +49,9 @@ call_for request answer = Control (operation_of request) (event_of request).fd (
 -- whether the descriptor of an event may be added, as far as the registrations say
 abbrev pub IsVacant : Registrations → Event → Answer → Type 0
 IsVacant registrations e (Ok entry) = IsFree registrations e.fd × ¬ (e.fd ≡ registrations.endpoint)
-IsVacant registrations e (Err error) = (¬ IsFree registrations e.fd × (error ≡ FdAlreadyRegistered)) ⊎ (IsFree registrations e.fd × (e.fd ≡ registrations.endpoint) × (error ≡ Epoll (record { 0 = pos 17 })))
+IsVacant registrations e (Err error) =
+    (¬ IsFree registrations e.fd × (error ≡ FdAlreadyRegistered))
+    ⊎ (IsFree registrations e.fd × (e.fd ≡ registrations.endpoint) × (error ≡ Epoll (record { 0 = pos 17 })))
 
 -- what an addition is answered without the poller being asked: a descriptor that someone owns, the
 -- endpoint's, or no memory, in this order
@@ -67,7 +69,8 @@ IsRefusedByManager i registrations request answer =
 -- whether the request reaches the poller
 abbrev pub ReachesPoller : ℕ → Registrations → Request → Type 0
 ReachesPoller i registrations request =
-    MatchOption (added request) (Owns i registrations (event_of request).fd) (λ priority. IsFree registrations (event_of request).fd × ¬ ((event_of request).fd ≡ registrations.endpoint))
+    MatchOption (added request) (Owns i registrations (event_of request).fd)
+    (λ priority. IsFree registrations (event_of request).fd × ¬ ((event_of request).fd ≡ registrations.endpoint))
 
 -- the registrations once the poller agreed: id i owns what it added; what it removed is free, and its events are pending no more
 abbrev pub registrations_after : ℕ → Request → Registrations → Registrations
@@ -80,8 +83,10 @@ registrations_after i request registrations =
 -- From these registrations, id i may get this answer to the request after these poller calls, and leave the registrations after.
 pub data Fits (i : ℕ) (registrations : Registrations) (request : Request) (answer : Answer) (calls : List PollerCall) (after : Registrations) : Type 0 where
   by_manager : IsRefusedByManager i registrations request answer → calls ≡ [] → after ≡ registrations → Fits i registrations request answer calls after
-  by_poller : (number : ℤ) → ReachesPoller i registrations request → calls ≡ call_for request (Err (record { 0 = number })) ∷ [] → answer ≡ refused number → after ≡ registrations → Fits i registrations request answer calls after
-  by_agreement : ReachesPoller i registrations request → calls ≡ call_for request (Ok tt) ∷ [] → answer ≡ Ok tt → after ≡ registrations_after i request registrations → Fits i registrations request answer calls after
+  by_poller : (number : ℤ) → ReachesPoller i registrations request → calls ≡ call_for request (Err (record { 0 = number })) ∷ [] → answer ≡ refused number
+      → after ≡ registrations → Fits i registrations request answer calls after
+  by_agreement : ReachesPoller i registrations request → calls ≡ call_for request (Ok tt) ∷ [] → answer ≡ Ok tt
+      → after ≡ registrations_after i request registrations → Fits i registrations request answer calls after
 
 -- a list of requests with their answers
 abbrev pub Exchanges : Type 0
@@ -144,7 +149,8 @@ AsksAllAndKeeps requests kept exchanges = (requests_of exchanges ≡ requests) �
 abbrev pub ExchangesFit : ℕ → Registrations → Exchanges → List PollerCall → Registrations → Type 0
 ExchangesFit i registrations [] calls after = (calls ≡ []) × (after ≡ registrations)
 ExchangesFit i registrations (exchange ∷ exchanges) calls after =
-    (first : List PollerCall) × (rest : List PollerCall) × (mid : Registrations) × (calls ≡ first ++ rest) × Fits i registrations exchange.0 exchange.1 first mid × ExchangesFit i mid exchanges rest after
+    (first : List PollerCall) × (rest : List PollerCall) × (mid : Registrations) × (calls ≡ first ++ rest)
+    × Fits i registrations exchange.0 exchange.1 first mid × ExchangesFit i mid exchanges rest after
 
 -- whether the exchange is an agreed Remove of the descriptor; whether the exchanges hold one
 abbrev pub is_removal : ℕ → Request → Answer → Bool

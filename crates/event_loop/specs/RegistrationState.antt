@@ -2,13 +2,12 @@
 use Rattle.std.specs.Prelude.{◌≡◌, ℕ, ◌==◌, Bool, false, not, ◌||◌, List, [], ◌∷◌, map, filter, refl, Result, Ok, Err, length}
 use Rattle.vmm_sys.specs.declared.errno.Errno.{Errno}
 use Rattle.std.specs.Coded.{Coded, code_by, coded×, coded_ℕ, coded_bool, coded_list}
-use Rattle.dispatch_tables.specs.Event.{Event}
+use Rattle.dispatch_tables.specs.Event.{Event, event_code}
 use Rattle.dispatch_tables.specs.Ownership.{OwnerMap, owner_map_code}
 use Rattle.event_loop.specs.Registrations.{Registrations}
 use Rattle.event_loop.specs.DispatchOrder.{IsDispatchOrder}
 use Rattle.event_loop.specs.Registry.{without_owner}
 use Rattle.event_loop.specs.Exchange.{Exchanges, removes}
-use Rattle.dispatch_tables.specs.Event.{event_code}
 
 pub record RegistrationState : Type 0 where
   pub owners : OwnerMap

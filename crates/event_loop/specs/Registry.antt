@@ -78,7 +78,8 @@ module _ {V : Type 0} (begins : Begins V) where
       × (after ≡ record before { values = map.remove before.values id; registrations = record before.registrations { owners = without_owner id before.registrations.owners } })
   Steps before (Replaced id old new) after = HasId before id old × (after ≡ record before { values = map.insert before.values id new })
   Steps before (Requested id exchanges calls) after =
-      (value : V) × (registrations : Registrations) × HasId before id value × ExchangesFit id before.registrations exchanges calls registrations × (after ≡ record before { registrations = registrations })
+      (value : V) × (registrations : Registrations) × HasId before id value × ExchangesFit id before.registrations exchanges calls registrations
+      × (after ≡ record before { registrations = registrations })
   Steps before (Refused id) after = LacksId before id × (after ≡ before)
 
 -- the poller calls that a step made

@@ -1,9 +1,8 @@
 -- What was asked for through an `EventOps`.
 use Rattle.std.specs.Prelude.{◌≡◌, ℕ, List, []}
-use Rattle.event_loop.specs.PollerCall.{PollerCall}
+use Rattle.event_loop.specs.PollerCall.{PollerCall, Controls, Waits, Leads}
 use Rattle.event_loop.specs.Exchange.{Exchanges, ExchangesFit}
 use Rattle.event_loop.specs.RegistrationState.{registrations_of, cancel_removed}
-use Rattle.event_loop.specs.PollerCall.{Controls, Waits, Leads}
 use Rattle.event_loop.specs.LoopState.{LoopState}
 use Rattle.event_loop.specs.declared.epoll.EpollWrapper.{EpollWrapper}
 use Rattle.event_loop.specs.declared.ops.EventOps.{EventOps}

@@ -61,7 +61,8 @@ Notices endpoint (Err errno) (Ok batch) = batch.endpoint_ready ≡ false
 Notices endpoint waited (Err error) = Unit {0}
 
 -- one wait with the capacity, and the dispatch of what that wait reported
-pub record IsBatch {S P : Type 0} (serves : Serves S) (controls : Controls P) (waits : Waits P) (before : LoopState S P) (ms : ℤ) (result : Result Batch Error) (after : LoopState S P) : Type 0 where
+pub record IsBatch {S P : Type 0} (serves : Serves S) (controls : Controls P) (waits : Waits P)
+    (before : LoopState S P) (ms : ℤ) (result : Result Batch Error) (after : LoopState S P) : Type 0 where
   pub waited : Result (List Event) Errno
   pub positions : List (Position S)
   pub answer : count_of result ≡ answer_of waited

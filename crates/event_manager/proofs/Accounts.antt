@@ -9,8 +9,7 @@ use Rattle.event_loop.specs.declared.error.Error.TheVariants.{ChannelSend, Chann
 use Rattle.event_manager.specs.declared.jobs.queue.Entry.{Entry}
 use Rattle.event_manager.specs.declared.jobs.account.Step.{Step}
 use Rattle.event_manager.specs.declared.jobs.account.Step.TheVariants.{Send, Take, Close}
-use Rattle.event_manager.specs.JobQueue.{QueueState, IsSend, after_take, after_close, most, with_job}
-use Rattle.event_manager.specs.JobQueue.{tickets_and_jobs}
+use Rattle.event_manager.specs.JobQueue.{QueueState, IsSend, after_take, after_close, most, with_job, tickets_and_jobs}
 use Rattle.event_manager.specs.Account.{has_close, has_take, open_part, offered, before_last_take, numbered, accepted, handed_out, rung, answer, answers_after, answers_of, IsReplayed}
 
 module _ {J : Type 0} where

@@ -5,46 +5,45 @@ use Rattle.event_loop.specs.declared.error.Error.{Error}
 use Rattle.event_loop.specs.declared.error.Error.TheVariants.{ChannelSend, EventFd, TicketsUsedUp, OutOfMemory}
 use Rattle.event_manager.specs.declared.jobs.account.Step.{Step}
 use Rattle.event_manager.specs.declared.jobs.account.Step.TheVariants.{Send, Take, Close}
-use Rattle.event_manager.specs.JobQueue.{QueueState, IsSend, after_take, after_close, most}
-use Rattle.event_manager.specs.JobQueue.{tickets_and_jobs}
+use Rattle.event_manager.specs.JobQueue.{QueueState, IsSend, after_take, after_close, most, tickets_and_jobs}
 
 -- after n accepted jobs, where the bell answers so
 abbrev pub rung : ℕ → Result (Unit {0}) Errno → Result ℕ Error
 rung n (Ok u) = Ok (n + 1)
-rung n (Err e) = Err (EventFd e)
+rung n (Err errno) = Err (EventFd errno)
 
 module _ {J : Type 0} where
   abbrev pub has_close : List (Step J) → Bool
   has_close [] = false
-  has_close (Send job bell ∷ ss) = has_close ss
-  has_close (Take ∷ ss) = has_close ss
-  has_close (Close ∷ ss) = true
+  has_close (Send job bell ∷ steps) = has_close steps
+  has_close (Take ∷ steps) = has_close steps
+  has_close (Close ∷ steps) = true
 
   abbrev pub has_take : List (Step J) → Bool
   has_take [] = false
-  has_take (Send job bell ∷ ss) = has_take ss
-  has_take (Take ∷ ss) = true
-  has_take (Close ∷ ss) = has_take ss
+  has_take (Send job bell ∷ steps) = has_take steps
+  has_take (Take ∷ steps) = true
+  has_take (Close ∷ steps) = has_take steps
 
   -- all before the first close
   abbrev pub open_part : List (Step J) → List (Step J)
   open_part [] = []
-  open_part (Send job bell ∷ ss) = Send job bell ∷ open_part ss
-  open_part (Take ∷ ss) = Take ∷ open_part ss
-  open_part (Close ∷ ss) = []
+  open_part (Send job bell ∷ steps) = Send job bell ∷ open_part steps
+  open_part (Take ∷ steps) = Take ∷ open_part steps
+  open_part (Close ∷ steps) = []
 
   -- the jobs of the sends whose bell answers Ok
   abbrev pub offered : List (Step J) → List J
   offered [] = []
-  offered (Send job (Ok u) ∷ ss) = job ∷ offered ss
-  offered (Send job (Err e) ∷ ss) = offered ss
-  offered (Take ∷ ss) = offered ss
-  offered (Close ∷ ss) = offered ss
+  offered (Send job (Ok u) ∷ steps) = job ∷ offered steps
+  offered (Send job (Err errno) ∷ steps) = offered steps
+  offered (Take ∷ steps) = offered steps
+  offered (Close ∷ steps) = offered steps
 
   -- all before the last take, and nothing where there is none
   abbrev pub before_last_take : List (Step J) → List (Step J)
   before_last_take [] = []
-  before_last_take (s ∷ ss) = cond (has_take ss) (s ∷ before_last_take ss) []
+  before_last_take (step ∷ steps) = cond (has_take steps) (step ∷ before_last_take steps) []
 
   -- the n-th has ticket n
   abbrev pub numbered : ℕ → List J → List (ℕ × J)
@@ -52,11 +51,11 @@ module _ {J : Type 0} where
   numbered n (job ∷ jobs) = (n + 1, job) ∷ numbered (n + 1) jobs
 
   abbrev pub accepted : List (Step J) → List J
-  accepted ss = take most (offered (open_part ss))
+  accepted steps = take most (offered (open_part steps))
 
   -- what the takes hand out, put together
   abbrev pub handed_out : List (Step J) → List (ℕ × J)
-  handed_out ss = numbered 0 (take most (offered (before_last_take (open_part ss))))
+  handed_out steps = numbered 0 (take most (offered (before_last_take (open_part steps))))
 
   -- what a send answers after these steps, where its bell answers so
   abbrev pub answer : List (Step J) → Result (Unit {0}) Errno → Result ℕ Error
@@ -65,15 +64,21 @@ module _ {J : Type 0} where
   -- what the sends of the second list answer after the steps of the first
   abbrev pub answers_after : List (Step J) → List (Step J) → List (Result ℕ Error)
   answers_after before [] = []
-  answers_after before (Send job bell ∷ ss) = answer before bell ∷ answers_after (before ++ (Send job bell ∷ [])) ss
-  answers_after before (Take ∷ ss) = answers_after (before ++ (Take ∷ [])) ss
-  answers_after before (Close ∷ ss) = answers_after (before ++ (Close ∷ [])) ss
+  answers_after before (Send job bell ∷ steps) = answer before bell ∷ answers_after (before ++ (Send job bell ∷ [])) steps
+  answers_after before (Take ∷ steps) = answers_after (before ++ (Take ∷ [])) steps
+  answers_after before (Close ∷ steps) = answers_after (before ++ (Close ∷ [])) steps
 
   abbrev pub answers_of : List (Step J) → List (Result ℕ Error)
-  answers_of ss = answers_after [] ss
+  answers_of steps = answers_after [] steps
 
   -- one step of the replay: the answers, what was handed out, and the queue
-  abbrev pub IsReplayed : Step J → QueueState J (Unit {0}) → List (Result ℕ Error) → List (ℕ × J) → QueueState J (Unit {0}) → List (Result ℕ Error) → List (ℕ × J) → Type 0
-  IsReplayed (Send job bell) q xs ts r bs us = (a : Result ℕ Error) × IsSend (λ (b : Result (Unit {0}) Errno). b ≡ bell) q job None a r × (a ≡ Err OutOfMemory → ⊥) × (bs ≡ xs ++ (a ∷ [])) × (us ≡ ts)
-  IsReplayed Take q xs ts r bs us = (r ≡ after_take q) × (bs ≡ xs) × (us ≡ ts ++ tickets_and_jobs q.waiting) × (q.closed ≡ true → q.waiting ≡ [])
-  IsReplayed Close q xs ts r bs us = (r ≡ after_close q) × (bs ≡ xs) × (us ≡ ts)
+  abbrev pub IsReplayed : Step J → QueueState J (Unit {0}) → List (Result ℕ Error) → List (ℕ × J)
+      → QueueState J (Unit {0}) → List (Result ℕ Error) → List (ℕ × J) → Type 0
+  IsReplayed (Send job bell) queue answers handed queue_after answers_now handed_now =
+      (answer : Result ℕ Error) × IsSend (λ (rung : Result (Unit {0}) Errno). rung ≡ bell) queue job None answer queue_after × (answer ≡ Err OutOfMemory → ⊥)
+      × (answers_now ≡ answers ++ (answer ∷ [])) × (handed_now ≡ handed)
+  IsReplayed Take queue answers handed queue_after answers_now handed_now =
+      (queue_after ≡ after_take queue) × (answers_now ≡ answers) × (handed_now ≡ handed ++ tickets_and_jobs queue.waiting)
+      × (queue.closed ≡ true → queue.waiting ≡ [])
+  IsReplayed Close queue answers handed queue_after answers_now handed_now =
+      (queue_after ≡ after_close queue) × (answers_now ≡ answers) × (handed_now ≡ handed)

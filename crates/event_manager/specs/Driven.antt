@@ -10,16 +10,18 @@ use Rattle.event_manager.specs.declared.calls.Reply.{Reply}
 module _ {S J R : Type 0} (begins : Begins S) (serves : Serves S) (may : May S J R) where
   module _ {P : Type 0} (controls : Controls P) (waits : Waits P) where
     -- the calls with their replies are this trace, and its poller calls lead the poller from the value before to the value after
-    pub record IsTraceOf (before : LoopState S P) (calls : List (Call S)) (replies : List (Reply S)) (after : LoopState S P) (trace : List (Entry S J R)) : Type 0 where
+    pub record IsTraceOf (before : LoopState S P) (calls : List (Call S)) (replies : List (Reply S))
+        (after : LoopState S P) (trace : List (Entry S J R)) : Type 0 where
       pub calls_are : map (λ entry. entry.call) trace ≡ calls
       pub replies_are : map (λ entry. entry.reply) trace ≡ replies
       pub is_trace : IsTrace begins serves may (manager_state before) trace (manager_state after)
       pub led : Leads controls waits before.poller (calls_of_trace before.capacity trace) after.poller
       pub same_capacity : after.capacity ≡ before.capacity
 
-  -- Of a trace: ids are given in order, each once; each held id is below the next, before and after; what was removed is refused from then on;
-  -- each owner is held, and the endpoint is never owned; a projection to an id that is apart is itself a trace, up to the
-  -- id's own part of the state after. Of any step, and of any event's outcome: the other ids keep their value, descriptors and pending events; any leave frees exactly its descriptors.
+  -- Of a trace: ids are given in order, each once; each held id is below the next, before and after; what was removed is refused
+  -- from then on; each owner is held, and the endpoint is never owned; a projection to an id that is apart is itself a trace, up to
+  -- the id's own part of the state after. Of any step, and of any event's outcome: the other ids keep their value, descriptors and
+  -- pending events; any leave frees exactly its descriptors.
   pub record IsGuaranteed (before : ManagerState S) (trace : List (Entry S J R)) (after : ManagerState S) : Type 0 where
     pub given : AreGiven before.registry.next (steps_of trace) after.registry.next
     pub below : AreBelow before.registry.next before.registry.values × AreBelow after.registry.next after.registry.values
@@ -29,10 +31,12 @@ module _ {S J R : Type 0} (begins : Begins S) (serves : Serves S) (may : May S J
     pub isolated_step : (from : Registry S) (step : Step S) (onto : Registry S) → Steps begins from step onto → (j : ℕ) → is_id j (id_of step) ≡ false → IsUntouched j from onto
     pub isolated_delivery : (from : Registry S) (removed : Bool) (event : Event) (outcome : Outcome S) (onto : Registry S)
         → IsOutcome serves from removed event outcome onto → (j : ℕ) → is_id j (receiver_of outcome) ≡ false → IsUntouched j from onto
-    pub leave_frees : (from onto : Registry S) (i : ℕ) (value : S) (calls : List PollerCall) → Steps begins from (Left i value calls) onto → FreesExactly i from.registrations onto.registrations
+    pub leave_frees : (from onto : Registry S) (i : ℕ) (value : S) (calls : List PollerCall)
+        → Steps begins from (Left i value calls) onto → FreesExactly i from.registrations onto.registrations
 
   -- the calls with their replies are a trace, of which the guarantees hold
-  pub record IsDriven {P : Type 0} (controls : Controls P) (waits : Waits P) (before : LoopState S P) (calls : List (Call S)) (replies : List (Reply S)) (after : LoopState S P) : Type 0 where
+  pub record IsDriven {P : Type 0} (controls : Controls P) (waits : Waits P) (before : LoopState S P)
+      (calls : List (Call S)) (replies : List (Reply S)) (after : LoopState S P) : Type 0 where
     pub trace : List (Entry S J R)
     pub is_trace_of : IsTraceOf controls waits before calls replies after trace
     pub guaranteed : IsGuaranteed (manager_state before) trace (manager_state after)

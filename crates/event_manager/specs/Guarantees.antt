@@ -18,7 +18,9 @@ pending_of j registrations = filter (λ e. is_id j (owner_of registrations.owner
 -- id j has the value, the descriptors at their priorities, and the pending events that it had
 abbrev pub IsUntouched : {V : Type 0} → ℕ → Registry V → Registry V → Type 0
 IsUntouched j before after =
-    (map.get after.values j ≡ map.get before.values j) × (owned_by j after.registrations.owners ≡ owned_by j before.registrations.owners) × (pending_of j after.registrations ≡ pending_of j before.registrations)
+    (map.get after.values j ≡ map.get before.values j)
+    × (owned_by j after.registrations.owners ≡ owned_by j before.registrations.owners)
+    × (pending_of j after.registrations ≡ pending_of j before.registrations)
 
 -- Each owner is in the map, and the endpoint's descriptor is never owned.
 pub record IsSound {V : Type 0} (registry : Registry V) : Type 0 where

@@ -29,7 +29,8 @@ IsReplacement id value (Ok old) step = step ≡ Replaced id old value
 IsReplacement id value (Err error) step = (error ≡ InvalidId) × (step ≡ Refused id)
 
 -- a call had this effect
-pub record HasCalled {S J R P : Type 0} (begins : Begins S) (serves : Serves S) (may : May S J R) (controls : Controls P) (waits : Waits P) (before : LoopState S P) (effect : Effect S J R) (after : LoopState S P) : Type 0 where
+pub record HasCalled {S J R P : Type 0} (begins : Begins S) (serves : Serves S) (may : May S J R) (controls : Controls P) (waits : Waits P)
+    (before : LoopState S P) (effect : Effect S J R) (after : LoopState S P) : Type 0 where
   pub had : HasEffect begins serves may (manager_state before) effect (manager_state after)
   pub led : Leads controls waits before.poller (calls_of_effect before.capacity effect) after.poller
   pub same_capacity : after.capacity ≡ before.capacity

@@ -31,8 +31,12 @@ module _ {J : Type 0} where
 
   -- while a job is to come, its sender has the lock: nobody else rings for a job, and no take and no close is made
   abbrev pub StepsTo : WakeStep J → WakeState J → WakeState J → Type 0
-  StepsTo Ring before after = (before.job_is_to_come ≡ false) × (answer : Result (Unit {0}) Errno) × rings before.value answer after.value × (after ≡ record before { value = after.value; job_is_to_come = is_ok answer })
-  StepsTo (Queue job) before after = (before.job_is_to_come ≡ true) × (answer : Result ℕ Error) × IsSend (λ rung. rung ≡ Ok tt) before.queue job None answer after.queue × (after ≡ record before { queue = after.queue; job_is_to_come = false })
+  StepsTo Ring before after =
+      (before.job_is_to_come ≡ false) × (answer : Result (Unit {0}) Errno) × rings before.value answer after.value
+      × (after ≡ record before { value = after.value; job_is_to_come = is_ok answer })
+  StepsTo (Queue job) before after =
+      (before.job_is_to_come ≡ true) × (answer : Result ℕ Error) × IsSend (λ rung. rung ≡ Ok tt) before.queue job None answer after.queue
+      × (after ≡ record before { queue = after.queue; job_is_to_come = false })
   StepsTo Kick before after = (answer : Result (Unit {0}) Errno) × rings before.value answer after.value × (after ≡ record before { value = after.value })
   StepsTo Clear before after = (answer : Result ℕ Errno) × clears before.value answer after.value × (after ≡ record before { value = after.value; take_is_to_come = true })
   StepsTo Take before after = (before.job_is_to_come ≡ false) × (after ≡ record before { queue = after_take before.queue; take_is_to_come = false })
