@@ -2,7 +2,6 @@ pub mod NumberTests
 pub mod TimesListed
 pub mod WatchListLemmas
 pub mod PlaceLemmas
-pub mod VacantPlaces
 pub mod OwnerMaps
 pub mod Counting
 pub mod RaisedOwners
