@@ -27,6 +27,10 @@ def memory():
     return 1024 * int(found[1]) if found else MEMORY
 
 
+class Ended(Exception):
+    """Why a command did not run to its end: this one was told to end."""
+
+
 class Lanes:
     """Runs commands, as many at once as there are processors and memory; none once it is told to end."""
 
@@ -40,12 +44,14 @@ class Lanes:
         with self.free:
             with self.changing:
                 if self.is_over:
-                    return "", False
+                    raise Ended
                 process = subprocess.Popen(words, cwd=folder, **how)
                 self.running.add(process)
             said, _ = process.communicate()
             with self.changing:
                 self.running.discard(process)
+                if self.is_over:
+                    raise Ended
         return said, process.returncode == 0
 
     def end(self, *_):
