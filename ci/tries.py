@@ -17,7 +17,7 @@ PASSED = "ok"
 FAILED = "failed"
 STOPPED = "stopped at its time limit"
 # What a run doesn't need of a crate.
-UNUSED = shutil.ignore_patterns("out", "must-fail", "test-fail", "proofs", "cases")
+UNUSED = shutil.ignore_patterns("out", "must-fail", "refused", "test-fail", "proofs", "cases")
 
 
 class NotRun(Exception):

@@ -1,4 +1,4 @@
-"""Wrong bodies, as files: crates/CRATE/must-fail/NAME.edit and crates/CRATE/test-fail/NAME.edit.
+"""Wrong bodies, as files: crates/CRATE/KIND/NAME.edit, where KIND is `must-fail`, `refused` or `test-fail`.
 
 An edit has a line 'file: src/lib.rt', and pairs of lines 'old: TEXT' and 'new: TEXT', each old text standing once in that file as
 the pairs before it leave it; then perhaps another file. A line that begins with '#' says why.
@@ -21,9 +21,9 @@ class Edit:
     def __init__(self, path, words=()):
         self.crate, _, file = os.path.relpath(path, f"{ROOT}/crates").split("/")
         self.name = f"{self.crate}/{file.removesuffix('.edit')}"
-        self.changes, self.said = [], {}
+        self.text, self.changes, self.said = text_of(path), [], {}
         path_in_crate = old = None
-        for line in text_of(path).splitlines():
+        for line in self.text.splitlines():
             word, colon, text = line.partition(":")
             text = text.removeprefix(" ")
             if not line.strip() or line.startswith("#"):
@@ -59,7 +59,7 @@ class Edit:
 
 
 def edits_of(crate, kind):
-    """The paths of a crate's edits of a kind, `must-fail` or `test-fail`."""
+    """The paths of a crate's edits of a kind."""
     folder = f"{ROOT}/crates/{crate}/{kind}"
     files = sorted(os.listdir(folder)) if os.path.isdir(folder) else []
     return [f"{folder}/{it}" for it in files if it.endswith(".edit")]

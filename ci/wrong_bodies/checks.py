@@ -1,0 +1,142 @@
+"""Checks of copies of a crate, a number of them beside each other.
+
+A copy of a crate is checked over the libraries below it as `rt check` or `rt ci` has built them, and begins with what a check of
+the crate as it stands has kept. So the prover of the kit is called with the words that `rt` gives it.
+"""
+
+import os
+import re
+import shutil
+import subprocess
+import threading
+
+import tries
+from command import ROOT
+from edits import text_of, write
+from verdicts import PARTS, lines_of
+
+SAID = re.compile(r"^fn ([\w:+]+): (.*)$", re.M)
+KEPT = "out/incremental"
+# What a check takes at most, with a little room.
+MEMORY = 2_500_000_000
+
+
+def memory():
+    """How much memory is free."""
+    found = re.search(r"^MemAvailable:\s+(\d+) kB", text_of("/proc/meminfo"), re.M)
+    return 1024 * int(found[1]) if found else MEMORY
+
+
+class Ended(Exception):
+    """Why a command did not run to its end: this one was told to end."""
+
+
+class Lanes:
+    """Runs commands, as many at once as there are processors and memory; none once it is told to end."""
+
+    def __init__(self):
+        self.free = threading.Semaphore(max(1, min(tries.Processors.there(), memory() // MEMORY)))
+        self.changing, self.running, self.is_over = threading.Lock(), set(), False
+
+    def run(self, words, folder):
+        """What a command says in a folder, and whether it is content."""
+        how = {"stdin": subprocess.DEVNULL, "stdout": subprocess.PIPE, "stderr": subprocess.STDOUT, "text": True, "errors": "replace"}
+        with self.free:
+            with self.changing:
+                if self.is_over:
+                    raise Ended
+                process = subprocess.Popen(words, cwd=folder, **how)
+                self.running.add(process)
+            said, _ = process.communicate()
+            with self.changing:
+                self.running.discard(process)
+                if self.is_over:
+                    raise Ended
+        return said, process.returncode == 0
+
+    def end(self, *_):
+        """Ends all that runs."""
+        self.is_over = True
+        for it in [*self.running]:
+            it.kill()
+        raise SystemExit(1)
+
+
+LANES = Lanes()
+
+
+def copy_parts(crate, folder):
+    """Copies what a check reads of a crate."""
+    for part in PARTS:
+        if os.path.isdir(f"{ROOT}/crates/{crate}/{part}"):
+            shutil.copytree(f"{ROOT}/crates/{crate}/{part}", f"{folder}/{part}")
+
+
+def link_or_copy(one, other):
+    """A second name for a file of kept work, since a check replaces such a file and writes into none."""
+    if one.endswith(".oantt"):
+        os.link(one, other)
+    else:
+        shutil.copy2(one, other)
+
+
+def copy_kept(one, other):
+    """Has checks in one folder begin with what those in another have kept, if they have."""
+    if os.path.isdir(f"{one}/{KEPT}"):
+        try:
+            shutil.copytree(f"{one}/{KEPT}", f"{other}/{KEPT}", copy_function=link_or_copy)
+        except (OSError, shutil.Error):
+            # on another disk, say: then it begins from nothing
+            shutil.rmtree(f"{other}/{KEPT}", ignore_errors=True)
+    os.makedirs(f"{other}/{KEPT}", exist_ok=True)
+
+
+def libraries_of_ci(room, crates):
+    """Lays the libraries below these crates as `rt ci` has them, which proves those that it hasn't proved yet: what it said, and
+    whether they are there."""
+    libraries = {it for crate in crates for it in tries.below(crate)}
+    if not libraries:
+        return "", True
+    os.makedirs(f"{room}/crates")
+    shutil.copy(f"{ROOT}/HANDLES", room)
+    write(f"{room}/crates.txt", "".join(lines_of(libraries)))
+    for it in libraries:
+        copy_parts(it, f"{room}/crates/{it}")
+    return LANES.run(["rt", "ci"], room)
+
+
+def words_of(crate, top):
+    """The words by which the prover reads a crate, over the libraries that are built below a folder."""
+    kit = os.path.dirname(os.path.dirname(os.path.realpath(shutil.which("rt"))))
+    below = tries.below(crate)
+    library = lambda it: f"{top}/crates/{it}/out/rlib/{it}.rlib" if it in below else f"{kit}/rlibs/{it}.rlib"
+    words = [f"{kit}/bin/rattle", "check", "--crate-name", crate, f"src/{'main' if tries.is_program(crate) else 'lib'}.rt"]
+    for it in ["std", *tries.DEPENDENCIES[crate]]:
+        words += ["--extern", f"{it}={library(it)}"]
+    for it in [f"{kit}/rlibs", *(os.path.dirname(library(it)) for it in sorted(below))]:
+        words += ["-L", f"dependency={it}"]
+    words += ["--antt-project", f"{kit}/rattle/logic/antt-project.json", "--logic-built", f"{kit}/logic_built"]
+    return [*words, "--jobs", "1", "--links", f"{crate}=", "--incremental", KEPT]
+
+
+class Copy:
+    """A copy of a crate, in which bodies are changed, over the libraries that are built below a folder."""
+
+    def __init__(self, folder, crate, top):
+        self.folder, self.words, self.texts = folder, words_of(crate, top), {}
+        copy_parts(crate, folder)
+
+    def lay(self, edit):
+        """Changes what an edit changes."""
+        for file, text in edit.applied(self.folder).items():
+            self.texts.setdefault(file, text_of(f"{self.folder}/{file}"))
+            write(f"{self.folder}/{file}", text)
+
+    def restore(self):
+        for file, text in self.texts.items():
+            write(f"{self.folder}/{file}", text)
+        self.texts = {}
+
+    def check(self, functions=()):
+        """What a check of these functions says, or of all, and whether it is content."""
+        return LANES.run([*self.words, *(word for it in sorted(functions) for word in ("--only", it))], self.folder)

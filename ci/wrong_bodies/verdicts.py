@@ -1,0 +1,64 @@
+"""Verdicts that stay: an edit that was refused is refused again, as long as nothing has changed that its verdict stands on.
+
+That is the edit, the sources, specs and proofs of its crate and of those below, their lines of crates.txt, HANDLES, the toolchain,
+and the tool itself. Each verdict is a file outside the repository, whose name is the checksum of all that.
+"""
+
+import functools
+import hashlib
+import os
+import subprocess
+import tempfile
+
+import tries
+from command import ROOT, read
+from edits import text_of
+
+FOLDER = os.path.join(os.environ.get("XDG_CACHE_HOME") or os.path.expanduser("~/.cache"), "wrong-bodies-refused")
+PARTS = ("src", "specs", "proofs")
+TOOL = os.path.dirname(os.path.abspath(__file__))
+
+
+def files_of(folder):
+    """The files below a folder, in an order of their own."""
+    return sorted(f"{at}/{it}" for at, _, files in os.walk(folder) for it in files)
+
+
+def lines_of(crates):
+    """Their lines of crates.txt, as they stand: the prover knows a crate by its line, too."""
+    lines = text_of(f"{ROOT}/crates.txt").splitlines(keepends=True)
+    return [it for it in lines if it.partition("#")[0].partition(":")[0].split()[:1] in [[crate] for crate in crates]]
+
+
+@functools.lru_cache(maxsize=None)
+def toolchain():
+    return subprocess.run(["rt", "version"], capture_output=True, check=True).stdout
+
+
+class Verdicts:
+    """Those on the edits of one crate."""
+
+    def __init__(self, crate, is_anew):
+        self.is_anew = is_anew
+        crates = sorted({*tries.below(crate), crate})
+        files = [path for it in crates for part in PARTS for path in files_of(f"{ROOT}/crates/{it}/{part}")]
+        tool = [it for it in files_of(TOOL) if "__pycache__" not in it] + [f"{ROOT}/ci/tries.py", f"{ROOT}/ci/command.py"]
+        texts = [(os.path.relpath(it, ROOT), read(it)) for it in [f"{ROOT}/HANDLES", *files, *tool]]
+        self.stands_on = hashlib.sha256(repr((toolchain(), lines_of(crates), texts)).encode()).hexdigest()
+
+    def file(self, edit):
+        return f"{FOLDER}/{hashlib.sha256(repr((self.stands_on, edit.name, edit.text)).encode()).hexdigest()}"
+
+    def kept(self, edit):
+        """Whether the edit was refused before."""
+        return not self.is_anew and os.path.isfile(self.file(edit))
+
+    def keep(self, edit, text):
+        """Keeps that it was refused, and what was said; where that can't be written, it is tried again."""
+        try:
+            os.makedirs(FOLDER, exist_ok=True)
+            with tempfile.NamedTemporaryFile("w", dir=FOLDER, delete=False, encoding="utf-8") as it:
+                it.write(f"{text}\n")
+            os.replace(it.name, self.file(edit))
+        except OSError:
+            pass
