@@ -3,7 +3,7 @@ use Rattle.std.proofs.Common.{◌≡◌, ◌≢◌, All, ℕ, ◌+◌, ◌==◌,
 use Rattle.std.proofs.lemmas.Bool.{false≢true}
 use Rattle.std.proofs.lemmas.List.Folds.{list_any_none}
 use Rattle.vmm_sys.specs.declared.errno.Errno.{Errno}
-use Rattle.event_loop.specs.Prelude.{Event, Wait, Controls, Waits, Begins, Serves, Step, calls_of, May, Position, IsIteration, is_reported, calls_of_positions, calls_of_jobs, LoopState, HasStepped, IsDispatchedAfter, IsLoopIteration}
+use Rattle.event_loop.specs.Prelude.{Event, Wait, Controls, Waits, Begins, Serves, calls_of, May, Position, IsIteration, is_reported, calls_of_positions, calls_of_jobs, LoopState, IsDispatchedAfter, IsLoopIteration}
 use Rattle.event_manager.specs.JobRuns.{HasRun, JobsAreRun}
 use Rattle.event_loop.specs.Subscribers.{IsBatch, Notices}
 use Rattle.event_loop.specs.declared.registry.Batch.{Batch}

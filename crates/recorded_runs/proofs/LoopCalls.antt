@@ -2,18 +2,18 @@
 use Rattle.std.proofs.Common.{◌≡◌, ℕ, ℤ, List, [], ◌∷◌, ◌++◌, refl, sym, ap, ◌∙◌, map, Result}
 use Rattle.std.specs.List.{AllZip}
 use Rattle.std.proofs.lemmas.List.{append-nil}
-use Rattle.event_loop.specs.Prelude.{Controls, Waits, Begins, Serves, Step, JobRun, LoopState, HasStepped, IsJoin, IsLeave, IsLoopIteration, no_job}
+use Rattle.event_loop.specs.Prelude.{Controls, Waits, Begins, Serves, Step, JobRun, LoopState, HasStepped, IsJoin, IsLoopIteration, no_job}
 use Rattle.event_loop.specs.declared.error.Error.{Error}
 use Rattle.event_manager.specs.Trace.{Effect, Stepped, Iterated, Entry, Matches}
 use Rattle.event_manager.specs.SingleCall.{HasCalled}
 use Rattle.event_manager.specs.Driven.{IsTraceOf}
-use Rattle.event_manager.specs.Determinism.{IsSameCall, HaveMemory, answers_in, jobs_of_effect, jobs_in}
-use Rattle.event_manager.specs.RecordedRun.{IsMadeAgain}
+use Rattle.recorded_runs.specs.Determinism.{IsSameCall, HaveMemory, answers_in, jobs_of_effect, jobs_in}
+use Rattle.recorded_runs.specs.RecordedRun.{IsMadeAgain}
 use Rattle.event_manager.specs.declared.calls.Call.{Call}
 use Rattle.event_manager.specs.declared.calls.Call.TheVariants as call
 use Rattle.event_manager.specs.declared.calls.Reply.{Reply}
 use Rattle.event_manager.specs.declared.calls.Reply.TheVariants as reply
-use Rattle.event_manager.proofs.TraceSoFar.{IsTracedSoFar, one_more_traced, join_matches, leave_matches, step_called, iteration_called}
+use Rattle.event_manager.proofs.TraceSoFar.{IsTracedSoFar, one_more_traced, join_matches, step_called, iteration_called}
 
 module _ {S P : Type 0} (begins : Begins S) (serves : Serves S) (controls : Controls P) (waits : Waits P) where
   -- these calls were made and replied so
