@@ -14,16 +14,9 @@ pub mod QueueLemmas
 pub mod JobLemmas
 pub mod HeardJobs
 pub mod UnknownIds
-pub mod SameExchanges
-pub mod SameSteps
-pub mod SameTrace
-pub mod RecordedCalls
-pub mod RecordedTrace
 pub mod TraceSoFar
 pub mod CallsApart
-pub mod LoopCalls
 pub mod LoopOutputs
-pub mod KeptRefusals
 pub mod OneStep
 pub use Rattle.event_loop.proofs.ExchangeLemmas
 pub use Rattle.event_loop.proofs.RequestsSoFar

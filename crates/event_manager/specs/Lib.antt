@@ -35,8 +35,6 @@ pub mod Example
 pub mod Guarantees
 pub mod Projection
 pub mod Trace
-pub mod Determinism
-pub mod RecordedRun
 pub mod Manager
 pub mod NamedCounter
 pub mod Account

@@ -17,27 +17,19 @@ ghost use Rattle.event_loop.specs.Iteration.{ManagerState};
 ghost use Rattle.event_manager.specs.Trace.{Entry, HasEffect, IsTrace, new_state};
 ghost use Rattle.event_manager.specs.Projection.{NonInterference, receiver_of};
 ghost use Rattle.event_manager.specs.Guarantees.{AreGiven, steps_of, RemovedStayGone, RemovedStayUnknown, IsSound, IsUntouched, FreesExactly};
-ghost use Rattle.vmm_sys.specs.Recording.{Recording};
-ghost use Rattle.vmm_sys.specs.Replay.{Replay};
-ghost use Rattle.event_loop.specs.LoopState.{LoopState, manager_state, no_job};
+ghost use Rattle.event_loop.specs.LoopState.{LoopState};
 ghost use Rattle.event_manager.specs.declared.calls.Call.{Call};
 ghost use Rattle.event_manager.specs.declared.calls.Reply.{Reply};
-ghost use Rattle.event_manager.specs.Determinism.{AreFunctions, IsReplay, IsTheRun};
-ghost use Rattle.event_manager.specs.Driven.{IsTraceOf, IsDriven};
-ghost use Rattle.event_manager.specs.RecordedRun.{BeginsAgain, IsMadeAgain};
+ghost use Rattle.event_manager.specs.Driven.{IsDriven};
 ghost use Rattle.event_manager.specs.WakeUps.{WakeState, AreSteps, NoJobWaitsUnheard, new_wake_state};
 ghost use Rattle.event_manager.specs.Example.{any_begins, any_serves, any_may, joins, iterates};
 ghost use Rattle.dispatch_tables.specs.Ownership.{class_in};
 
-use crate::jobs::{Job, NoJob};
+use crate::jobs::Job;
 pub use event_loop::events_are_equal;
-use event_loop::utilities::subscribers::CounterSubscriber;
 use event_loop::{EventPoller, MutEventSubscriber, Priority, SubscriberId};
 use std::cmp::Ordering;
 use std::hash::{Hash, Hasher};
-use vmm_sys::poller::Poller;
-use vmm_sys::recording_poller::RecordingPoller;
-use vmm_sys::replay_poller::ReplayPoller;
 
 /// What is done to the queue of jobs, or to the counter that wakes its loop.
 #[derive(Drop)]
@@ -137,45 +129,6 @@ pub fn driven_lists_join<S: MutEventSubscriber, J: Job<S>, P: EventPoller>()
         IsDriven S.begins S.serves J.may P.controls P.waits before (calls ++ more_calls) (replies ++ more_replies) after }
 {}
 
-/// A replay is the run: of subscribers and jobs that are functions (the answers so far decide what is asked next, and all
-/// of them the value or the reply), two traces from one state with the same calls, the same poller calls and the same jobs
-/// in each call are the same, where nothing is refused for want of memory. Each call does the same, and its reply says the
-/// same; a vector in it may lie elsewhere.
-pub fn a_replay_is_the_run<S: MutEventSubscriber, J: Job<S>>()
-    ensures { (capacity : ℕ) (before : ManagerState S) (trace replay : List (Entry S J J.Reply)) (after replayed : ManagerState S) →
-        AreFunctions S.begins S.serves J.may → IsTrace S.begins S.serves J.may before trace after →
-        IsTrace S.begins S.serves J.may before replay replayed → IsReplay capacity trace replay → IsTheRun trace replay after replayed }
-{}
-
-/// A recorded run is made again over its record: the same calls are driven over a `RecordingPoller`, from whose record none was
-/// left out, and over a `ReplayPoller`. The second manager begins as the first did, its replay at what was recorded since then.
-/// Subscribers and jobs are functions, the same jobs run in each call, and nothing is refused for want of memory. Then both
-/// runs are the same, as in `a_replay_is_the_run`, where the replay hasn't diverged by the end.
-pub fn a_recorded_run_is_made_again<S: MutEventSubscriber, J: Job<S>, P: Poller>()
-    ensures { (before after : LoopState S (Recording P)) (calls : List (Call S)) (replies : List (Reply S)) (trace : List (Entry S J J.Reply))
-        (start end : LoopState S Replay) (calls_again : List (Call S)) (replies_again : List (Reply S)) (again : List (Entry S J J.Reply)) →
-        AreFunctions S.begins S.serves J.may →
-        IsTraceOf S.begins S.serves J.may ⟦<RecordingPoller<P> as EventPoller>⟧.controls ⟦<RecordingPoller<P> as EventPoller>⟧.waits
-        before calls replies after trace →
-        IsTraceOf S.begins S.serves J.may ⟦<ReplayPoller as EventPoller>⟧.controls ⟦<ReplayPoller as EventPoller>⟧.waits
-        start calls_again replies_again end again →
-        BeginsAgain before after start → end.poller.diverged ≡ false → IsMadeAgain trace again →
-        IsTheRun trace again (manager_state after) (manager_state end) }
-{}
-
-/// As `a_recorded_run_is_made_again`, of a loop without jobs: each entry of a list is what one of its calls promises.
-pub fn a_recorded_loop_is_made_again<S: MutEventSubscriber, P: Poller>()
-    ensures { (before after : LoopState S (Recording P)) (calls : List (Call S)) (replies : List (Reply S)) (trace : List (Entry S ⊥ (Unit {0})))
-        (start end : LoopState S Replay) (calls_again : List (Call S)) (replies_again : List (Reply S)) (again : List (Entry S ⊥ (Unit {0}))) →
-        AreFunctions S.begins S.serves no_job →
-        IsTraceOf S.begins S.serves no_job ⟦<RecordingPoller<P> as EventPoller>⟧.controls ⟦<RecordingPoller<P> as EventPoller>⟧.waits
-        before calls replies after trace →
-        IsTraceOf S.begins S.serves no_job ⟦<ReplayPoller as EventPoller>⟧.controls ⟦<ReplayPoller as EventPoller>⟧.waits
-        start calls_again replies_again end again →
-        BeginsAgain before after start → end.poller.diverged ≡ false → IsMadeAgain trace again →
-        IsTheRun trace again (manager_state after) (manager_state end) }
-{}
-
 /// No job waits unheard: while the counter's value is 0 and the loop isn't between its clear and its take, no job waits, and no
 /// sender is between its ring and its job. That holds of a new queue and a counter of value 0, and it still holds after any list
 /// of steps, each agreed to or refused, in any order that the queue's lock allows, where nobody but the loop clears that counter.
@@ -184,12 +137,6 @@ pub fn no_job_waits_unheard<J>()
     ensures new { NoJobWaitsUnheard (new_wake_state {J = J}) }
     ensures kept { (before : WakeState J) (steps : List (WakeStep J)) (after : WakeState J) →
         AreSteps before steps after → NoJobWaitsUnheard before → NoJobWaitsUnheard after }
-{}
-
-/// The counting subscriber is a function, and so is the job that does nothing: a replay of a manager of these is its run.
-pub fn counters_are_functions()
-    ensures { AreFunctions ⟦<CounterSubscriber as MutEventSubscriber>⟧.begins ⟦<CounterSubscriber as MutEventSubscriber>⟧.serves
-        ⟦<NoJob as Job<CounterSubscriber>>⟧.may }
 {}
 
 /// The definitions have a trace in which a descriptor is reported twice, and its owner removes and adds it at the first

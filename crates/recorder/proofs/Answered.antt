@@ -10,7 +10,7 @@ use Rattle.std.proofs.lemmas.List.Elements.{Contains-push_cases}
 use Rattle.event_manager.specs.Prelude.{Event, Controls, Waits, Exchanges, Answer, answers_of, HasId, new_registry, ManagerState, LoopState, new_loop, no_descriptor, manager_state}
 use Rattle.event_manager.specs.Request.TheVariants.{Remove}
 use Rattle.event_manager.specs.Request.TheVariants as request
-use Rattle.event_manager.specs.Determinism.{HaveMemory, answers_in}
+use Rattle.recorded_runs.specs.Determinism.{HaveMemory, answers_in}
 use Rattle.event_manager.specs.Error.TheVariants.{OutOfMemory}
 use Rattle.event_manager.specs.declared.calls.Call.TheVariants.{Run}
 use Rattle.event_manager.specs.declared.calls.Reply.{Reply}
@@ -19,7 +19,7 @@ use Rattle.recorder.specs.Devices.{kept, next_count, with_answer, counted, devic
 use Rattle.recorder.specs.Run.{IsRun}
 use Rattle.recorder.specs.declared.device.Device.{Device}
 use Rattle.recorder.specs.declared.run.Told.{Told}
-use Rattle.event_manager.proofs.KeptRefusals.{IsCalm, same_held, AreCalm, AreWithin, AllAgree, trace_within, trace_agrees}
+use Rattle.recorded_runs.proofs.KeptRefusals.{IsCalm, same_held, AreCalm, AreWithin, AllAgree, trace_within, trace_agrees}
 
 -- no request of it was refused
 abbrev IsAnswered : Device → Type 0

@@ -5,7 +5,7 @@ use Rattle.std.specs.Option.{MatchOption}
 use Rattle.event_manager.specs.Prelude.{Event, Answer, Exchanges}
 use Rattle.event_manager.specs.Request.{Request}
 use Rattle.event_manager.specs.Request.TheVariants.{Add, Remove}
-use Rattle.event_manager.specs.Determinism.{AskAlike, IsFunction}
+use Rattle.recorded_runs.specs.Determinism.{AskAlike, IsFunction}
 use Rattle.recorder.specs.Devices.{with_answer, counted, device_begins, device_serves}
 use Rattle.recorder.specs.declared.device.Device.{Device}
 

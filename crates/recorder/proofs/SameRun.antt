@@ -9,18 +9,18 @@ use Rattle.poller_records.specs.Lines.{text_of}
 use Rattle.event_manager.specs.Prelude.{Controls, Waits, Registry, HasId, ManagerState, LoopState, new_loop, no_descriptor, no_job, manager_state}
 use Rattle.event_manager.specs.Trace.{Entry}
 use Rattle.event_manager.specs.Driven.{IsTraceOf}
-use Rattle.event_manager.specs.Determinism.{AreFunctions, IsSameReply, IsTheRun}
-use Rattle.event_manager.specs.RecordedRun.{BeginsAgain, IsMadeAgain}
+use Rattle.recorded_runs.specs.Determinism.{AreFunctions, IsSameReply, IsTheRun}
+use Rattle.recorded_runs.specs.RecordedRun.{BeginsAgain, IsMadeAgain}
 use Rattle.event_manager.specs.declared.calls.Call.{Call}
 use Rattle.event_manager.specs.declared.calls.Reply.{Reply}
 use Rattle.event_manager.specs.declared.calls.Reply.TheVariants.{Added, Ran}
-use Rattle.event_manager.proofs.LoopCalls.{calls_made_again}
+use Rattle.recorded_runs.proofs.LoopCalls.{calls_made_again}
 use Rattle.recorder.specs.Devices.{device_begins, device_serves}
 use Rattle.recorder.specs.Run.{IsRun, calls_of, replies_of}
 use Rattle.recorder.specs.Recorded.{IsRecorded, recording}
 use Rattle.recorder.specs.declared.device.Device.{Device}
 use Rattle.recorder.specs.declared.run.Told.{Told}
-use Rattle.event_manager.proofs.KeptRefusals.{same_held}
+use Rattle.recorded_runs.proofs.KeptRefusals.{same_held}
 use Rattle.recorder.proofs.Answered.{had_memory}
 
 -- what is told, part by part

@@ -2,7 +2,7 @@
 
 ghost use Rattle.std.specs.Prelude.{◌≡◌, Ok, IfOk};
 ghost use Rattle.event_manager.specs.LoopState.{no_job};
-ghost use Rattle.event_manager.specs.Determinism.{AreFunctions};
+ghost use Rattle.recorded_runs.specs.Determinism.{AreFunctions};
 ghost use Rattle.recorder.specs.Devices.{counted, device_begins, device_serves, with_answer};
 
 use event_manager::{EventOps, EventPoller, EventSet, Events, MutEventSubscriber, Result};

@@ -5,7 +5,7 @@ use Rattle.event_manager.specs.declared.calls.Call.{Call}
 use Rattle.event_manager.specs.declared.calls.Call.TheVariants.{Add, Run}
 use Rattle.event_manager.specs.declared.calls.Reply.{Reply}
 use Rattle.event_manager.specs.declared.calls.Reply.TheVariants.{Added, Ran}
-use Rattle.event_manager.proofs.LoopCalls.{AreMade, none_made, join_made, run_made}
+use Rattle.recorded_runs.proofs.LoopCalls.{AreMade, none_made, join_made, run_made}
 use Rattle.recorder.specs.declared.device.Device.{Device}
 use Rattle.recorder.specs.Devices.{device_begins, device_serves}
 use Rattle.recorder.specs.Run.{calls_of, replies_of}

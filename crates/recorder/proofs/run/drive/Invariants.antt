@@ -1,6 +1,6 @@
 use Rattle.std.proofs.Common.{◌≡◌, take, length}
 use Rattle.event_manager.specs.EventLoop.{seen_of}
-use Rattle.event_manager.proofs.LoopCalls.{AreMade}
+use Rattle.recorded_runs.proofs.LoopCalls.{AreMade}
 use Rattle.recorder.specs.Devices.{device_begins, device_serves}
 use Rattle.recorder.specs.Run.{calls_of, replies_of}
 use Rattle.recorder.proofs.run.drive.Given as goal

@@ -12,12 +12,12 @@ use Rattle.event_loop.specs.declared.error.Error.TheVariants.{OutOfMemory, IdsUs
 use Rattle.vmm_sys.specs.declared.errno.Errno.{Errno}
 use Rattle.vmm_sys.specs.declared.entries.ControlOperation.TheVariants as operation
 use Rattle.event_manager.specs.Trace.{Stepped, Matches}
-use Rattle.event_manager.specs.Determinism.{IsFunction, Asked, ToJoin, ToLeave, ToHold, ToRequest, Answers, GoAlike, AreAlike, StepsAlike}
-use Rattle.event_manager.specs.Determinism.{HaveMemory, IsSameCall, answers_of_step}
+use Rattle.recorded_runs.specs.Determinism.{IsFunction, Asked, ToJoin, ToLeave, ToHold, ToRequest, Answers, GoAlike, AreAlike, StepsAlike}
+use Rattle.recorded_runs.specs.Determinism.{HaveMemory, IsSameCall, answers_of_step}
 use Rattle.event_manager.specs.declared.calls.Call.{Call}
 use Rattle.event_manager.specs.declared.calls.Call.TheVariants as call
 use Rattle.event_manager.specs.declared.calls.Reply.{Reply}
-use Rattle.event_manager.proofs.SameExchanges.{memory_first, memory_then, memory_at, AreSameCalls, eventless, in_parts, behind_same, asks_of_requests, exchanges_alike}
+use Rattle.recorded_runs.proofs.SameExchanges.{memory_first, memory_then, memory_at, AreSameCalls, eventless, in_parts, behind_same, asks_of_requests, exchanges_alike}
 use Rattle.event_loop.proofs.Releasing.{empty_event}
 
 abbrev delete_of : ℕ → Result (Unit {0}) Errno → PollerCall

@@ -6,14 +6,14 @@ use Rattle.event_loop.specs.Prelude.{Event, PollerCall, Wait, Exchanges, answers
 use Rattle.dispatch_tables.proofs.DispatchOrders.{head_is, tail_is, one_order}
 use Rattle.vmm_sys.specs.declared.errno.Errno.{Errno}
 use Rattle.event_manager.specs.Trace.{Effect, Stepped, Iterated, Entry, Matches, HasEffect, IsTrace, calls_of_effect, calls_of_trace}
-use Rattle.event_manager.specs.Determinism.{Asked, IsFunction, AreFunctions, IsSameCall, IsSameReply, IsReplay, IsTheRun}
-use Rattle.event_manager.specs.Determinism.{HaveMemory, jobs_of_effect, jobs_in}
-use Rattle.event_manager.specs.Determinism.{answers_of_step, answers_of_positions, answers_of_jobs, answers_of_effect, answers_in}
+use Rattle.recorded_runs.specs.Determinism.{Asked, IsFunction, AreFunctions, IsSameCall, IsSameReply, IsReplay, IsTheRun}
+use Rattle.recorded_runs.specs.Determinism.{HaveMemory, jobs_of_effect, jobs_in}
+use Rattle.recorded_runs.specs.Determinism.{answers_of_step, answers_of_positions, answers_of_jobs, answers_of_effect, answers_in}
 use Rattle.event_manager.specs.declared.calls.Call.{Call}
 use Rattle.event_manager.specs.declared.calls.Call.TheVariants as call
 use Rattle.event_manager.specs.declared.calls.Reply.{Reply}
-use Rattle.event_manager.proofs.SameExchanges.{AreSameCalls, eventless, memory_first, memory_then, in_parts, behind_same, exchanges_alike}
-use Rattle.event_manager.proofs.SameSteps.{asked_by, same_asked, asked_for, asked_alike, step_alike, steps_alike}
+use Rattle.recorded_runs.proofs.SameExchanges.{AreSameCalls, eventless, memory_first, memory_then, in_parts, behind_same, exchanges_alike}
+use Rattle.recorded_runs.proofs.SameSteps.{asked_by, same_asked, asked_for, asked_alike, step_alike, steps_alike}
 
 module _ {V : Type 0} (serves : Serves V) where
   abbrev DecidesAnswers : Type 0

@@ -1,5 +1,5 @@
-use Rattle.event_manager.proofs.SameTrace.{replay_is_the_run}
-use Rattle.event_manager.proofs.laws.a_replay_is_the_run.Goals as goal
+use Rattle.recorded_runs.proofs.SameTrace.{replay_is_the_run}
+use Rattle.recorded_runs.proofs.laws.a_replay_is_the_run.Goals as goal
 
 pub returns : goal.returns
 returns g c = λ capacity before trace replay after replayed functions.

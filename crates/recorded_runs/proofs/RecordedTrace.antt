@@ -7,11 +7,11 @@ use Rattle.vmm_sys.specs.Recording.{Recording}
 use Rattle.vmm_sys.specs.Replay.{Replay}
 use Rattle.event_loop.specs.Prelude.{Begins, Serves, May, LoopState, manager_state, Leads}
 use Rattle.event_manager.specs.Trace.{Entry, IsTrace, calls_of_trace}
-use Rattle.event_manager.specs.Determinism.{AreFunctions, IsTheRun}
-use Rattle.event_manager.specs.RecordedRun.{BeginsAgain, IsMadeAgain}
-use Rattle.event_manager.proofs.SameExchanges.{AreSameCalls, eventless}
-use Rattle.event_manager.proofs.SameTrace.{trace_alike}
-use Rattle.event_manager.proofs.RecordedCalls.{recording_controls, recording_waits, recorded_calls, replay_controls, replay_waits, passed_calls, same_fronts}
+use Rattle.recorded_runs.specs.Determinism.{AreFunctions, IsTheRun}
+use Rattle.recorded_runs.specs.RecordedRun.{BeginsAgain, IsMadeAgain}
+use Rattle.recorded_runs.proofs.SameExchanges.{AreSameCalls, eventless}
+use Rattle.recorded_runs.proofs.SameTrace.{trace_alike}
+use Rattle.recorded_runs.proofs.RecordedCalls.{recording_controls, recording_waits, recorded_calls, replay_controls, replay_waits, passed_calls, same_fronts}
 
 module _ {V J R P : Type 0} (begins : Begins V) (serves : Serves V) (may : May V J R) where
   module _ (functions : AreFunctions begins serves may) (meaning : P → Gv) (may_ctl : CtlRelation) (may_wait : WaitRelation) where

@@ -5,7 +5,7 @@ use Rattle.event_loop.specs.LoopState.{LoopState, manager_state}
 use Rattle.vmm_sys.specs.Recording.{Recording}
 use Rattle.vmm_sys.specs.Replay.{Replay}
 use Rattle.event_manager.specs.Trace.{Entry}
-use Rattle.event_manager.specs.Determinism.{IsSameCall, HaveMemory, answers_in, jobs_in}
+use Rattle.recorded_runs.specs.Determinism.{IsSameCall, HaveMemory, answers_in, jobs_in}
 
 -- No call was left out of the record; and the manager begins again as it began, its replay at what was recorded since then.
 pub record BeginsAgain {S P : Type 0} (before after : LoopState S (Recording P)) (again : LoopState S Replay) : Type 0 where

@@ -8,7 +8,7 @@ use Rattle.event_loop.specs.declared.events.Request.TheVariants.{Add, AddWithPri
 use Rattle.event_loop.specs.Exchange.{IsAdditionRefused}
 use Rattle.event_loop.specs.declared.error.Error.TheVariants.{OutOfMemory}
 use Rattle.vmm_sys.specs.declared.errno.Errno.{Errno}
-use Rattle.event_manager.specs.Determinism.{AskAlike, HaveMemory}
+use Rattle.recorded_runs.specs.Determinism.{AskAlike, HaveMemory}
 use Rattle.event_loop.proofs.Releasing.{empty_event}
 
 -- memory of a part

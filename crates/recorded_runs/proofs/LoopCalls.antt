@@ -7,8 +7,8 @@ use Rattle.event_loop.specs.declared.error.Error.{Error}
 use Rattle.event_manager.specs.Trace.{Effect, Stepped, Iterated, Entry, Matches}
 use Rattle.event_manager.specs.SingleCall.{HasCalled}
 use Rattle.event_manager.specs.Driven.{IsTraceOf}
-use Rattle.event_manager.specs.Determinism.{IsSameCall, HaveMemory, answers_in, jobs_of_effect, jobs_in}
-use Rattle.event_manager.specs.RecordedRun.{IsMadeAgain}
+use Rattle.recorded_runs.specs.Determinism.{IsSameCall, HaveMemory, answers_in, jobs_of_effect, jobs_in}
+use Rattle.recorded_runs.specs.RecordedRun.{IsMadeAgain}
 use Rattle.event_manager.specs.declared.calls.Call.{Call}
 use Rattle.event_manager.specs.declared.calls.Call.TheVariants as call
 use Rattle.event_manager.specs.declared.calls.Reply.{Reply}

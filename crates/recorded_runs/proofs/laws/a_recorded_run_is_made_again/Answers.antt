@@ -1,5 +1,5 @@
-use Rattle.event_manager.proofs.RecordedTrace.{made_again}
-use Rattle.event_manager.proofs.laws.a_recorded_run_is_made_again.Goals as goal
+use Rattle.recorded_runs.proofs.RecordedTrace.{made_again}
+use Rattle.recorded_runs.proofs.laws.a_recorded_run_is_made_again.Goals as goal
 
 pub returns : goal.returns
 returns g c = λ before after calls replies trace start end calls_again replies_again again functions ran reran.

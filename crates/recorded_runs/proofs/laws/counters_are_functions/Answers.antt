@@ -6,8 +6,8 @@ use Rattle.event_loop.specs.declared.events.Request.TheVariants.{Add, Remove}
 use Rattle.dispatch_tables.proofs.DispatchOrders.{head_is}
 use Rattle.event_loop.specs.CounterEvents.{event_on, one_more, with_error, with_spurious, with_fault, with_hang_up}
 use Rattle.event_loop.specs.CounterSubscribers.{counter_begins, counter_serves}
-use Rattle.event_manager.specs.Determinism.{AskAlike, IsFunction}
-use Rattle.event_manager.proofs.laws.counters_are_functions.Goals as goal
+use Rattle.recorded_runs.specs.Determinism.{AskAlike, IsFunction}
+use Rattle.recorded_runs.proofs.laws.counters_are_functions.Goals as goal
 
 -- no request, and a value after that is decided; one request, and a value after that its answer decides
 asks_nothing : {V : Type 0} (exchanges others : Exchanges) (after onto made : V) → (exchanges ≡ []) × (after ≡ made) → (others ≡ []) × (onto ≡ made)

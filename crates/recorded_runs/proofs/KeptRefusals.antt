@@ -8,7 +8,7 @@ use Rattle.std.proofs.lemmas.List.Elements.{Contains-append_cases}
 use Rattle.vmm_sys.specs.declared.errno.Errno.{Errno}
 use Rattle.event_loop.specs.Prelude.{Event, Exchanges, Answer, answers_of, Begins, Serves, Registry, Joined, NotJoined, Left, Replaced, Requested, Refused, HasId, AreBelow, Position, Outcome, Nobody, To, with_pending, is_removed, still_pending, IsOutcome, AreDispatched, events_of, exchanges_of, ManagerState, JobRun, IsIteration, no_job}
 use Rattle.event_manager.specs.Trace.{Effect, Stepped, Iterated, Entry, Matches, HasEffect, IsTrace}
-use Rattle.event_manager.specs.Determinism.{HaveMemory, answers_of_positions, answers_of_jobs, answers_of_effect, answers_in}
+use Rattle.recorded_runs.specs.Determinism.{HaveMemory, answers_of_positions, answers_of_jobs, answers_of_effect, answers_in}
 use Rattle.event_loop.specs.declared.error.Error.TheVariants.{OutOfMemory}
 use Rattle.event_manager.specs.declared.calls.Call.{Call}
 use Rattle.event_manager.specs.declared.calls.Call.TheVariants as call

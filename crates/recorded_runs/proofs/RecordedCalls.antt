@@ -15,7 +15,7 @@ use Rattle.vmm_sys.specs.Replay.{Replay, Passes, divergence, replay_code}
 use Rattle.dispatch_tables.specs.Event.{event_of_entry}
 use Rattle.event_loop.specs.PollerCall.{PollerCall, Control, Wait, Controls, Waits, Leads}
 use Rattle.event_loop.specs.PollerRelations.{packed, WaitsBy}
-use Rattle.event_manager.proofs.SameExchanges.{AreSameCalls, eventless}
+use Rattle.recorded_runs.proofs.SameExchanges.{AreSameCalls, eventless}
 
 -- a call's entries in a record
 abbrev IsEntered : PollerCall → List RecordEntry → Type 0
