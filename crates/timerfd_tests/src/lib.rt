@@ -32,6 +32,8 @@ mod rounds;
 #[cfg(test)]
 mod sleeps;
 #[cfg(test)]
+mod steps;
+#[cfg(test)]
 mod taken_beside;
 #[cfg(test)]
 mod timed;
