@@ -3,22 +3,65 @@
 use crate::clock::{ByFace, Face};
 use crate::expecting::{expect_ok, expect_same};
 use crate::host::Looping;
-use crate::steps::{ADD, DELETE, MODIFY, Of, Step, play};
-use crate::timed::{OverTable, open_timer, ready, watch};
+use crate::timed::{
+    OverTable, arm, expect_ready, open, open_counter, open_timer, ready, watch, watched_counter,
+    watched_timer,
+};
 use std::alloc::Global;
-use timerfd::TimedPoller;
-use vmm_sys::epoll::{AsRawFd, Epoll, EventSet, RawFd};
+use timerfd::{TimedPoller, TimerFd};
+use vmm_sys::epoll::{AsRawFd, ControlOperation, Epoll, EpollEvent, EventSet, RawFd};
 use vmm_sys::errno::Errno;
 use vmm_sys::eventfd::EventFd;
 use vmm_sys::poller::Poller;
 
-const IN: EventSet = EventSet::IN;
+const ADD: ControlOperation = ControlOperation::Add;
+
+const MODIFY: ControlOperation = ControlOperation::Modify;
+
+const DELETE: ControlOperation = ControlOperation::Delete;
 
 /// The word that no interest may have.
 const REFUSED: u64 = 18_446_744_073_709_551_615;
 
+/// Expects this answer to a change.
+fn expect_answer<R: Looping>(
+    rt: &R,
+    timed: &mut OverTable<R>,
+    (op, fd, event): (ControlOperation, RawFd, EpollEvent),
+    answer: Result<(), Errno>,
+) {
+    expect_same(rt, &timed.ctl(op, fd, event), &answer);
+}
+
 #[test]
-fn an_interest_in_a_timer_has_no_mode(rt: HostRuntime) {
+fn an_interest_in_a_timer_is_added_once(host: HostRuntime) {
+    let face = Face::new(0);
+    let rt = ByFace::new(&face, host);
+    let mut timed = open(&rt, host.alloc());
+    let fd = open_timer(&rt, &timed).as_raw_fd();
+    let rows = [
+        (MODIFY, Err(Errno::ENOENT)),
+        (DELETE, Err(Errno::ENOENT)),
+        (ADD, Ok(())),
+        (ADD, Err(Errno::EEXIST)),
+        (MODIFY, Ok(())),
+        (DELETE, Ok(())),
+        (DELETE, Err(Errno::ENOENT)),
+        (ADD, Ok(())),
+    ];
+    for (op, answer) in rows {
+        expect_answer(&rt, &mut timed, (op, fd, ready(7)), answer);
+    }
+    face.expect_reads(&rt, 0);
+}
+
+#[test]
+fn an_interest_in_a_timer_has_no_mode(host: HostRuntime) {
+    let face = Face::new(0);
+    let rt = ByFace::new(&face, host);
+    let mut timed = open(&rt, host.alloc());
+    let timer = watched_timer(&rt, &mut timed, 7);
+    let other = open_timer(&rt, &timed).as_raw_fd();
     let modes = [
         EventSet::EDGE_TRIGGERED,
         EventSet::ONE_SHOT,
@@ -26,85 +69,96 @@ fn an_interest_in_a_timer_has_no_mode(rt: HostRuntime) {
         EventSet::EXCLUSIVE,
     ];
     for mode in modes {
-        let steps = [
-            Step::Timer(7),
-            Step::Open,
-            Step::Change(ADD, Of::Timer(1), IN.union(mode), 8, Err(Errno::EINVAL)),
-            Step::Change(MODIFY, Of::Timer(0), IN.union(mode), 8, Err(Errno::EINVAL)),
-            Step::Change(DELETE, Of::Timer(1), IN, 8, Err(Errno::ENOENT)),
-            Step::Arm(0, 1),
-            Step::Now(1),
-            Step::Ready(&[7]),
-        ];
-        play(&rt, rt.alloc(), &steps);
+        let event = EpollEvent::new(EventSet::IN.union(mode), 8);
+        for (op, fd) in [(ADD, other), (MODIFY, timer.as_raw_fd())] {
+            expect_answer(&rt, &mut timed, (op, fd, event), Err(Errno::EINVAL));
+        }
     }
+    expect_answer(
+        &rt,
+        &mut timed,
+        (DELETE, other, ready(8)),
+        Err(Errno::ENOENT),
+    );
+    arm(&rt, &timer, 1);
+    face.set(1);
+    expect_ready(&rt, &mut timed, &[7]);
 }
 
 #[test]
-fn a_number_of_no_timer_is_that_of_the_poller_below(rt: HostRuntime) {
-    let (next, of) = (Of::Number(RawFd::MAX - 1), Of::Counter(0));
-    for fd in [RawFd::MAX - 1, -1, RawFd::MIN, 99] {
-        let steps = [
-            Step::Counter(3),
-            Step::Open,
-            Step::Change(ADD, Of::Number(fd), IN, 1, Err(Errno::EBADF)),
-            Step::Change(MODIFY, Of::Number(fd), IN, 1, Err(Errno::EBADF)),
-            Step::Change(DELETE, Of::Number(fd), IN, 1, Err(Errno::EBADF)),
-            Step::Change(ADD, of, IN, 4, Err(Errno::EEXIST)),
-            Step::Change(MODIFY, of, IN, 4, Ok(())),
-            Step::Ready(&[4]),
-            Step::Change(DELETE, of, IN, 4, Ok(())),
-            Step::Ready(&[]),
-            Step::Open,
-            Step::Change(ADD, next, IN, 1, Ok(())),
-        ];
-        play(&rt, rt.alloc(), &steps);
+fn a_number_of_no_timer_is_that_of_the_poller_below(host: HostRuntime) {
+    let face = Face::new(0);
+    let rt = ByFace::new(&face, host);
+    let mut timed = open(&rt, host.alloc());
+    let counter = watched_counter(&rt, &mut timed, 3);
+    let _timer = open_timer(&rt, &timed);
+    let next = RawFd::MAX - 1;
+    for fd in [next, -1, RawFd::MIN, 99] {
+        for op in [ADD, MODIFY, DELETE] {
+            expect_answer(&rt, &mut timed, (op, fd, ready(1)), Err(Errno::EBADF));
+        }
     }
+    let fd = counter.as_raw_fd();
+    expect_answer(&rt, &mut timed, (ADD, fd, ready(4)), Err(Errno::EEXIST));
+    expect_answer(&rt, &mut timed, (MODIFY, fd, ready(4)), Ok(()));
+    expect_ready(&rt, &mut timed, &[4]);
+    expect_answer(&rt, &mut timed, (DELETE, fd, ready(4)), Ok(()));
+    expect_ready(&rt, &mut timed, &[]);
+    let second = open_timer(&rt, &timed);
+    expect_same(&rt, &second.as_raw_fd(), &next);
+    expect_answer(&rt, &mut timed, (ADD, next, ready(1)), Ok(()));
 }
 
 #[test]
-fn the_timers_own_counter_is_not_changed(rt: HostRuntime) {
+fn the_timers_own_counter_is_not_changed(host: HostRuntime) {
+    let face = Face::new(0);
+    let rt = ByFace::new(&face, host);
+    let mut timed = open(&rt, host.alloc());
     // The first counter of the table.
-    let own = Of::Number(0);
-    for of in [Of::Timer(0), Of::Counter(0)] {
-        let steps = [
-            Step::Change(ADD, own, IN, 1, Err(Errno::EINVAL)),
-            Step::Change(MODIFY, own, IN, 1, Err(Errno::EINVAL)),
-            Step::Change(DELETE, own, IN, 1, Err(Errno::EINVAL)),
-            Step::Open,
-            Step::Arm(0, 1),
-            Step::Now(1),
-            Step::Counter(2),
-            Step::Change(DELETE, Of::Counter(0), IN, 2, Ok(())),
-            Step::Change(ADD, of, IN, REFUSED, Err(Errno::EINVAL)),
-            Step::Change(DELETE, of, IN, 1, Err(Errno::ENOENT)),
-            Step::Change(ADD, of, IN, REFUSED - 1, Ok(())),
-            Step::Change(MODIFY, of, IN, REFUSED, Err(Errno::EINVAL)),
-            Step::Ready(&[REFUSED - 1]),
-            Step::Change(DELETE, of, IN, REFUSED, Ok(())),
-            Step::Ready(&[]),
-        ];
-        play(&rt, rt.alloc(), &steps);
+    for op in [ADD, MODIFY, DELETE] {
+        expect_answer(&rt, &mut timed, (op, 0, ready(1)), Err(Errno::EINVAL));
     }
+    let fd = open_timer(&rt, &timed).as_raw_fd();
+    let counter = open_counter(&rt, &timed, 1).as_raw_fd();
+    for fd in [fd, counter] {
+        expect_answer(
+            &rt,
+            &mut timed,
+            (ADD, fd, ready(REFUSED)),
+            Err(Errno::EINVAL),
+        );
+        expect_answer(&rt, &mut timed, (DELETE, fd, ready(1)), Err(Errno::ENOENT));
+        expect_answer(&rt, &mut timed, (ADD, fd, ready(REFUSED - 1)), Ok(()));
+        expect_answer(
+            &rt,
+            &mut timed,
+            (MODIFY, fd, ready(REFUSED)),
+            Err(Errno::EINVAL),
+        );
+    }
+    expect_ready(&rt, &mut timed, &[REFUSED - 1]);
+    for fd in [fd, counter] {
+        expect_answer(&rt, &mut timed, (DELETE, fd, ready(REFUSED)), Ok(()));
+    }
+    expect_ready(&rt, &mut timed, &[]);
 }
 
 #[test]
-fn a_wait_without_room_is_refused(rt: HostRuntime) {
-    let steps = [
-        Step::Timer(7),
-        Step::Arm(0, 1),
-        Step::Reads(1),
-        Step::Fails(-1, 0, Errno::EINVAL),
-        Step::Fails(0, 0, Errno::EINVAL),
-        Step::Fails(5, 0, Errno::EINVAL),
-        Step::Now(1),
-        Step::Fails(-1, 0, Errno::EINVAL),
-        Step::Fails(0, 0, Errno::EINVAL),
-        Step::Fails(5, 0, Errno::EINVAL),
-        Step::Reads(0),
-        Step::Ready(&[7]),
-    ];
-    play(&rt, rt.alloc(), &steps);
+fn a_wait_without_room_is_refused(host: HostRuntime) {
+    let face = Face::new(0);
+    let rt = ByFace::new(&face, host);
+    let mut timed = open(&rt, host.alloc());
+    let timer = watched_timer(&rt, &mut timed, 7);
+    arm(&rt, &timer, 1);
+    face.expect_reads(&rt, 1);
+    for now in [0, 1] {
+        face.set(now);
+        for ms in [-1, 0, 5] {
+            expect_same(&rt, &timed.wait(ms, &mut []), &Err(Errno::EINVAL));
+        }
+    }
+    face.expect_reads(&rt, 0);
+    expect_ready(&rt, &mut timed, &[7]);
 }
 
 /// A poller with timers over this table, and a counter of value 0.
@@ -119,22 +173,17 @@ fn make<R: Looping>(
     TimedPoller::new(poller, counter, *rt, alloc)
 }
 
-/// Expects that a poller is made only where the counter has no interest.
-fn expect_refusal<R: Looping>(rt: &R, alloc: Global, epoll: &mut Epoll<R>, counter: &EventFd) {
-    watch(rt, epoll, counter, 5);
-    let refused = make(rt, alloc, epoll, counter).err();
-    expect_same(rt, &refused, &Some(Errno::EEXIST));
-    expect_ok(rt, epoll.ctl(DELETE, counter.as_raw_fd(), ready(5)));
-    let made = expect_ok(rt, make(rt, alloc, epoll, counter));
-    let number = open_timer(rt, &made).as_raw_fd();
-    expect_same(rt, &number, &2_147_483_647);
-}
-
 #[test]
 fn a_poller_is_refused_where_the_one_below_refuses_the_counter(host: HostRuntime) {
     let face = Face::new(0);
     let rt = ByFace::new(&face, host);
     let mut epoll = expect_ok(&rt, Epoll::new(rt, host.alloc()));
     let counter = expect_ok(&rt, EventFd::new(&epoll, 0, &rt));
-    expect_refusal(&rt, host.alloc(), &mut epoll, &counter);
+    watch(&rt, &mut epoll, &counter, 5);
+    let refused = make(&rt, host.alloc(), &epoll, &counter).err();
+    expect_same(&rt, &refused, &Some(Errno::EEXIST));
+    expect_ok(&rt, epoll.ctl(DELETE, counter.as_raw_fd(), ready(5)));
+    let made = expect_ok(&rt, make(&rt, host.alloc(), &epoll, &counter));
+    let timer = expect_ok(&rt, TimerFd::new(&made, &rt));
+    expect_same(&rt, &timer.as_raw_fd(), &2_147_483_647);
 }

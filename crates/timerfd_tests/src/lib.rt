@@ -32,8 +32,6 @@ mod rounds;
 #[cfg(test)]
 mod sleeps;
 #[cfg(test)]
-mod steps;
-#[cfg(test)]
 mod taken_beside;
 #[cfg(test)]
 mod timed;

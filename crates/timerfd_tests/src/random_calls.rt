@@ -158,13 +158,6 @@ impl<R: Looping> Run<'_, R> {
             _ => self.wait(rt, usize::MAX),
         }
     }
-
-    fn make_calls(&mut self, rt: &R) {
-        for _call in 0..CALLS {
-            self.make_call(rt);
-        }
-        expect_same(rt, &self.timers.len(), &(TIMERS as usize));
-    }
 }
 
 /// How often this word is reported for `IN`.
@@ -196,6 +189,11 @@ fn calls_at_random_answer_what_the_rules_say(host: HostRuntime) {
     for seed in 0..RUNS {
         let face = Face::new(0);
         let rt = ByFace::new(&face, host);
-        begin(&rt, host.alloc(), &face, seed).make_calls(&rt);
+        let mut run = begin(&rt, host.alloc(), &face, seed);
+        for _call in 0..CALLS {
+            run.make_call(&rt);
+        }
+        let timers = run.timers.len();
+        expect_same(&rt, &timers, &(TIMERS as usize));
     }
 }

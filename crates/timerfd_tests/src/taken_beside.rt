@@ -3,7 +3,7 @@
 use crate::clock::{ByFace, Face};
 use crate::expecting::expect_same;
 use crate::host::Looping;
-use crate::timed::{ROOM, arm_again, expect_report, expect_taken, open, watched_timer};
+use crate::timed::{arm_again, expect_ready, expect_taken, open, watched_timer};
 use std::sync::atomic::{AtomicBool, Ordering};
 use std::thread;
 use timerfd::TimerFd;
@@ -70,5 +70,5 @@ fn each_expiration_is_taken_once(host: HostRuntime) {
     let taken = one.saturating_add(other).saturating_add(rest);
     expect_same(&rt, &taken, &all);
     expect_taken(&rt, &timer, 0);
-    expect_report(&rt, &mut timed, 0, ROOM, &[]);
+    expect_ready(&rt, &mut timed, &[]);
 }

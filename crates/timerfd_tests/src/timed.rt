@@ -14,7 +14,7 @@ use vmm_sys::eventfd::EventFd;
 use vmm_sys::poller::Poller;
 
 /// The highest number of entries that a test has room for.
-pub const ROOM: usize = 80;
+const ROOM: usize = 80;
 
 /// A poller with timers over a table.
 pub type OverTable<R> = TimedPoller<Epoll<R>, R>;
@@ -64,6 +64,13 @@ where
     timer
 }
 
+/// A new counter of value 1, of which this word is reported.
+pub fn watched_counter<R: Looping>(rt: &R, timed: &mut OverTable<R>, word: u64) -> EventFd {
+    let counter = open_counter(rt, timed, 1);
+    watch(rt, timed, &counter, word);
+    counter
+}
+
 /// Arms the timer: it is due once, after so many nanoseconds.
 pub fn arm<C: Counter + Drop, R: Looping>(rt: &R, timer: &TimerFd<C>, nanoseconds: u64) {
     let duration = Duration::from_nanos(nanoseconds);
@@ -90,19 +97,18 @@ pub fn expect_taken<C: Counter + Drop, R: Looping>(rt: &R, timer: &TimerFd<C>, c
     expect_same(rt, &timer.wait(rt), &Err(Errno::EAGAIN));
 }
 
-/// Expects that a wait of so many milliseconds, with so much room, reports these words, each for `IN`.
-pub fn expect_report<P: Poller, R: Abort>(
-    rt: &R,
-    poller: &mut P,
-    ms: i32,
-    room: usize,
-    words: &[u64],
-) {
+/// Expects that a wait without a sleep, with so much room, reports these words, each for `IN`.
+pub fn expect_in_room<P: Poller, R: Abort>(rt: &R, poller: &mut P, room: usize, words: &[u64]) {
     let mut buffer = [EpollEvent::new(EventSet::empty(), 0); ROOM];
     let room = room.min(buffer.len());
-    let count = expect_ok(rt, poller.wait(ms, &mut buffer[..room])).min(room);
+    let count = expect_ok(rt, poller.wait(0, &mut buffer[..room])).min(room);
     for (entry, word) in buffer[..count].iter().zip(words) {
         expect_same(rt, entry, &ready(*word));
     }
     expect_same(rt, &count, &words.len());
+}
+
+/// As [`expect_in_room`], with room for all.
+pub fn expect_ready<P: Poller, R: Abort>(rt: &R, poller: &mut P, words: &[u64]) {
+    expect_in_room(rt, poller, ROOM, words);
 }
