@@ -2,6 +2,7 @@ pub mod NumberTests
 pub mod TimesListed
 pub mod WatchListLemmas
 pub mod PlaceLemmas
+pub mod VacantPlaces
 pub mod OwnerMaps
 pub mod Counting
 pub mod RaisedOwners

@@ -1,17 +1,61 @@
 //! The places of the subscribers: a delivery finds its subscriber at its place, without a search.
 
-ghost use Rattle.std.specs.Prelude.{◌≡◌, IfNone, OnSome, OnOk, OnErr, MatchOption, ◌<◌, Some, None, is_some, nat_eq, option_map};
+ghost use Rattle.std.specs.Prelude.{◌≡◌, ◌↔◌, IsTrue, IfNone, IfSome, IfOk, OnSome, OnOk, OnErr, MatchOption, ◌<◌, Some, None, is_some, IsSome, nat_eq, option_map};
 ghost use Rattle.std.specs.Option.{option_copied, option_copied_mut};
-ghost use Rattle.std.specs.Borrow.{LendsIf, sem};
+ghost use Rattle.std.specs.Borrow.{Lends, LendsIf, sem};
 ghost use Rattle.std.specs.FinMap as map;
 ghost use Rattle.std.specs.HashMap.{get};
 ghost use Rattle.dispatch_tables.specs.Members.{nobody, joined_by, with_member, without_member, AreBelow};
-ghost use Rattle.dispatch_tables.specs.Places.{id_at, AreIndexed};
+ghost use Rattle.dispatch_tables.specs.Places.{held_id, subscriber_of, id_at, with_subscriber, AreIndexed, AreLinked, HaveSameHolders};
 
-use slab::Slab;
 use std::alloc::{AllocError, Global};
 use std::collections::HashMap;
 use std::marker::Model;
+use std::mem;
+
+/// A place: a subscriber with its id, or nobody and the next vacant place.
+#[derive(Drop)]
+enum Place<S> {
+    Held(u64, S),
+    Vacant(Option<usize>),
+}
+
+impl<S> Place<S> {
+    ghost use Rattle.dispatch_tables.specs.contracts.places.Place.{the_row};
+
+    /// Whether the place holds the subscriber of the id.
+    fn is_held_by(&self, id: u64) -> bool
+        ensures { IsTrue result ↔ (held_id self.now ≡ Some id) }
+    {
+        match self {
+            Place::Held(holder, _) => *holder == id,
+            Place::Vacant(_) => false,
+        }
+    }
+
+    /// The subscriber that the place holds.
+    fn subscriber(&self) -> &S
+        requires { IsSome (held_id self.now) }
+        ensures { subscriber_of self.now ≡ Some result.now }
+    {
+        match self {
+            Place::Held(_, subscriber) => subscriber,
+            Place::Vacant(_) => unreachable!(),
+        }
+    }
+
+    /// Lends the subscriber that the place holds.
+    fn subscriber_mut(&mut self) -> &mut S
+        requires { IsSome (held_id self.old) }
+        ensures* lent { sem 𝓛 (Lends (the_row S.row) S.row self.entry result (with_subscriber self.old)) }
+        ensures value { subscriber_of self.old ≡ Some result.now }
+    {
+        match self {
+            Place::Held(_, subscriber) => subscriber,
+            Place::Vacant(_) => unreachable!(),
+        }
+    }
+}
 
 /// The subscribers by id, each in a place of its own.
 ///
@@ -19,8 +63,9 @@ use std::marker::Model;
 /// there: whoever comes with one names the id too.
 #[derive(Drop)]
 pub struct SubscriberPlaces<S> {
-    // Each subscriber with its id.
-    places: Slab<(u64, S)>,
+    places: Vec<Place<S>>,
+    // The vacant place that is taken next, which names the next one.
+    first_vacant: Option<usize>,
     // The place of each id.
     index: HashMap<u64, usize>,
     // The id that is given next.
@@ -36,11 +81,11 @@ impl<S> Model for SubscriberPlaces<S> {
 
     ghost coded = { members_code S.code };
 
-    ghost use Rattle.dispatch_tables.specs.Places.{values_of, AreIndexed, ArePlacedBelow};
+    ghost use Rattle.dispatch_tables.specs.Places.{values_of, AreSound, ArePlacedBelow};
 
-    ghost view = { λ s. record { by_id = values_of s.places; next = s.next } };
+    ghost view = { λ s. record { by_id = values_of s.places.items; next = s.next } };
 
-    ghost invariant = { λ s. AreIndexed s.places (get nat_eq s.index) × ArePlacedBelow s.next (get nat_eq s.index) };
+    ghost invariant = { λ s. AreSound s.places.items s.first_vacant (get nat_eq s.index) × ArePlacedBelow s.next (get nat_eq s.index) };
 }
 
 /// The place of the id by the index.
@@ -54,7 +99,7 @@ fn place_in(index: &HashMap<u64, usize>, id: u64) -> Option<usize>
 /// The place that holds the id: looked for at the hint first, and by the index only where it isn't held there.
 #[inline(always)]
 fn place_by_hint<S>(
-    places: &Slab<(u64, S)>,
+    places: &[Place<S>],
     index: &HashMap<u64, usize>,
     hint: usize,
     id: u64,
@@ -62,12 +107,36 @@ fn place_by_hint<S>(
     requires { AreIndexed places.now (get nat_eq index.now) }
     ensures { MatchOption result (get nat_eq index.now id ≡ None) (λ place. id_at places.now place ≡ Some id) }
 {
-    if let Some((holder, _)) = places.get(hint) {
-        if *holder == id {
+    if let Some(place) = places.get(hint) {
+        if place.is_held_by(id) {
             return Some(hint);
         }
     }
     place_in(index, id)
+}
+
+/// The vacant place that is taken next. Where there is none, one more place is made; where memory for that is refused,
+/// all stays as it was.
+fn vacant_place<S: Drop>(
+    places: &mut Vec<Place<S>>,
+    first_vacant: &mut Option<usize>,
+) -> Result<usize, AllocError>
+    requires { AreLinked places.old.items first_vacant.old }
+    ensures first { IfOk result (λ place. first_vacant.new ≡ Some place) }
+    ensures reused { IfSome first_vacant.old (λ _. places.new.items ≡ places.old.items) }
+    ensures linked { AreLinked places.new.items first_vacant.new }
+    ensures holders { HaveSameHolders places.old.items places.new.items }
+{
+    if let Some(place) = first_vacant {
+        return Ok(*place);
+    }
+    let place = places.len();
+    match places.push(Place::Vacant(None)) {
+        Ok(()) => {}
+        Err(_) => return Err(AllocError),
+    }
+    *first_vacant = Some(place);
+    Ok(place)
 }
 
 impl<S> SubscriberPlaces<S> {
@@ -85,7 +154,8 @@ impl<S> SubscriberPlaces<S> {
         ensures { result ≡ record nobody { next = first } }
     {
         SubscriberPlaces {
-            places: Slab::new(alloc),
+            places: Vec::new(alloc),
+            first_vacant: None,
             index: HashMap::new(alloc),
             next: first,
         }
@@ -108,15 +178,18 @@ impl<S> SubscriberPlaces<S> {
         ensures ok { OnOk result (self.new ≡ joined_by self.old subscriber) }
         ensures err { OnErr result (self.new ≡ self.old) }
     {
-        self.places.reserve(1)?;
-        let place = self.places.vacant_key();
+        let place = vacant_place(&mut self.places, &mut self.first_vacant)?;
         let id = self.next;
         match self.index.insert(id, place) {
             Ok(_) => {}
             Err(_) => return Err(AllocError),
         }
         self.next = id + 1;
-        Ok(self.places.insert_reserved((id, subscriber)))
+        match mem::replace(&mut self.places[place], Place::Held(id, subscriber)) {
+            Place::Vacant(next) => self.first_vacant = next,
+            Place::Held(_, _) => unreachable!(),
+        }
+        Ok(place)
     }
 
     /// Takes the subscriber of the id out, and leaves its place to one that comes later; answers both. Takes no memory.
@@ -128,13 +201,18 @@ impl<S> SubscriberPlaces<S> {
         let Some(place) = self.index.remove(&id) else {
             return None;
         };
-        let (_, subscriber) = self.places.remove(place);
-        Some((place, subscriber))
+        match mem::replace(&mut self.places[place], Place::Vacant(self.first_vacant)) {
+            Place::Held(_, subscriber) => {
+                self.first_vacant = Some(place);
+                Some((place, subscriber))
+            }
+            Place::Vacant(_) => unreachable!(),
+        }
     }
 
     /// The place that the next newcomer gets.
     pub fn next_place(&self) -> usize {
-        self.places.vacant_key()
+        self.first_vacant.unwrap_or(self.places.len())
     }
 
     /// The place of the id.
@@ -151,11 +229,8 @@ impl<S> SubscriberPlaces<S> {
     pub fn get(&self, id: u64) -> Option<&S>
         ensures { option_copied result ≡ map.get self.now.by_id id }
     {
-        let Some(place) = self.index.get(&id).copied() else {
-            return None;
-        };
-        match self.places.get(place) {
-            Some((_, subscriber)) => Some(subscriber),
+        match self.index.get(&id).copied() {
+            Some(place) => Some(self.places[place].subscriber()),
             None => None,
         }
     }
@@ -165,11 +240,8 @@ impl<S> SubscriberPlaces<S> {
         ensures* lent { sem 𝓛 (LendsIf (the_row S.row) S.row self.entry result (with_member self.old id) self.old) }
         ensures value { option_copied_mut result ≡ map.get self.old.by_id id }
     {
-        let Some(place) = self.index.get(&id).copied() else {
-            return None;
-        };
-        match self.places.get_mut(place) {
-            Some((_, subscriber)) => Some(subscriber),
+        match self.index.get(&id).copied() {
+            Some(place) => Some(self.places[place].subscriber_mut()),
             None => None,
         }
     }
@@ -181,11 +253,8 @@ impl<S> SubscriberPlaces<S> {
         ensures* lent { sem 𝓛 (LendsIf (the_row S.row) S.row self.entry result (with_member self.old id) self.old) }
         ensures value { option_copied_mut result ≡ map.get self.old.by_id id }
     {
-        let Some(place) = place_by_hint(&self.places, &self.index, place, id) else {
-            return None;
-        };
-        match self.places.get_mut(place) {
-            Some((_, subscriber)) => Some(subscriber),
+        match place_by_hint(&self.places, &self.index, place, id) {
+            Some(place) => Some(self.places[place].subscriber_mut()),
             None => None,
         }
     }

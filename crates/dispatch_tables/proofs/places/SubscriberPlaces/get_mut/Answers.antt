@@ -1,28 +1,25 @@
-use Rattle.std.specs.HashMap.{get}
-use Rattle.std.proofs.Common.{nat_eq, ◌∙◌, sym, ap}
-use mathlib.Core.Logic.{inr}
-use Rattle.dispatch_tables.specs.Members.{with_member}
-use Rattle.dispatch_tables.proofs.PlaceLemmas.{id_in, subscriber_in, none_some, same_loan, get_of_held, no_place, indexed_rewrite, values_rewrite}
+use Rattle.std.proofs.Common.{◌∙◌, sym, ap, arith}
+use mathlib.Core.Logic.{inl, inr}
+use Rattle.dispatch_tables.proofs.PlaceLemmas.{read_id, read_subscriber, held_within, sound_rewrite, values_rewrite, no_place}
 use Rattle.dispatch_tables.proofs.places.SubscriberPlaces.get_mut.Goals as goal
 
-pub returns-in_default : goal.returns-in_default
-returns-in_default g c = (ap inr c.self.view_is, record { lent = tt; value = rw (← c.self.view_is) (sym (no_place c.self.inside.places (get nat_eq c.self.inside.index) c.args.id c.self.invariant.0 (sym (c.copied.ensures ∙ c.get.ensures.value) ∙ c.in_default.is))) })
+pub index_mut-requires : goal.index_mut-requires
+index_mut-requires g c = omega (arith, held_within c.self.inside.places.items c.in-Some.place c.args.id ((c.self.invariant.0.indexed c.args.id c.in-Some.place).0 (sym (c.copied.ensures ∙ c.get.ensures.value) ∙ c.in-Some.is)), c.self.inside.places.ok)
+
+pub subscriber_mut-requires : goal.subscriber_mut-requires
+subscriber_mut-requires g c = read_id c.self.inside.places.items c.in-Some.place c.args.id c.index_mut.result.now ((c.self.invariant.0.indexed c.args.id c.in-Some.place).0 (sym (c.copied.ensures ∙ c.get.ensures.value) ∙ c.in-Some.is)) c.index_mut.ensures.value
 
 pub invariant_of-self-lent : goal.invariant_of-self-lent
-invariant_of-self-lent g c w =
-    let held = (c.self.invariant.0 c.args.id c.in-Some.place).0 (sym (c.copied.ensures ∙ c.get.ensures.value) ∙ c.in-Some.is) in
-    (indexed_rewrite c.self.inside.places (get nat_eq c.self.inside.index) c.args.id c.in-Some.place c.in-Some-get_mut.field-0.now c.self.invariant.0 held c.in-Some-get_mut.ensures.value w, c.self.invariant.1)
+invariant_of-self-lent g c w = (sound_rewrite _ _ _ c.args.id c.in-Some.place c.index_mut.result.now c.self.invariant.0 ((c.self.invariant.0.indexed c.args.id c.in-Some.place).0 (sym (c.copied.ensures ∙ c.get.ensures.value) ∙ c.in-Some.is)) c.index_mut.ensures.value w, c.self.invariant.1)
 
-pub returns-in-Some-get_mut : goal.returns-in-Some-get_mut
-returns-in-Some-get_mut g c =
-    let held = (c.self.invariant.0 c.args.id c.in-Some.place).0 (sym (c.copied.ensures ∙ c.get.ensures.value) ∙ c.in-Some.is) in (
-      same_loan _ _ _ (λ w. ap (λ values. record { by_id = values; next = c.self.inside.next })
-          (values_rewrite c.self.inside.places (get nat_eq c.self.inside.index) c.args.id c.in-Some.place c.in-Some-get_mut.field-0.now c.self.invariant.0 held c.in-Some-get_mut.ensures.value w)
-          ∙ ap (λ members. with_member members c.args.id w) c.self.view_is),
-      record { lent = tt; value = rw (← c.self.view_is) (sym (get_of_held c.self.inside.places (get nat_eq c.self.inside.index) c.args.id c.in-Some.place c.self.invariant.0 held ∙ ap subscriber_in (sym c.in-Some-get_mut.ensures.value))) },
+pub returns-in-Some : goal.returns-in-Some
+returns-in-Some g c =
+    let held = ((c.self.invariant.0.indexed c.args.id c.in-Some.place).0 (sym (c.copied.ensures ∙ c.get.ensures.value) ∙ c.in-Some.is)) in
+    let kept = c.self.invariant.0 in (
+      rw (← c.self.view_is) (λ i. inl (c.subscriber_mut.result.ghost_name, λ w. ap (λ values. record { by_id = values; next = c.self.inside.next }) (values_rewrite _ _ _ c.args.id c.in-Some.place c.index_mut.result.now kept held c.index_mut.ensures.value w) i)),
+      record { lent = tt; value = rw (← c.self.view_is) (sym c.subscriber_mut.ensures.value ∙ sym (read_subscriber _ _ c.in-Some.place c.args.id c.index_mut.result.now kept.indexed held c.index_mut.ensures.value)) },
     )
 
 pub returns-in-None : goal.returns-in-None
 returns-in-None g c =
-    let held = (c.self.invariant.0 c.args.id c.in-Some.place).0 (sym (c.copied.ensures ∙ c.get.ensures.value) ∙ c.in-Some.is) in
-    absurd (none_some c.args.id (ap id_in c.in-None.ensures.value ∙ held))
+    (ap inr c.self.view_is, record { lent = tt; value = rw (← c.self.view_is) (sym (no_place _ _ c.args.id c.self.invariant.0.indexed (sym (c.copied.ensures ∙ c.get.ensures.value) ∙ c.in-None.is))) })
