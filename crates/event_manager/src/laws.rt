@@ -81,7 +81,8 @@ pub fn owners_are_subscribers<S: MutEventSubscriber, J: Job<S>>()
 {}
 
 /// Isolation: a step for one id, or an event that it gets, leaves the values, the descriptors with their priorities, and the
-/// pending events of all others; an event that nobody gets leaves those of all; a leave frees exactly the descriptors of its id, whatever the poller answers.
+/// pending events of all others; an event that nobody gets leaves those of all; a leave frees exactly the descriptors of its
+/// id, whatever the poller answers.
 pub fn others_are_untouched<S: MutEventSubscriber>()
     ensures steps { (before : Registry S) (step : Step S) (after : Registry S) → Steps S.begins before step after →
         (j : ℕ) → is_id j (id_of step) ≡ false → IsUntouched j before after }
