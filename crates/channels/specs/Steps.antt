@@ -4,8 +4,8 @@ use Rattle.std.specs.declared.alloc.AllocError.{AllocError}
 use Rattle.vmm_sys.specs.declared.errno.Errno.{Errno}
 use Rattle.channels.specs.Messages.{Messages, new_messages, IsSend, IsLeave, IsTaken, IsReceived, IsClosed, IsJoined, IsSettled}
 use Rattle.channels.specs.declared.errors.SendError.{SendError}
-use Rattle.channels.specs.declared.laws.Step.{Step}
-use Rattle.channels.specs.declared.laws.Step.TheVariants.{Send, Ring, Take, Receive, Close, Join, Leave}
+use Rattle.channels.specs.declared.laws.QueueStep.{QueueStep}
+use Rattle.channels.specs.declared.laws.QueueStep.TheVariants.{Send, Ring, Take, Receive, Close, Join, Leave}
 
 -- the messages, and the value of the counter that tells their receiver
 pub record Told (M : Type 0) : Type 0 where
@@ -27,7 +27,7 @@ module _ {M : Type 0} where
   new_told most = record { messages = new_messages most; value = 0 }
 
   -- a step does what the queue promises of its call, whatever that answers; a ring by somebody else leaves the messages
-  abbrev pub StepsTo : Step M → Told M → Told M → Type 0
+  abbrev pub StepsTo : QueueStep M → Told M → Told M → Type 0
   StepsTo (Send message) before after = (answer : Result (Unit {0}) (SendError M)) × IsSend raises before.messages before.value message answer after.messages after.value
   StepsTo Ring before after = (answer : Result (Unit {0}) Errno) × raises before.value answer after.value × (after.messages ≡ before.messages)
   StepsTo Take before after =
@@ -39,7 +39,7 @@ module _ {M : Type 0} where
   StepsTo Leave before after = (answer : Result (Unit {0}) Errno) × IsLeave raises before.messages before.value answer after.messages after.value
 
   -- each step from where the one before it led
-  abbrev pub AreSteps : Told M → List (Step M) → Told M → Type 0
+  abbrev pub AreSteps : Told M → List (QueueStep M) → Told M → Type 0
   AreSteps before [] after = after ≡ before
   AreSteps before (step ∷ steps) after = (between : Told M) × StepsTo step before between × AreSteps between steps after
 

@@ -5,7 +5,7 @@ ghost use Rattle.channels.specs.Steps.{Told, AreSteps, NoWakeUpIsLost, new_told}
 
 /// What is done to a queue of messages, or to the counter that tells its receiver.
 #[derive(Drop)]
-pub enum Step<M> {
+pub enum QueueStep<M> {
     /// A message is sent.
     Send(M),
     /// Somebody else rings the counter.
@@ -27,6 +27,6 @@ pub enum Step<M> {
 /// value is 0 sleeps over no message.
 pub fn no_wake_up_is_lost<M>()
     ensures new { (most : Option ℕ) → NoWakeUpIsLost (new_told {M = M} most) }
-    ensures kept { (before : Told M) (steps : List (Step M)) (after : Told M) →
+    ensures kept { (before : Told M) (steps : List (QueueStep M)) (after : Told M) →
         AreSteps before steps after → NoWakeUpIsLost before → NoWakeUpIsLost after }
 {}

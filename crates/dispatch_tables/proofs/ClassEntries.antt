@@ -6,7 +6,7 @@ use Rattle.vmm_sys.specs.declared.entries.EpollEvent.{EpollEvent}
 use Rattle.dispatch_tables.specs.Priority.{number_of}
 use Rattle.dispatch_tables.specs.Event.{event_of_entry}
 use Rattle.dispatch_tables.specs.Ownership.{OwnerMap, class_in}
-use Rattle.dispatch_tables.specs.Classes.{numbered, classed_by, entries_of, AreAllLowest}
+use Rattle.dispatch_tables.specs.Classes.{numbered, classed_by, entries_of_class, AreAllLowest}
 use Rattle.dispatch_tables.specs.ClassOrder.{of_class, IsOrdered}
 use Rattle.dispatch_tables.specs.declared.dispatch_order.ClassedEntry.{ClassedEntry}
 use Rattle.dispatch_tables.specs.declared.priority.Priority.{Priority}
@@ -58,9 +58,9 @@ module _ {C E : Type 0} (class : C → ℕ) (entry : C → E) (n : ℕ) where
           ∙ ap (λ l. take from buffer ++ l) (sym one_is)
 
 -- each entry is of one of the four classes
-one_of_class : (n : ℕ) (one : ClassedEntry) (classed : List ClassedEntry) → length (entries_of n (one ∷ classed)) ≡ cond (number_of one.class == n) 1 0 + length (entries_of n classed)
+one_of_class : (n : ℕ) (one : ClassedEntry) (classed : List ClassedEntry) → length (entries_of_class n (one ∷ classed)) ≡ cond (number_of one.class == n) 1 0 + length (entries_of_class n classed)
 one_of_class n one classed =
-    elim (number_of one.class == n) as (λ b. length (map (λ x. x.entry) (cond b (one ∷ filter (λ x. number_of x.class == n) classed) (filter (λ x. number_of x.class == n) classed))) ≡ cond b 1 0 + length (entries_of n classed)) [
+    elim (number_of one.class == n) as (λ b. length (map (λ x. x.entry) (cond b (one ∷ filter (λ x. number_of x.class == n) classed) (filter (λ x. number_of x.class == n) classed))) ≡ cond b 1 0 + length (entries_of_class n classed)) [
       | true ↦ omega arith
       | false ↦ omega arith
     ]
@@ -74,7 +74,7 @@ one_class Low = refl
 one_class High = refl
 one_class Highest = refl
 
-pub all_classes : (classed : List ClassedEntry) → length (entries_of 3 classed) + (length (entries_of 2 classed) + (length (entries_of 1 classed) + length (entries_of 0 classed))) ≡ length classed
+pub all_classes : (classed : List ClassedEntry) → length (entries_of_class 3 classed) + (length (entries_of_class 2 classed) + (length (entries_of_class 1 classed) + length (entries_of_class 0 classed))) ≡ length classed
 all_classes [] = refl
 all_classes (one ∷ classed) = omega (arith, one_of_class 3 one classed, one_of_class 2 one classed, one_of_class 1 one classed, one_of_class 0 one classed, one_class one.class, all_classes classed)
 
@@ -94,7 +94,7 @@ module _ (owners : OwnerMap) where
   one_event true one rest = refl
   one_event false one rest = refl
 
-  events_as : (n : ℕ) (classed : List ClassedEntry) (es : List EpollEvent) → map numbered classed ≡ map (classed_by owners) es → map event_of_entry (entries_of n classed) ≡ of_class class n (map event_of_entry es)
+  events_as : (n : ℕ) (classed : List ClassedEntry) (es : List EpollEvent) → map numbered classed ≡ map (classed_by owners) es → map event_of_entry (entries_of_class n classed) ≡ of_class class n (map event_of_entry es)
   events_as n [] [] h = refl
   events_as n [] (e ∷ es) h = absurd (nil_cons _ _ h)
   events_as n (one ∷ classed) [] h = absurd (nil_cons _ _ (sym h))
@@ -131,12 +131,12 @@ module _ (owners : OwnerMap) where
   lowest_in_order classed es h low = ordered_already class (map event_of_entry es) (lowest_descends class (map event_of_entry es) (lowest_events classed es h low))
 
   -- and otherwise once the classes are written one after another
-  pub written_in_order : (classed : List ClassedEntry) (es now : List EpollEvent) → map numbered classed ≡ map (classed_by owners) es → now ≡ entries_of 3 classed ++ (entries_of 2 classed ++ (entries_of 1 classed ++ entries_of 0 classed)) → IsOrdered class (map event_of_entry es) (map event_of_entry now)
+  pub written_in_order : (classed : List ClassedEntry) (es now : List EpollEvent) → map numbered classed ≡ map (classed_by owners) es → now ≡ entries_of_class 3 classed ++ (entries_of_class 2 classed ++ (entries_of_class 1 classed ++ entries_of_class 0 classed)) → IsOrdered class (map event_of_entry es) (map event_of_entry now)
   written_in_order classed es now h is =
       let joined = ap (map event_of_entry) is
-      ∙ map-append event_of_entry (entries_of 3 classed) (entries_of 2 classed ++ (entries_of 1 classed ++ entries_of 0 classed))
-      ∙ ap (λ l. map event_of_entry (entries_of 3 classed) ++ l) (map-append event_of_entry (entries_of 2 classed) (entries_of 1 classed ++ entries_of 0 classed))
-      ∙ ap (λ l. map event_of_entry (entries_of 3 classed) ++ (map event_of_entry (entries_of 2 classed) ++ l)) (map-append event_of_entry (entries_of 1 classed) (entries_of 0 classed))
+      ∙ map-append event_of_entry (entries_of_class 3 classed) (entries_of_class 2 classed ++ (entries_of_class 1 classed ++ entries_of_class 0 classed))
+      ∙ ap (λ l. map event_of_entry (entries_of_class 3 classed) ++ l) (map-append event_of_entry (entries_of_class 2 classed) (entries_of_class 1 classed ++ entries_of_class 0 classed))
+      ∙ ap (λ l. map event_of_entry (entries_of_class 3 classed) ++ (map event_of_entry (entries_of_class 2 classed) ++ l)) (map-append event_of_entry (entries_of_class 1 classed) (entries_of_class 0 classed))
       ∙ (λ k. events_as 3 classed es h k ++ (events_as 2 classed es h k ++ (events_as 1 classed es h k ++ events_as 0 classed es h k)))
       in
       subst (λ l. IsOrdered class (map event_of_entry es) l) (sym joined) (ordered_by_passes class (map event_of_entry es) (events_at_most_3 classed es h))

@@ -8,8 +8,8 @@ use Rattle.std.specs.FinMap.{get, insert, remove, find, get-from_entries, get-in
 use Rattle.std.specs.Map.{lookup}
 use Rattle.dispatch_tables.specs.Ownership.{Ownership}
 use Rattle.dispatch_tables.specs.Owners.{ownership_of, ownership_at, owner_in, ownership_in, low_entries, high_entries, owners_in, AreApart, HasOwnerAt, HaveSameOwners, IsOwnerAt}
-use Rattle.dispatch_tables.specs.declared.owners.Entry.{Entry}
-use Rattle.dispatch_tables.specs.declared.owners.Entry.TheVariants.{Vacant, Owned}
+use Rattle.dispatch_tables.specs.declared.owners.OwnerSlot.{OwnerSlot}
+use Rattle.dispatch_tables.specs.declared.owners.OwnerSlot.TheVariants.{Vacant, Owned}
 use Rattle.dispatch_tables.specs.declared.owners.Owner.{Owner}
 use Rattle.dispatch_tables.specs.declared.priority.Priority.{Priority}
 use Rattle.dispatch_tables.proofs.NumberTests.{same_tests}
@@ -48,7 +48,7 @@ second_changed : (b : Bool) (new o p : Option Ownership) → (b ≡ true → o �
 second_changed true new o p none = ap (λ x. option_or x new) (none refl)
 second_changed false new o p none = refl
 
-none_past_end : (low : List Entry) (q : ℕ) → length low ≤ q → ownership_at low q ≡ None
+none_past_end : (low : List OwnerSlot) (q : ℕ) → length low ≤ q → ownership_at low q ≡ None
 none_past_end [] q h = refl
 none_past_end (o ∷ low) zero h = absurd (omega (arith, h))
 none_past_end (o ∷ low) (suc q) h = none_past_end low q (omega (arith, h))
@@ -65,13 +65,13 @@ placeless_cond false o p = refl
 abbrev one_of : ℕ → Priority → Ownership
 one_of id priority = record { id = id; priority = priority }
 
-find_before : (q k : ℕ) (low : List Entry) → q < k → find nat_cmp q (low_entries k low) ≡ None
+find_before : (q k : ℕ) (low : List OwnerSlot) → q < k → find nat_cmp q (low_entries k low) ≡ None
 find_before q k [] below = refl
 find_before q k (Vacant ∷ low) below = find_before q (k + 1) low (omega (arith, below))
 find_before q k (Owned priority place id position ∷ low) below =
     found q k (one_of id priority) (low_entries (k + 1) low) ∙ ap (λ o. cond (q == k) (Some (one_of id priority)) o) (find_before q (k + 1) low (omega (arith, below))) ∙ grind (arith, nat_tests, below)
 
-find_low : (q k : ℕ) (low : List Entry) → find nat_cmp (k + q) (low_entries k low) ≡ ownership_at low q
+find_low : (q k : ℕ) (low : List OwnerSlot) → find nat_cmp (k + q) (low_entries k low) ≡ ownership_at low q
 find_low q k [] = refl
 find_low zero k (Vacant ∷ low) = find_before (k + 0) (k + 1) low (omega arith)
 find_low (suc q) k (Vacant ∷ low) = ap (λ n. find nat_cmp n (low_entries (k + 1) low)) (one_on k q) ∙ find_low q (k + 1) low
@@ -82,7 +82,7 @@ find_low (suc q) k (Owned priority place id position ∷ low) =
     ∙ ap (λ n. find nat_cmp n (low_entries (k + 1) low)) (one_on k q)
     ∙ find_low q (k + 1) low
 
-find_low_from_0 : (low : List Entry) (q : ℕ) → find nat_cmp q (low_entries 0 low) ≡ ownership_at low q
+find_low_from_0 : (low : List OwnerSlot) (q : ℕ) → find nat_cmp q (low_entries 0 low) ≡ ownership_at low q
 find_low_from_0 low q = ap (λ n. find nat_cmp n (low_entries 0 low)) (from_0 q) ∙ find_low q 0 low
 
 -- the map's part
@@ -92,7 +92,7 @@ find_high q (e ∷ high) =
     found q e.0 (ownership_of e.1) (high_entries high) ∙ ap (λ o. cond (q == e.0) (Some (ownership_of e.1)) o) (find_high q high)
     ∙ sym (placeless_cond (q == e.0) (Some e.1) (lookup (λ k. q == k) high))
 
-ownership_is : (low : List Entry) (high : List (ℕ × Owner)) (q : ℕ) → get (owners_in low high) q ≡ option_or (ownership_at low q) (ownership_in high q)
+ownership_is : (low : List OwnerSlot) (high : List (ℕ × Owner)) (q : ℕ) → get (owners_in low high) q ≡ option_or (ownership_at low q) (ownership_in high q)
 ownership_is low high q =
     get-from_entries nat_cmp_total (low_entries 0 low ++ high_entries high) q
     ∙ find_append q (low_entries 0 low) (high_entries high)
@@ -100,14 +100,14 @@ ownership_is low high q =
     ∙ ap (λ o. option_or (ownership_at low q) o) (find_high q high)
 
 -- a low descriptor's owner is the vector's, another's is the map's
-pub low_owner : (low : List Entry) (high : List (ℕ × Owner)) (q : ℕ) (o : Option Owner) → AreApart low high → q < 1048576 → placeless o ≡ ownership_at low q → IsOwnerAt (owners_in low high) q o
+pub low_owner : (low : List OwnerSlot) (high : List (ℕ × Owner)) (q : ℕ) (o : Option Owner) → AreApart low high → q < 1048576 → placeless o ≡ ownership_at low q → IsOwnerAt (owners_in low high) q o
 low_owner low high q o apart below is = is ∙ sym (ownership_is low high q ∙ ap (λ p. option_or (ownership_at low q) (placeless p)) (apart.none_low q below) ∙ first_alone (ownership_at low q))
 
-pub high_owner : (low : List Entry) (high : List (ℕ × Owner)) (q : ℕ) (o : Option Owner) → AreApart low high → 1048576 ≤ q → o ≡ owner_in high q → IsOwnerAt (owners_in low high) q o
+pub high_owner : (low : List OwnerSlot) (high : List (ℕ × Owner)) (q : ℕ) (o : Option Owner) → AreApart low high → 1048576 ≤ q → o ≡ owner_in high q → IsOwnerAt (owners_in low high) q o
 high_owner low high q o apart above is = ap placeless is ∙ sym (ownership_is low high q ∙ ap (λ p. option_or p (ownership_in high q)) (none_past_end low q (omega (arith, apart.low_alone, above))))
 
 -- another owner at one descriptor, in the one or the other
-module _ (low lows : List Entry) (high highs : List (ℕ × Owner)) (fd : ℕ) (apart : AreApart low high) where
+module _ (low lows : List OwnerSlot) (high highs : List (ℕ × Owner)) (fd : ℕ) (apart : AreApart low high) where
   tests_alike : (q : ℕ) → (fd == q) ≡ eq_by_cmp nat_cmp q fd
   tests_alike q = flipped fd q ∙ sym (same_tests q fd)
 

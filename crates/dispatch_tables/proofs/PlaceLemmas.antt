@@ -9,7 +9,7 @@ use Rattle.std.specs.Ordering.{eq_by_cmp, is_eq}
 use Rattle.std.specs.FinMap.{FinMap, find, get, insert, remove, same_map, get-insert, get-remove, get-from_entries, nat_cmp-IsAntisymmetric}
 use Rattle.dispatch_tables.specs.declared.places.Place.{Place}
 use Rattle.dispatch_tables.specs.declared.places.Place.TheVariants.{Held, Vacant}
-use Rattle.dispatch_tables.specs.Places.{held_id, subscriber_of, with_subscriber, id_at, subscriber_at, entries_of, values_of, ArePlacedBelow, AreIndexed, AreLinked, AreSound, HaveSameHolders}
+use Rattle.dispatch_tables.specs.Places.{held_id, subscriber_of, with_subscriber, id_at, subscriber_at, held_entries, values_of, ArePlacedBelow, AreIndexed, AreLinked, AreSound, HaveSameHolders}
 use Rattle.dispatch_tables.proofs.NumberTests.{nat_tied, fd_tells}
 use Rattle.dispatch_tables.proofs.VacantPlaces.{none_some, same_some, linked_fill, linked_vacate, linked_rewrite}
 
@@ -50,22 +50,22 @@ module _ {S : Type 0} where
   -- the id is held nowhere and found nowhere, or found where it is held
   abbrev Finds : List (Place S) → ℕ → Type 0
   Finds places id =
-      ((find nat_cmp id (entries_of places) ≡ None) × ((place : ℕ) → id_at places place ≡ Some id → ⊥))
-      ⊎ ((place : ℕ) × (id_at places place ≡ Some id) × (find nat_cmp id (entries_of places) ≡ subscriber_at places place))
+      ((find nat_cmp id (held_entries places) ≡ None) × ((place : ℕ) → id_at places place ≡ Some id → ⊥))
+      ⊎ ((place : ℕ) × (id_at places place ≡ Some id) × (find nat_cmp id (held_entries places) ≡ subscriber_at places place))
 
   not_in : (e : Place S) (places : List (Place S)) (id : ℕ) → (held_id e ≡ Some id → ⊥) → ((place : ℕ) → id_at places place ≡ Some id → ⊥) → (place : ℕ) → id_at (e ∷ places) place ≡ Some id → ⊥
   not_in e places id apart none zero held = apart held
   not_in e places id apart none (suc k) held = none k held
 
-  finds_later : (e : Place S) (places : List (Place S)) (id : ℕ) → (held_id e ≡ Some id → ⊥) → find nat_cmp id (entries_of (e ∷ places)) ≡ find nat_cmp id (entries_of places) → Finds places id → Finds (e ∷ places) id
+  finds_later : (e : Place S) (places : List (Place S)) (id : ℕ) → (held_id e ≡ Some id → ⊥) → find nat_cmp id (held_entries (e ∷ places)) ≡ find nat_cmp id (held_entries places) → Finds places id → Finds (e ∷ places) id
   finds_later e places id apart same (inl none) = inl (same ∙ none.0, not_in e places id apart none.1)
   finds_later e places id apart same (inr some) = inr (suc some.0, some.1, same ∙ some.2)
 
   finds_held : (holder : ℕ) (subscriber : S) (places : List (Place S)) (id : ℕ) (b : Bool) → eq_by_cmp nat_cmp id holder ≡ b → (b ≡ true → id ≡ holder) → Finds places id → Finds (Held holder subscriber ∷ places) id
-  finds_held holder subscriber places id true is tied rest = inr (0, ap Some (sym (tied refl)), ap (λ b. cond b (Some subscriber) (find nat_cmp id (entries_of places))) is)
+  finds_held holder subscriber places id true is tied rest = inr (0, ap Some (sym (tied refl)), ap (λ b. cond b (Some subscriber) (find nat_cmp id (held_entries places))) is)
   finds_held holder subscriber places id false is tied rest =
       finds_later (Held holder subscriber) places id (λ held. false≢true (sym is ∙ ap (λ i. eq_by_cmp nat_cmp id i) (same_some holder id held) ∙ ap is_eq (tied_itself nat_cmp_total id)))
-      (ap (λ b. cond b (Some subscriber) (find nat_cmp id (entries_of places))) is) rest
+      (ap (λ b. cond b (Some subscriber) (find nat_cmp id (held_entries places))) is) rest
 
   finds : (places : List (Place S)) (id : ℕ) → Finds places id
   finds [] id = inl (refl, λ place held. none_some id (sym (get_or_past [] place None (omega arith)) ∙ held))
@@ -77,14 +77,14 @@ module _ {S : Type 0} where
   at_index places None = None
   at_index places (Some place) = subscriber_at places place
 
-  found_at_index : (places : List (Place S)) (index : ℕ → Option ℕ) (id : ℕ) → AreIndexed places index → Finds places id → (o : Option ℕ) → index id ≡ o → find nat_cmp id (entries_of places) ≡ at_index places o
+  found_at_index : (places : List (Place S)) (index : ℕ → Option ℕ) (id : ℕ) → AreIndexed places index → Finds places id → (o : Option ℕ) → index id ≡ o → find nat_cmp id (held_entries places) ≡ at_index places o
   found_at_index places index id indexed (inl none) None is = none.0
   found_at_index places index id indexed (inl none) (Some place) is = absurd (none.1 place ((indexed id place).0 is))
   found_at_index places index id indexed (inr some) None is = absurd (none_some some.0 (sym is ∙ (indexed id some.0).1 some.1))
   found_at_index places index id indexed (inr some) (Some place) is = some.2 ∙ ap (subscriber_at places) (same_some some.0 place (sym ((indexed id some.0).1 some.1) ∙ is))
 
   pub get_of_places : (places : List (Place S)) (index : ℕ → Option ℕ) (id : ℕ) → AreIndexed places index → get (values_of places) id ≡ at_index places (index id)
-  get_of_places places index id indexed = get-from_entries nat_cmp_total (entries_of places) id ∙ found_at_index places index id indexed (finds places id) (index id) refl
+  get_of_places places index id indexed = get-from_entries nat_cmp_total (held_entries places) id ∙ found_at_index places index id indexed (finds places id) (index id) refl
 
   -- the subscriber of an id that a place holds
   pub get_of_held : (places : List (Place S)) (index : ℕ → Option ℕ) (id place : ℕ) → AreIndexed places index → id_at places place ≡ Some id → get (values_of places) id ≡ subscriber_at places place
@@ -165,7 +165,7 @@ module _ {S : Type 0} where
   id_at_push (e ∷ places) next zero = refl
   id_at_push (e ∷ places) next (suc k) = id_at_push places next k
 
-  entries_push : (places : List (Place S)) (next : Option ℕ) → entries_of (places ++ Vacant next ∷ []) ≡ entries_of places
+  entries_push : (places : List (Place S)) (next : Option ℕ) → held_entries (places ++ Vacant next ∷ []) ≡ held_entries places
   entries_push [] next = refl
   entries_push (Held id subscriber ∷ places) next = ap (λ es. (id, subscriber) ∷ es) (entries_push places next)
   entries_push (Vacant other ∷ places) next = entries_push places next

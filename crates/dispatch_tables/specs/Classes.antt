@@ -14,8 +14,8 @@ abbrev pub classed_by : OwnerMap → EpollEvent → ℕ × EpollEvent
 classed_by owners e = (class_in owners (event_of_entry e).fd, e)
 
 -- the entries of class n
-abbrev pub entries_of : ℕ → List ClassedEntry → List EpollEvent
-entries_of n classed = map (λ one. one.entry) (filter (λ one. number_of one.class == n) classed)
+abbrev pub entries_of_class : ℕ → List ClassedEntry → List EpollEvent
+entries_of_class n classed = map (λ one. one.entry) (filter (λ one. number_of one.class == n) classed)
 
 abbrev pub AreAllLowest : List ClassedEntry → Type 0
 AreAllLowest classed = All (λ one. number_of one.class ≡ 0) classed

@@ -36,13 +36,13 @@ module _ {S : Type 0} where
   subscriber_at places place = slice_index_or (map subscriber_of places) place None
 
   -- the subscribers by id
-  abbrev pub entries_of : List (Place S) → List (ℕ × S)
-  entries_of [] = []
-  entries_of (Held id subscriber ∷ places) = (id, subscriber) ∷ entries_of places
-  entries_of (Vacant next ∷ places) = entries_of places
+  abbrev pub held_entries : List (Place S) → List (ℕ × S)
+  held_entries [] = []
+  held_entries (Held id subscriber ∷ places) = (id, subscriber) ∷ held_entries places
+  held_entries (Vacant next ∷ places) = held_entries places
 
   abbrev pub values_of : List (Place S) → FinMap nat_cmp S
-  values_of places = from_entries (entries_of places)
+  values_of places = from_entries (held_entries places)
 
   -- the index has exactly the ids that are held, each with its place
   abbrev pub AreIndexed : List (Place S) → (ℕ → Option ℕ) → Type 0

@@ -4,7 +4,7 @@ ghost use Rattle.std.specs.Prelude.{◌≡◌, ◌≤◌, ◌<◌, ◌+◌, ◌+
 ghost use Rattle.dispatch_tables.specs.Priority.{number_of};
 ghost use Rattle.dispatch_tables.specs.Event.{event_of_entry};
 ghost use Rattle.dispatch_tables.specs.Ownership.{class_in};
-ghost use Rattle.dispatch_tables.specs.Classes.{numbered, classed_by, entries_of, AreAllLowest};
+ghost use Rattle.dispatch_tables.specs.Classes.{numbered, classed_by, entries_of_class, AreAllLowest};
 ghost use Rattle.dispatch_tables.specs.ClassOrder.{IsOrdered};
 
 use crate::descriptor::fd_of;
@@ -67,7 +67,7 @@ fn classify(
 /// Writes the entries into the front of the buffer, the highest class first.
 fn write_classes(classed: &[ClassedEntry], buffer: &mut [EpollEvent])
     requires { length classed.now ≤ length buffer.old }
-    ensures { take (length classed.now) buffer.new ≡ entries_of 3 classed.now ++ (entries_of 2 classed.now ++ (entries_of 1 classed.now ++ entries_of 0 classed.now)) }
+    ensures { take (length classed.now) buffer.new ≡ entries_of_class 3 classed.now ++ (entries_of_class 2 classed.now ++ (entries_of_class 1 classed.now ++ entries_of_class 0 classed.now)) }
 {
     let at = write_class(classed, Priority::Highest, buffer, 0);
     let at = write_class(classed, Priority::High, buffer, at);
@@ -82,9 +82,9 @@ fn write_class(
     buffer: &mut [EpollEvent],
     from: usize,
 ) -> usize
-    requires { from + length (entries_of (number_of class) classed.now) ≤ length buffer.old }
-    ensures place { result ≡ from + length (entries_of (number_of class) classed.now) }
-    ensures written { take result buffer.new ≡ take from buffer.old ++ entries_of (number_of class) classed.now }
+    requires { from + length (entries_of_class (number_of class) classed.now) ≤ length buffer.old }
+    ensures place { result ≡ from + length (entries_of_class (number_of class) classed.now) }
+    ensures written { take result buffer.new ≡ take from buffer.old ++ entries_of_class (number_of class) classed.now }
 {
     let mut to = from;
     for one in classed {

@@ -4,7 +4,7 @@ ghost use Rattle.std.specs.Prelude.{◌≡◌, ◌<◌, ◌≤◌, ◌==◌, ℕ
 ghost use Rattle.std.specs.FinMap as map;
 ghost use Rattle.dispatch_tables.specs.Priority.{number_of};
 ghost use Rattle.dispatch_tables.specs.Ownership.{class_in};
-ghost use Rattle.dispatch_tables.specs.Owners.{ownership_of, owner_in, ownership_in, entry_ownership, ownership_at, HasOwnerAt, HaveSameOwners, IsOwnerAt};
+ghost use Rattle.dispatch_tables.specs.Owners.{ownership_of, owner_in, ownership_in, slot_ownership, ownership_at, HasOwnerAt, HaveSameOwners, IsOwnerAt};
 
 use crate::priority::Priority;
 use std::alloc::{AllocError, Global};
@@ -30,7 +30,7 @@ pub struct Owner {
 /// The fields stand so that they take 24 bytes. Place and position are compared where they are used; one that 32 bits don't
 /// hold is kept as the highest number.
 #[derive(Clone, Copy)]
-enum Entry {
+enum OwnerSlot {
     Vacant,
     Owned {
         priority: Priority,
@@ -40,14 +40,14 @@ enum Entry {
     },
 }
 
-const _: () = prove!(size_of::<Entry>() == 24);
+const _: () = prove!(size_of::<OwnerSlot>() == 24);
 
-impl Entry {
+impl OwnerSlot {
     /// The entry of an owner.
-    fn of(owner: Owner) -> Entry
-        ensures { entry_ownership result ≡ Some (ownership_of owner) }
+    fn of(owner: Owner) -> OwnerSlot
+        ensures { slot_ownership result ≡ Some (ownership_of owner) }
     {
-        Entry::Owned {
+        OwnerSlot::Owned {
             priority: owner.priority,
             place: shortened(owner.place),
             id: owner.id,
@@ -57,11 +57,11 @@ impl Entry {
 
     /// The owner, if there is one.
     fn owner(&self) -> Option<Owner>
-        ensures { option_map ownership_of result ≡ entry_ownership self.now }
+        ensures { option_map ownership_of result ≡ slot_ownership self.now }
     {
         match *self {
-            Entry::Vacant => None,
-            Entry::Owned {
+            OwnerSlot::Vacant => None,
+            OwnerSlot::Owned {
                 priority,
                 place,
                 id,
@@ -85,7 +85,7 @@ fn shortened(index: usize) -> u32 {
 /// highest low descriptor that was ever added; one of another descriptor searches a hash map.
 #[derive(Drop)]
 pub struct Owners {
-    low: Vec<Entry>,
+    low: Vec<OwnerSlot>,
     high: HashMap<u32, Owner>,
 }
 
@@ -171,12 +171,12 @@ impl Owners {
 }
 
 /// Notes another position beside the owner at a descriptor, if it has one.
-fn set_position_at(low: &mut Vec<Entry>, fd: usize, new_position: usize)
+fn set_position_at(low: &mut Vec<OwnerSlot>, fd: usize, new_position: usize)
     ensures len { length low.new.items ≡ length low.old.items }
     ensures same { HaveSameOwners (ownership_at low.old.items) (ownership_at low.new.items) }
 {
     if fd < low.len() {
-        if let Entry::Owned { position, .. } = &mut low[fd] {
+        if let OwnerSlot::Owned { position, .. } = &mut low[fd] {
             *position = shortened(new_position);
         }
     }
@@ -225,21 +225,21 @@ fn take_from(high: &mut HashMap<u32, Owner>, fd: u32) -> Option<Owner>
 }
 
 /// Puts an owner at a descriptor, and makes the vector as long as it takes. Where memory is refused, it stays.
-fn put_at(low: &mut Vec<Entry>, fd: usize, owner: Owner) -> std::result::Result<(), AllocError>
+fn put_at(low: &mut Vec<OwnerSlot>, fd: usize, owner: Owner) -> std::result::Result<(), AllocError>
     requires { fd < 1048576 }
     ensures len { length low.old.items ≤ 1048576 → length low.new.items ≤ 1048576 }
     ensures ok { OnOk result (HasOwnerAt low.old.items fd (Some (ownership_of owner)) low.new.items) }
     ensures err { OnErr result (low.new.items ≡ low.old.items) }
 {
     if fd >= low.len() {
-        low.resize(fd + 1, Entry::Vacant)?;
+        low.resize(fd + 1, OwnerSlot::Vacant)?;
     }
-    low[fd] = Entry::of(owner);
+    low[fd] = OwnerSlot::of(owner);
     Ok(())
 }
 
 /// The owner at a descriptor.
-fn copy_at(low: &[Entry], fd: usize) -> Option<Owner>
+fn copy_at(low: &[OwnerSlot], fd: usize) -> Option<Owner>
     ensures { option_map ownership_of result ≡ ownership_at low.now fd }
 {
     match low.get(fd) {
@@ -249,13 +249,13 @@ fn copy_at(low: &[Entry], fd: usize) -> Option<Owner>
 }
 
 /// Takes out the owner at a descriptor, and answers it.
-fn take_at(low: &mut Vec<Entry>, fd: usize) -> Option<Owner>
+fn take_at(low: &mut Vec<OwnerSlot>, fd: usize) -> Option<Owner>
     ensures value { option_map ownership_of result ≡ ownership_at low.old.items fd }
     ensures taken { HasOwnerAt low.old.items fd None low.new.items }
     ensures len { length low.new.items ≡ length low.old.items }
 {
     if fd < low.len() {
-        return mem::replace(&mut low[fd], Entry::Vacant).owner();
+        return mem::replace(&mut low[fd], OwnerSlot::Vacant).owner();
     }
     None
 }

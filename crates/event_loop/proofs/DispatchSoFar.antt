@@ -1,6 +1,6 @@
 -- A batch that is dispatched from the front: one more position.
 use Rattle.std.proofs.Common.{◌≡◌, refl, sym, ap, subst, List, [], ◌∷◌, ◌++◌, append_assoc, append-nil}
-use Rattle.event_loop.specs.Prelude.{Event, Serves, Registry, Position, Outcome, is_removed, still_pending, with_pending, IsOutcome, AreDispatched, events_of}
+use Rattle.event_loop.specs.Prelude.{Event, Serves, Registry, Position, Delivery, is_removed, still_pending, with_pending, IsDelivery, AreDispatched, events_of}
 
 module _ {V : Type 0} (serves : Serves V) where
   -- the positions so far lead from the start to now: whatever completes them there completes them from the start
@@ -11,13 +11,13 @@ module _ {V : Type 0} (serves : Serves V) where
   pub so_far_none : (start : Registry V) (report : List Event) → AreDispatchedSoFar start [] report start
   so_far_none start report rest after e h = h
 
-  pub so_far_more : (start now next : Registry V) (earlier : List (Position V)) (event : Event) (later : List Event) (outcome : Outcome V)
-      → AreDispatchedSoFar start earlier (event ∷ later) now → IsOutcome serves (with_pending (still_pending earlier later) now) (is_removed event.fd earlier) event outcome next
-      → AreDispatchedSoFar start (earlier ++ record { event = event; outcome = outcome } ∷ []) later next
-  so_far_more start now next earlier event later outcome so_far out rest after e h =
-      let position : Position V = record { event = event; outcome = outcome } in
+  pub so_far_more : (start now next : Registry V) (earlier : List (Position V)) (event : Event) (later : List Event) (delivery : Delivery V)
+      → AreDispatchedSoFar start earlier (event ∷ later) now → IsDelivery serves (with_pending (still_pending earlier later) now) (is_removed event.fd earlier) event delivery next
+      → AreDispatchedSoFar start (earlier ++ record { event = event; delivery = delivery } ∷ []) later next
+  so_far_more start now next earlier event later delivery so_far out rest after e h =
+      let position : Position V = record { event = event; delivery = delivery } in
       subst (λ positions. AreDispatched serves start [] positions after) (sym (append_assoc earlier (position ∷ []) rest))
-      (so_far (position ∷ rest) after (ap (λ es. event ∷ es) e) (next, subst (λ es. IsOutcome serves (with_pending (still_pending earlier es) now) (is_removed event.fd earlier) event outcome next) (sym e) out, h))
+      (so_far (position ∷ rest) after (ap (λ es. event ∷ es) e) (next, subst (λ es. IsDelivery serves (with_pending (still_pending earlier es) now) (is_removed event.fd earlier) event delivery next) (sym e) out, h))
 
   pub so_far_all : (start now : Registry V) (positions : List (Position V)) → AreDispatchedSoFar start positions [] now → AreDispatched serves start [] positions (with_pending [] now)
   so_far_all start now positions so_far =

@@ -8,7 +8,7 @@ use Rattle.std.proofs.lemmas.List.Folds.{list_any-append}
 use Rattle.std.proofs.lemmas.List.Sorted.{list_any-IsPermutation}
 use Rattle.std.specs.FinMap.{get}
 use Rattle.dispatch_tables.specs.Members.{with_member}
-use Rattle.event_loop.specs.Prelude.{Event, Registrations, Owns, owner_of, class_in, IsDispatchOrder, PollerCall, Wait, Exchanges, ExchangesFit, removes, Serves, HasId, Nobody, To, Position, exchanges_of, is_removed, still_pending, events_of, with_pending, IsOutcome, AreDispatched, calls_of_outcome, calls_of_positions, is_reported, AreMade, Controls, Waits, Leads}
+use Rattle.event_loop.specs.Prelude.{Event, Registrations, Owns, owner_of, class_in, IsDispatchOrder, PollerCall, Wait, Exchanges, ExchangesFit, removes, Serves, HasId, Nobody, To, Position, exchanges_of, is_removed, still_pending, events_of, with_pending, IsDelivery, AreDispatched, calls_of_delivery, calls_of_positions, is_reported, AreMade, Controls, Waits, Leads}
 use Rattle.dispatch_tables.specs.Owners.{ownership_of}
 use Rattle.dispatch_tables.specs.declared.owners.Owner.{Owner}
 use Rattle.dispatch_tables.proofs.DispatchOrders.{nil_cons, head_is, tail_is, ordered_permutation}
@@ -33,7 +33,7 @@ module _ {S P : Type 0} {controls : Controls P} {waits : Waits P} (serves : Serv
     event = event;
     cancelled = cancelled;
     later = rest;
-    outcome = Nobody;
+    delivery = Nobody;
     was = was;
     had = (
       (λ i value is. ⊎_elim (λ e. true_false _ e is.1) (λ none. none i value (is.0, is.2)) why),
@@ -57,7 +57,7 @@ module _ {S P : Type 0} {controls : Controls P} {waits : Waits P} (serves : Serv
     event = event;
     cancelled = false;
     later = rest;
-    outcome = To id exchanges calls held;
+    delivery = To id exchanges calls held;
     was = was;
     had = (
       value,
@@ -97,16 +97,16 @@ module _ {S P : Type 0} (before : Registry S P) (mid : RegistrationState) (fd : 
 abbrev pub cancelled_by : {V : Type 0} → List (Position V) → List Event → List (Event × Bool)
 cancelled_by positions later = map (λ (e : Event). (e, is_removed e.fd positions)) later
 
-pub is_removed-push : {V : Type 0} (fd : ℕ) (positions : List (Position V)) (d : Position V) → is_removed fd (positions ++ d ∷ []) ≡ is_removed fd positions || removes fd (exchanges_of d.outcome)
+pub is_removed-push : {V : Type 0} (fd : ℕ) (positions : List (Position V)) (d : Position V) → is_removed fd (positions ++ d ∷ []) ≡ is_removed fd positions || removes fd (exchanges_of d.delivery)
 is_removed-push {V} fd positions d =
-    list_any-append (λ (p : Position V). removes fd (exchanges_of p.outcome)) positions (d ∷ []) ∙ ap (λ b. is_removed fd positions || b) (or_false (removes fd (exchanges_of d.outcome)))
+    list_any-append (λ (p : Position V). removes fd (exchanges_of p.delivery)) positions (d ∷ []) ∙ ap (λ b. is_removed fd positions || b) (or_false (removes fd (exchanges_of d.delivery)))
 
-marked_more : {V : Type 0} (positions : List (Position V)) (d : Position V) (later : List Event) → marked (exchanges_of d.outcome) (cancelled_by positions later) ≡ cancelled_by (positions ++ d ∷ []) later
+marked_more : {V : Type 0} (positions : List (Position V)) (d : Position V) (later : List Event) → marked (exchanges_of d.delivery) (cancelled_by positions later) ≡ cancelled_by (positions ++ d ∷ []) later
 marked_more positions d [] = refl
-marked_more positions d (e ∷ later) = ap (λ b. (e, b) ∷ marked (exchanges_of d.outcome) (cancelled_by positions later)) (sym (is_removed-push e.fd positions d)) ∙ ap (λ r. (e, is_removed e.fd (positions ++ d ∷ [])) ∷ r) (marked_more positions d later)
+marked_more positions d (e ∷ later) = ap (λ b. (e, b) ∷ marked (exchanges_of d.delivery) (cancelled_by positions later)) (sym (is_removed-push e.fd positions d)) ∙ ap (λ r. (e, is_removed e.fd (positions ++ d ∷ [])) ∷ r) (marked_more positions d later)
 
-cancelled_more : {V : Type 0} (positions : List (Position V)) (d : Position V) (later : List Event) → cancel_removed (exchanges_of d.outcome) (cancelled_by positions later) ≡ cancelled_by (positions ++ d ∷ []) later
-cancelled_more positions d later = cancel_removed_marks (exchanges_of d.outcome) (cancelled_by positions later) ∙ marked_more positions d later
+cancelled_more : {V : Type 0} (positions : List (Position V)) (d : Position V) (later : List Event) → cancel_removed (exchanges_of d.delivery) (cancelled_by positions later) ≡ cancelled_by (positions ++ d ∷ []) later
+cancelled_more positions d later = cancel_removed_marks (exchanges_of d.delivery) (cancelled_by positions later) ∙ marked_more positions d later
 
 not_cancelled_one : (e : Event) (b : Bool) (rest : List (Event × Bool)) (more : List Event) → not_cancelled rest ≡ more → not_cancelled ((e, b) ∷ rest) ≡ cond (not b) (e ∷ more) more
 not_cancelled_one e true rest more h = h
@@ -116,9 +116,9 @@ not_cancelled_marks : {V : Type 0} (positions : List (Position V)) (later : List
 not_cancelled_marks positions [] = refl
 not_cancelled_marks positions (e ∷ later) = not_cancelled_one e (is_removed e.fd positions) (cancelled_by positions later) (still_pending positions later) (not_cancelled_marks positions later)
 
-calls_more : {V : Type 0} (positions : List (Position V)) (d : Position V) → calls_of_positions (positions ++ d ∷ []) ≡ calls_of_positions positions ++ calls_of_outcome d.outcome
+calls_more : {V : Type 0} (positions : List (Position V)) (d : Position V) → calls_of_positions (positions ++ d ∷ []) ≡ calls_of_positions positions ++ calls_of_delivery d.delivery
 calls_more {V} positions d =
-    flat_map-append (λ (p : Position V). calls_of_outcome p.outcome) positions (d ∷ []) ∙ ap (λ xs. calls_of_positions positions ++ xs) (append-nil (calls_of_outcome d.outcome))
+    flat_map-append (λ (p : Position V). calls_of_delivery p.delivery) positions (d ∷ []) ∙ ap (λ xs. calls_of_positions positions ++ xs) (append-nil (calls_of_delivery d.delivery))
 
 events_more : {V : Type 0} (positions : List (Position V)) (d : Position V) (later : List Event) → events_of (positions ++ d ∷ []) ++ later ≡ events_of positions ++ d.event ∷ later
 events_more [] d later = refl
@@ -163,17 +163,17 @@ module _ {S P : Type 0} (serves : Serves S) where
         let both = sym ready ∙ step.was in
         let first = head_is _ _ _ _ both in
         let rest = tail_is _ _ _ _ both in
-        let position : Position S = record { event = e; outcome = step.outcome } in
-        let here = subst (λ p. IsOutcome serves (with_pending (not_cancelled step.later) (registry_of now)) p.1 p.0 step.outcome (registry_of next)) (sym first) step.had in
+        let position : Position S = record { event = e; delivery = step.delivery } in
+        let here = subst (λ p. IsDelivery serves (with_pending (not_cancelled step.later) (registry_of now)) p.1 p.0 step.delivery (registry_of next)) (sym first) step.had in
         let left = ap not_cancelled (sym rest) ∙ not_cancelled_marks positions es in
-        let had = subst (λ l. IsOutcome serves (with_pending l (registry_of now)) (is_removed e.fd positions) e step.outcome (registry_of next)) left here in
+        let had = subst (λ l. IsDelivery serves (with_pending l (registry_of now)) (is_removed e.fd positions) e step.delivery (registry_of next)) left here in
         record {
           positions = positions ++ position ∷ [];
           later = es;
           events = events_more positions position es ∙ events;
-          ready = step.ready ∙ ap (cancel_removed (exchanges_of step.outcome)) (sym rest) ∙ cancelled_more positions position es;
-          dispatched = so_far_more serves (registry_of start) (registry_of now) (registry_of next) positions e es step.outcome dispatched had;
-          led = subst (λ xs. Leads controls waits start.ops.epoll.poller xs next.ops.epoll.poller) (sym (calls_more positions position)) (leads_join controls waits start.ops.epoll.poller now.ops.epoll.poller next.ops.epoll.poller (calls_of_positions positions) (calls_of_outcome step.outcome) led step.led);
+          ready = step.ready ∙ ap (cancel_removed (exchanges_of step.delivery)) (sym rest) ∙ cancelled_more positions position es;
+          dispatched = so_far_more serves (registry_of start) (registry_of now) (registry_of next) positions e es step.delivery dispatched had;
+          led = subst (λ xs. Leads controls waits start.ops.epoll.poller xs next.ops.epoll.poller) (sym (calls_more positions position)) (leads_join controls waits start.ops.epoll.poller now.ops.epoll.poller next.ops.epoll.poller (calls_of_positions positions) (calls_of_delivery step.delivery) led step.led);
           same_capacity = step.same_capacity ∙ same;
           same_endpoint = step.same_endpoint ∙ same_endpoint;
           noticed =

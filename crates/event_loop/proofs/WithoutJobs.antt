@@ -4,7 +4,7 @@ use Rattle.std.proofs.lemmas.List.{append-nil}
 use Rattle.vmm_sys.specs.declared.errno.Errno.{Errno}
 use Rattle.event_loop.specs.Prelude.{Event, Wait, Controls, Waits, Leads, Begins, Serves, Registry, May, Position, IsIteration, calls_of_positions, LoopState, IsDispatchedAfter, IsLoopIteration}
 use Rattle.event_loop.specs.declared.error.Error.{Error}
-use Rattle.event_loop.specs.Subscribers.{IsBatch, count_of}
+use Rattle.event_loop.specs.Subscribers.{IsBatch, batch_count}
 use Rattle.event_loop.specs.declared.registry.Batch.{Batch}
 
 module _ {S J R : Type 0} (begins : Begins S) (serves : Serves S) (may : May S J R) where
@@ -16,7 +16,7 @@ module _ {S J R : Type 0} (begins : Begins S) (serves : Serves S) (may : May S J
 module _ {S P J R : Type 0} (begins : Begins S) (serves : Serves S) (may : May S J R) (controls : Controls P) (waits : Waits P) where
   -- a batch after which no jobs are taken
   pub without_jobs : (n : ℕ) (before after : LoopState S P) (ms : ℤ) (result : Result Batch Error) → IsBatch serves controls waits before ms result after
-      → IsLoopIteration begins serves may controls waits (record before { taken = n }) ms (count_of result) (record after { taken = n })
+      → IsLoopIteration begins serves may controls waits (record before { taken = n }) ms (batch_count result) (record after { taken = n })
   without_jobs n before after ms result batch = record {
     iteration = record { ms = ms; waited = batch.waited; positions = batch.positions; jobs = [] };
     milliseconds = refl;

@@ -10,22 +10,22 @@ use Rattle.event_loop.specs.Exchange.{Exchanges, ExchangesFit, removes, Serves}
 use Rattle.event_loop.specs.Registry.{Registry, HasId}
 
 -- what became of an event: nobody got it; or this id did, with its exchanges, their poller calls, and its value after
-pub data Outcome (V : Type 0) : Type 0 where
-  Nobody : Outcome V
-  To : (id : ℕ) (exchanges : Exchanges) (calls : List PollerCall) (after : V) → Outcome V
+pub data Delivery (V : Type 0) : Type 0 where
+  Nobody : Delivery V
+  To : (id : ℕ) (exchanges : Exchanges) (calls : List PollerCall) (after : V) → Delivery V
 
--- a position of the batch, in the order of dispatch: the event as it was reported, and its outcome
+-- a position of the batch, in the order of dispatch: the event as it was reported, and its delivery
 pub record Position (V : Type 0) : Type 0 where
   pub event : Event
-  pub outcome : Outcome V
+  pub delivery : Delivery V
 
-abbrev pub exchanges_of : {V : Type 0} → Outcome V → Exchanges
+abbrev pub exchanges_of : {V : Type 0} → Delivery V → Exchanges
 exchanges_of Nobody = []
 exchanges_of (To id exchanges calls after) = exchanges
 
 -- whether the exchanges of one of these positions hold an agreed Remove of the descriptor
 abbrev pub is_removed : {V : Type 0} → ℕ → List (Position V) → Bool
-is_removed fd positions = list_any (λ position. removes fd (exchanges_of position.outcome)) positions
+is_removed fd positions = list_any (λ position. removes fd (exchanges_of position.delivery)) positions
 
 -- the later events whose descriptor no exchange of the earlier positions removed
 abbrev pub still_pending : {V : Type 0} → List (Position V) → List Event → List Event
@@ -44,9 +44,9 @@ IsFor registry removed event i value = Owns i registry.registrations event.fd ×
 
 module _ {V : Type 0} (serves : Serves V) where
   -- what became of an event whose descriptor was removed or not since the wait
-  abbrev pub IsOutcome : Registry V → Bool → Event → Outcome V → Registry V → Type 0
-  IsOutcome before removed event Nobody after = ((i : ℕ) (value : V) → ¬ IsFor before removed event i value) × (after ≡ before)
-  IsOutcome before removed event (To i exchanges calls held) after =
+  abbrev pub IsDelivery : Registry V → Bool → Event → Delivery V → Registry V → Type 0
+  IsDelivery before removed event Nobody after = ((i : ℕ) (value : V) → ¬ IsFor before removed event i value) × (after ≡ before)
+  IsDelivery before removed event (To i exchanges calls held) after =
       (value : V) × (registrations : Registrations) × IsFor before removed event i value × serves value event exchanges held
       × ExchangesFit i before.registrations exchanges calls registrations
       × (after ≡ record before { values = finite.insert before.values i held; registrations = registrations })
@@ -55,9 +55,9 @@ module _ {V : Type 0} (serves : Serves V) where
   abbrev pub AreDispatched : Registry V → List (Position V) → List (Position V) → Registry V → Type 0
   AreDispatched before earlier [] after = after ≡ with_pending [] before
   AreDispatched before earlier (position ∷ later) after =
-      (mid : Registry V) × IsOutcome (with_pending (still_pending earlier (events_of later)) before) (is_removed position.event.fd earlier) position.event position.outcome mid
+      (mid : Registry V) × IsDelivery (with_pending (still_pending earlier (events_of later)) before) (is_removed position.event.fd earlier) position.event position.delivery mid
       × AreDispatched mid (earlier ++ position ∷ []) later after
 
-  -- a dispatch of the report: an outcome for each of its events, which come by the classes that they have before it
+  -- a dispatch of the report: a delivery for each of its events, which come by the classes that they have before it
   abbrev pub IsDispatch : Registry V → List Event → List (Position V) → Registry V → Type 0
   IsDispatch before report positions after = IsDispatchOrder before.registrations report (events_of positions) × AreDispatched before [] positions after

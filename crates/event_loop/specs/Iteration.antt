@@ -5,8 +5,8 @@ use Rattle.std.specs.Ordering.{int_eq}
 use Rattle.dispatch_tables.specs.Event.{Event}
 use Rattle.event_loop.specs.PollerCall.{PollerCall, Wait}
 use Rattle.event_loop.specs.Exchange.{Begins, Serves}
-use Rattle.event_loop.specs.Registry.{Registry, Step, Steps, calls_of, May}
-use Rattle.event_loop.specs.Dispatch.{Outcome, Nobody, To, Position, IsDispatch}
+use Rattle.event_loop.specs.Registry.{Registry, LoopStep, Steps, calls_of, May}
+use Rattle.event_loop.specs.Dispatch.{Delivery, Nobody, To, Position, IsDispatch}
 use Rattle.vmm_sys.specs.declared.errno.Errno.{Errno}
 use Rattle.event_loop.specs.declared.error.Error.{Error}
 use Rattle.event_loop.specs.declared.error.Error.TheVariants.{Epoll}
@@ -20,7 +20,7 @@ pub record ManagerState (V : Type 0) : Type 0 where
 pub record JobRun (V J R : Type 0) : Type 0 where
   pub ticket : ℕ
   pub job : J
-  pub steps : List (Step V)
+  pub steps : List (LoopStep V)
   pub reply : R
 
 -- an iteration: the milliseconds, what the wait gave, the positions of its report, the jobs that ran
@@ -31,9 +31,9 @@ pub record Iteration (V J R : Type 0) : Type 0 where
   pub jobs : List (JobRun V J R)
 
 -- the answer of a run: the number of entries, and none after an interrupted wait
-abbrev pub answer_of : Result (List Event) Errno → Result ℕ Error
-answer_of (Ok report) = Ok (length report)
-answer_of (Err errno) = if int_eq errno.0 (pos 4) then Ok 0 else Err (Epoll errno)
+abbrev pub run_answer : Result (List Event) Errno → Result ℕ Error
+run_answer (Ok report) = Ok (length report)
+run_answer (Err errno) = if int_eq errno.0 (pos 4) then Ok 0 else Err (Epoll errno)
 
 -- whether an event of the report is on this descriptor
 abbrev pub is_reported : ℕ → List Event → Bool
@@ -41,7 +41,7 @@ is_reported fd report = list_any (λ e. e.fd == fd) report
 
 module _ {V : Type 0} (begins : Begins V) where
   -- the steps, one after another
-  abbrev pub AllSteps : Registry V → List (Step V) → Registry V → Type 0
+  abbrev pub AllSteps : Registry V → List (LoopStep V) → Registry V → Type 0
   AllSteps before [] after = after ≡ before
   AllSteps before (step ∷ steps) after = (mid : Registry V) × Steps begins before step mid × AllSteps mid steps after
 
@@ -60,12 +60,12 @@ module _ {V J R : Type 0} (begins : Begins V) (serves : Serves V) (may : May V J
       (mid : Registry V) × IsDispatch serves before.registry report positions mid × (All (λ e. e.fd ≢ before.registry.registrations.endpoint) report → jobs ≡ [])
       × AreRun (record before { registry = mid }) jobs after
 
-abbrev pub calls_of_outcome : {V : Type 0} → Outcome V → List PollerCall
-calls_of_outcome Nobody = []
-calls_of_outcome (To id exchanges calls after) = calls
+abbrev pub calls_of_delivery : {V : Type 0} → Delivery V → List PollerCall
+calls_of_delivery Nobody = []
+calls_of_delivery (To id exchanges calls after) = calls
 
 abbrev pub calls_of_positions : {V : Type 0} → List (Position V) → List PollerCall
-calls_of_positions positions = flat_map (λ position. calls_of_outcome position.outcome) positions
+calls_of_positions positions = flat_map (λ position. calls_of_delivery position.delivery) positions
 
 abbrev pub calls_of_jobs : {V J R : Type 0} → List (JobRun V J R) → List PollerCall
 calls_of_jobs jobs = flat_map (λ job_run. flat_map calls_of job_run.steps) jobs

@@ -8,9 +8,9 @@ use Rattle.event_loop.specs.declared.events.Request.{Request}
 use Rattle.dispatch_tables.specs.Event.{Event}
 use Rattle.event_loop.specs.PollerCall.{PollerCall, Controls, Waits, Leads}
 use Rattle.event_loop.specs.Exchange.{Exchanges, Answer, Begins, Serves}
-use Rattle.event_loop.specs.Registry.{Registry, Step, Steps, Joined, NotJoined, Left, Requested, Refused, calls_of, new_registry, May}
+use Rattle.event_loop.specs.Registry.{Registry, LoopStep, Steps, Joined, NotJoined, Left, Requested, Refused, calls_of, new_registry, May}
 use Rattle.event_loop.specs.Dispatch.{Position, IsDispatch}
-use Rattle.event_loop.specs.Iteration.{ManagerState, Iteration, AllSteps, IsIteration, calls_of_iteration, answer_of}
+use Rattle.event_loop.specs.Iteration.{ManagerState, Iteration, AllSteps, IsIteration, calls_of_iteration, run_answer}
 use Rattle.std.specs.List.{flat_map}
 
 -- the subscribers, the next id and the registrations; how many jobs were taken; the poller; the capacity of a batch
@@ -38,7 +38,7 @@ abbrev pub no_descriptor : ℕ
 no_descriptor = 2147483648
 
 -- what jobs may do in a loop that takes none
-abbrev pub no_job : {S : Type 0} → ⊥ → List (Step S) → Unit {0} → Type 0
+abbrev pub no_job : {S : Type 0} → ⊥ → List (LoopStep S) → Unit {0} → Type 0
 no_job job steps reply = ⊥
 
 -- without poller and capacity
@@ -51,31 +51,31 @@ with_value state id value = record state { registry = record state.registry { va
 
 module _ {S P : Type 0} (begins : Begins S) (controls : Controls P) (waits : Waits P) where
   -- the step was made, and its calls led the poller from the value before to the value after
-  pub record HasStepped (before : LoopState S P) (step : Step S) (after : LoopState S P) : Type 0 where
+  pub record HasStepped (before : LoopState S P) (step : LoopStep S) (after : LoopState S P) : Type 0 where
     pub stepped : Steps begins before.registry step after.registry
     pub led : Leads controls waits before.poller (calls_of step) after.poller
     pub same_taken : after.taken ≡ before.taken
     pub same_capacity : after.capacity ≡ before.capacity
 
   -- the steps were made, one after another
-  pub record HaveStepped (before : LoopState S P) (steps : List (Step S)) (after : LoopState S P) : Type 0 where
+  pub record HaveStepped (before : LoopState S P) (steps : List (LoopStep S)) (after : LoopState S P) : Type 0 where
     pub stepped : AllSteps begins before.registry steps after.registry
     pub led : Leads controls waits before.poller (flat_map calls_of steps) after.poller
     pub same_taken : after.taken ≡ before.taken
     pub same_capacity : after.capacity ≡ before.capacity
 
 -- the step of a join, by what it answered
-abbrev pub IsJoin : {S : Type 0} → S → Result ℕ Error → Step S → Type 0
+abbrev pub IsJoin : {S : Type 0} → S → Result ℕ Error → LoopStep S → Type 0
 IsJoin {S} value (Ok id) step = (exchanges : Exchanges) × (calls : List PollerCall) × (held : S) × (step ≡ Joined value id exchanges calls held)
 IsJoin value (Err error) step = step ≡ NotJoined value error
 
 -- the step of a leave, by what it answered
-abbrev pub IsLeave : {S : Type 0} → ℕ → Result S Error → Step S → Type 0
+abbrev pub IsLeave : {S : Type 0} → ℕ → Result S Error → LoopStep S → Type 0
 IsLeave id (Ok value) step = (calls : List PollerCall) × (step ≡ Left id value calls)
 IsLeave id (Err error) step = (error ≡ InvalidId) × (step ≡ Refused id)
 
 -- the step of one request, by what it answered
-abbrev pub IsRequest : {S : Type 0} → ℕ → Request → Result Answer Error → Step S → Type 0
+abbrev pub IsRequest : {S : Type 0} → ℕ → Request → Result Answer Error → LoopStep S → Type 0
 IsRequest id request (Ok answer) step = (calls : List PollerCall) × (step ≡ Requested id ((request, answer) ∷ []) calls)
 IsRequest id request (Err error) step = (error ≡ InvalidId) × (step ≡ Refused id)
 
@@ -90,7 +90,7 @@ module _ {S J R : Type 0} (begins : Begins S) (serves : Serves S) (may : May S J
   pub record IsLoopIteration {P : Type 0} (controls : Controls P) (waits : Waits P) (before : LoopState S P) (ms : ℤ) (result : Result ℕ Error) (after : LoopState S P) : Type 0 where
     pub iteration : Iteration S J R
     pub milliseconds : iteration.ms ≡ ms
-    pub answer : result ≡ answer_of iteration.waited
+    pub answer : result ≡ run_answer iteration.waited
     pub iterated : IsIteration begins serves may (manager_state before) iteration.waited iteration.positions iteration.jobs (manager_state after)
     pub led : Leads controls waits before.poller (calls_of_iteration before.capacity iteration) after.poller
     pub same_capacity : after.capacity ≡ before.capacity

@@ -19,17 +19,17 @@ pub record Registry (V : Type 0) : Type 0 where
   pub registrations : Registrations
 
 -- One step, with what was answered; one for an id that nobody has is refused. V is the type of the subscribers.
-pub data Step (V : Type 0) : Type 0 where
-  Joined : (value : V) (id : ℕ) (exchanges : Exchanges) (calls : List PollerCall) (after : V) → Step V
-  NotJoined : V → Error → Step V
-  Left : (id : ℕ) (value : V) (calls : List PollerCall) → Step V
-  Replaced : (id : ℕ) (old new : V) → Step V
-  Requested : (id : ℕ) (exchanges : Exchanges) (calls : List PollerCall) → Step V
-  Refused : ℕ → Step V
+pub data LoopStep (V : Type 0) : Type 0 where
+  Joined : (value : V) (id : ℕ) (exchanges : Exchanges) (calls : List PollerCall) (after : V) → LoopStep V
+  NotJoined : V → Error → LoopStep V
+  Left : (id : ℕ) (value : V) (calls : List PollerCall) → LoopStep V
+  Replaced : (id : ℕ) (old new : V) → LoopStep V
+  Requested : (id : ℕ) (exchanges : Exchanges) (calls : List PollerCall) → LoopStep V
+  Refused : ℕ → LoopStep V
 
 -- may: which steps, with their answers, a job may take in a manager, and which reply it then gives
 abbrev pub May : Type 0 → Type 0 → Type 0 → Type 1
-May V J R = J → List (Step V) → R → Type 0
+May V J R = J → List (LoopStep V) → R → Type 0
 
 -- is the owner id i?
 abbrev pub is_id : ℕ → Option ℕ → Bool
@@ -67,7 +67,7 @@ abbrev pub ids_end : ℕ
 ids_end = 2 ^ 64 - 1
 
 module _ {V : Type 0} (begins : Begins V) where
-  abbrev pub Steps : Registry V → Step V → Registry V → Type 0
+  abbrev pub Steps : Registry V → LoopStep V → Registry V → Type 0
   Steps before (Joined value id exchanges calls held) after =
       (registrations : Registrations) × (before.next < ids_end) × (id ≡ before.next) × ExchangesFit id before.registrations exchanges calls registrations × begins value exchanges held
       × (after ≡ record { values = map.insert before.values id held; next = before.next + 1; registrations = registrations })
@@ -83,14 +83,14 @@ module _ {V : Type 0} (begins : Begins V) where
   Steps before (Refused id) after = LacksId before id × (after ≡ before)
 
 -- the poller calls that a step made
-abbrev pub calls_of : {V : Type 0} → Step V → List PollerCall
+abbrev pub calls_of : {V : Type 0} → LoopStep V → List PollerCall
 calls_of (Joined value id exchanges calls held) = calls
 calls_of (Left id value calls) = calls
 calls_of (Requested id exchanges calls) = calls
 calls_of step = []
 
 -- the id that a step is of: the one it was asked for, or gave
-abbrev pub id_of : {V : Type 0} → Step V → Option ℕ
+abbrev pub id_of : {V : Type 0} → LoopStep V → Option ℕ
 id_of (Joined value id exchanges calls held) = Some id
 id_of (Left id value calls) = Some id
 id_of (Replaced id old new) = Some id

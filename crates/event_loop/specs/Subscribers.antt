@@ -5,9 +5,9 @@ use Rattle.event_loop.specs.PollerCall.{Wait, Controls, Waits, Leads}
 use Rattle.event_loop.specs.Exchange.{Serves}
 use Rattle.event_loop.specs.Registry as model
 use Rattle.event_loop.specs.RegistrationState.{registrations_of, not_cancelled, cancel_removed}
-use Rattle.event_loop.specs.Dispatch.{Outcome, Position, exchanges_of, events_of, with_pending, IsOutcome, AreDispatched}
+use Rattle.event_loop.specs.Dispatch.{Delivery, Position, exchanges_of, events_of, with_pending, IsDelivery, AreDispatched}
 use Rattle.vmm_sys.specs.declared.errno.Errno.{Errno}
-use Rattle.event_loop.specs.Iteration.{calls_of_outcome, calls_of_positions, answer_of, is_reported}
+use Rattle.event_loop.specs.Iteration.{calls_of_delivery, calls_of_positions, run_answer, is_reported}
 use Rattle.event_loop.specs.LoopState.{LoopState, IsDispatchedAfter, new_loop}
 use Rattle.event_loop.specs.declared.error.Error.{Error}
 use Rattle.event_loop.specs.declared.error.Error.TheVariants.{OutOfMemory, Epoll}
@@ -30,11 +30,11 @@ module _ {S P : Type 0} where
       pub event : Event
       pub cancelled : Bool
       pub later : List (Event × Bool)
-      pub outcome : Outcome S
+      pub delivery : Delivery S
       pub was : before.ops.epoll.registrations.ready ≡ (event, cancelled) ∷ later
-      pub had : IsOutcome serves (with_pending (not_cancelled later) (registry_of before)) cancelled event outcome (registry_of after)
-      pub ready : after.ops.epoll.registrations.ready ≡ cancel_removed (exchanges_of outcome) later
-      pub led : Leads controls waits before.ops.epoll.poller (calls_of_outcome outcome) after.ops.epoll.poller
+      pub had : IsDelivery serves (with_pending (not_cancelled later) (registry_of before)) cancelled event delivery (registry_of after)
+      pub ready : after.ops.epoll.registrations.ready ≡ cancel_removed (exchanges_of delivery) later
+      pub led : Leads controls waits before.ops.epoll.poller (calls_of_delivery delivery) after.ops.epoll.poller
       pub same_capacity : after.ops.epoll.registrations.capacity ≡ before.ops.epoll.registrations.capacity
       pub same_endpoint : after.ops.epoll.registrations.endpoint ≡ before.ops.epoll.registrations.endpoint
       pub noticed : is_endpoint ≡ (event.fd == before.ops.epoll.registrations.endpoint)
@@ -50,9 +50,9 @@ module _ {S P : Type 0} where
       pub noticed : endpoint_ready ≡ is_reported before.ops.epoll.registrations.endpoint ordered
 
 -- the count of a batch, or the refusal
-abbrev pub count_of : Result Batch Error → Result ℕ Error
-count_of (Ok batch) = Ok batch.count
-count_of (Err error) = Err error
+abbrev pub batch_count : Result Batch Error → Result ℕ Error
+batch_count (Ok batch) = Ok batch.count
+batch_count (Err error) = Err error
 
 -- an event was on the endpoint's descriptor exactly if one of the report was
 abbrev pub Notices : ℕ → Result (List Event) Errno → Result Batch Error → Type 0
@@ -65,7 +65,7 @@ pub record IsBatch {S P : Type 0} (serves : Serves S) (controls : Controls P) (w
     (before : LoopState S P) (ms : ℤ) (result : Result Batch Error) (after : LoopState S P) : Type 0 where
   pub waited : Result (List Event) Errno
   pub positions : List (Position S)
-  pub answer : count_of result ≡ answer_of waited
+  pub answer : batch_count result ≡ run_answer waited
   pub noticed : Notices before.registry.registrations.endpoint waited result
   pub dispatched : IsDispatchedAfter serves waited positions before.registry after.registry
   pub led : Leads controls waits before.poller (Wait ms before.capacity waited ∷ calls_of_positions positions) after.poller

@@ -2,7 +2,7 @@
 
 ghost use Rattle.std.specs.Prelude.{◌≡◌, [], map, IfErr, IfOk, MatchOption};
 ghost use Rattle.dispatch_tables.specs.Members.{nobody};
-ghost use Rattle.event_loop.specs.Registry.{Step};
+ghost use Rattle.event_loop.specs.Registry.{LoopStep};
 ghost use Rattle.event_loop.specs.RegistrationState.{all_pending};
 ghost use Rattle.event_loop.specs.LoopState.{HasStepped, IsJoin, IsLeave, new_loop, no_descriptor, with_next_id};
 ghost use Rattle.event_loop.specs.Subscribers.{TakesPosition, IsDispatched, IsBatch, IsNew, loop_state};
@@ -204,7 +204,7 @@ impl<S: MutEventSubscriber, P: EventPoller> Registry<S, P> {
     pub(crate) fn join(&mut self, subscriber: S) -> Result<SubscriberId>
     where
         S: Drop,
-        ensures { (step : Step S) × IsJoin subscriber result step
+        ensures { (step : LoopStep S) × IsJoin subscriber result step
             × HasStepped S.begins P.controls P.waits (loop_state self.old) step (loop_state self.new) }
     {
         let id = self.subscribers.next_id();
@@ -225,7 +225,7 @@ impl<S: MutEventSubscriber, P: EventPoller> Registry<S, P> {
 
     /// Lets the subscriber of the id go, with all its descriptors. Takes no memory.
     pub(crate) fn leave(&mut self, id: u64) -> Result<S>
-        ensures { (step : Step S) × IsLeave id result step
+        ensures { (step : LoopStep S) × IsLeave id result step
             × HasStepped S.begins P.controls P.waits (loop_state self.old) step (loop_state self.new) }
     {
         match self.subscribers.remove(id) {

@@ -2,7 +2,7 @@
 
 ghost use Rattle.std.specs.Prelude.{◌≡◌, IfErr, IfOk};
 ghost use Rattle.std.specs.Borrow.{sem, LendsSoOk};
-ghost use Rattle.event_loop.specs.Registry.{Step, HasId, LacksId, AreBelow};
+ghost use Rattle.event_loop.specs.Registry.{LoopStep, HasId, LacksId, AreBelow};
 ghost use Rattle.event_loop.specs.Requests.{StandsFor, with_ops};
 ghost use Rattle.event_loop.specs.contracts.ops.EventOps.{the_row as ops_row};
 ghost use Rattle.event_loop.specs.LoopState.{HasStepped, IsJoin, IsLeave, with_value};
@@ -34,7 +34,7 @@ pub trait SubscriberOps {
     /// Refused, both before `init`, and the subscriber doesn't come back: `IdsUsedUp` where the next id is `u64::MAX`;
     /// then `OutOfMemory`.
     fn add_subscriber(&mut self, subscriber: Self::Subscriber) -> Result<SubscriberId>
-        ensures { (step : Step Self.Subscriber) × IsJoin subscriber result step
+        ensures { (step : LoopStep Self.Subscriber) × IsJoin subscriber result step
             × HasStepped Self.Subscriber.begins Self.Poller.controls Self.Poller.waits (seen self.old) step (seen self.new) };
 
     /// The id that the next `add_subscriber` gives where it isn't refused, for calls that are to name it before it is given.
@@ -50,7 +50,7 @@ pub trait SubscriberOps {
     ///
     /// `InvalidId` where there is none.
     fn remove_subscriber(&mut self, id: SubscriberId) -> Result<Self::Subscriber>
-        ensures { (step : Step Self.Subscriber) × IsLeave id result step
+        ensures { (step : LoopStep Self.Subscriber) × IsLeave id result step
             × HasStepped Self.Subscriber.begins Self.Poller.controls Self.Poller.waits (seen self.old) step (seen self.new) };
 
     /// The subscriber of the id. `InvalidId` where there is none.

@@ -10,7 +10,7 @@ use Rattle.event_manager.specs.declared.jobs.queue.Entry.{Entry}
 use Rattle.event_manager.specs.declared.jobs.account.Step.{Step}
 use Rattle.event_manager.specs.declared.jobs.account.Step.TheVariants.{Send, Take, Close}
 use Rattle.event_manager.specs.JobQueue.{QueueState, IsSend, after_take, after_close, most, with_job, tickets_and_jobs}
-use Rattle.event_manager.specs.Account.{has_close, has_take, open_part, offered, before_last_take, numbered, accepted, handed_out, rung, answer, answers_after, answers_of, IsReplayed}
+use Rattle.event_manager.specs.Account.{has_close, has_take, open_part, offered, before_last_take, numbered, accepted, handed_out, rung, answer, answers_after, answers_to_sends, IsReplayed}
 
 module _ {J : Type 0} where
   abbrev one : Step J → List (Step J)
@@ -91,7 +91,7 @@ module _ {J : Type 0} where
     pub issued : q.issued ≡ length (accepted ss)
     pub line : q.closed ≡ false → ts ++ tickets_and_jobs q.waiting ≡ numbered 0 (accepted ss)
     pub taken : ts ≡ handed_out ss
-    pub answers : xs ≡ answers_of ss
+    pub answers : xs ≡ answers_to_sends ss
 
   -- of an open account
   accepted-open : (ss : List (Step J)) → has_close ss ≡ false → accepted ss ≡ take most (offered ss)
@@ -149,7 +149,7 @@ module _ {J : Type 0} where
 
   -- a step that changes neither queue nor account
   stays : (ss : List (Step J)) (s : Step J) (q : QueueState J (Unit {0})) (xs ys : List (Result ℕ Error)) (ts : List (ℕ × J)) → Kept ss q xs ts
-      → has_close (ss ++ one s) ≡ has_close ss → accepted (ss ++ one s) ≡ accepted ss → handed_out (ss ++ one s) ≡ handed_out ss → ys ≡ answers_of (ss ++ one s) → Kept (ss ++ one s) q ys ts
+      → has_close (ss ++ one s) ≡ has_close ss → accepted (ss ++ one s) ≡ accepted ss → handed_out (ss ++ one s) ≡ handed_out ss → ys ≡ answers_to_sends (ss ++ one s) → Kept (ss ++ one s) q ys ts
   stays ss s q xs ys ts kept same-close same-accepted same-handed answers =
       record {
         closed = kept.closed ∙ sym same-close;
@@ -169,8 +169,8 @@ module _ {J : Type 0} where
   answer-rung : (ss : List (Step J)) (bell : Result (Unit {0}) Errno) → has_close ss ≡ false → length (accepted ss) < most → answer ss bell ≡ rung (length (accepted ss)) bell
   answer-rung ss bell open' room = rw (open', lt-ltb (length (accepted ss)) most room) refl
 
-  answers-send : (ss : List (Step J)) (job : J) (bell : Result (Unit {0}) Errno) (a : Result ℕ Error) (xs ys : List (Result ℕ Error)) → xs ≡ answers_of ss → ys ≡ xs ++ (a ∷ []) → answer ss bell ≡ a → ys ≡ answers_of (ss ++ one (Send job bell))
-  answers-send ss job bell a xs ys was is gave = is ∙ (ap (λ zs. zs ++ (a ∷ [])) was ∙ (ap (λ b. answers_of ss ++ (b ∷ [])) (sym gave) ∙ sym (answers-push [] ss (Send job bell))))
+  answers-send : (ss : List (Step J)) (job : J) (bell : Result (Unit {0}) Errno) (a : Result ℕ Error) (xs ys : List (Result ℕ Error)) → xs ≡ answers_to_sends ss → ys ≡ xs ++ (a ∷ []) → answer ss bell ≡ a → ys ≡ answers_to_sends (ss ++ one (Send job bell))
+  answers-send ss job bell a xs ys was is gave = is ∙ (ap (λ zs. zs ++ (a ∷ [])) was ∙ (ap (λ b. answers_to_sends ss ++ (b ∷ [])) (sym gave) ∙ sym (answers-push [] ss (Send job bell))))
 
   tickets_and_jobs-push : (es : List (Entry J (Unit {0}))) (e : Entry J (Unit {0})) → tickets_and_jobs (es ++ (e ∷ [])) ≡ tickets_and_jobs es ++ ((e.ticket, e.job) ∷ [])
   tickets_and_jobs-push [] e = refl
@@ -178,7 +178,7 @@ module _ {J : Type 0} where
 
   -- the n-th accepted job stands last in the queue
   joins : (ss : List (Step J)) (job : J) (u : Unit {0}) (q : QueueState J (Unit {0})) (xs ys : List (Result ℕ Error)) (ts : List (ℕ × J)) → Kept ss q xs ts
-      → has_close ss ≡ false → q.issued < most → ys ≡ answers_of (ss ++ one (Send job (Ok u))) → Kept (ss ++ one (Send job (Ok u))) (with_job q job None) ys ts
+      → has_close ss ≡ false → q.issued < most → ys ≡ answers_to_sends (ss ++ one (Send job (Ok u))) → Kept (ss ++ one (Send job (Ok u))) (with_job q job None) ys ts
   joins ss job u q xs ys ts kept open' room answers =
       let issued = kept.issued in
       let more = accepted-more ss job u open' (omega arith) in
@@ -226,8 +226,8 @@ module _ {J : Type 0} where
   sends ss job bell q r xs ys ts (Err InvalidCapacity) kept t sure is = absurd t
   sends ss job bell q r xs ys ts (Err IdsUsedUp) kept t sure is = absurd t
 
-  answers-other : (ss : List (Step J)) (s : Step J) (xs ys : List (Result ℕ Error)) → xs ≡ answers_of ss → ys ≡ xs → answers_after ss (one s) ≡ [] → ys ≡ answers_of (ss ++ one s)
-  answers-other ss s xs ys was is none = is ∙ (was ∙ (sym (append-nil (answers_of ss)) ∙ (ap (λ zs. answers_of ss ++ zs) (sym none) ∙ sym (answers-push [] ss s))))
+  answers-other : (ss : List (Step J)) (s : Step J) (xs ys : List (Result ℕ Error)) → xs ≡ answers_to_sends ss → ys ≡ xs → answers_after ss (one s) ≡ [] → ys ≡ answers_to_sends (ss ++ one s)
+  answers-other ss s xs ys was is none = is ∙ (was ∙ (sym (append-nil (answers_to_sends ss)) ∙ (ap (λ zs. answers_to_sends ss ++ zs) (sym none) ∙ sym (answers-push [] ss s))))
 
   takes : (ss : List (Step J)) (q : QueueState J (Unit {0})) (xs ys : List (Result ℕ Error)) (ts us : List (ℕ × J)) → (q.closed ≡ true → q.waiting ≡ []) → Kept ss q xs ts → ys ≡ xs → us ≡ ts ++ tickets_and_jobs q.waiting
       → (b : Bool) → has_close ss ≡ b → Kept (ss ++ one Take) (after_take q) ys us

@@ -1,11 +1,11 @@
 -- A list of calls that was driven, taken apart: each call did what the single call promises.
 use Rattle.std.proofs.Common.{◌≡◌, ℕ, List, [], ◌∷◌, ◌++◌, refl, sym, ap, subst, ◌∙◌, map, Vec, Result, Ok, Err, Some, None}
 use Rattle.std.specs.declared.alloc.Global.{Global}
-use Rattle.event_loop.specs.Prelude.{PollerCall, Control, Wait, Controls, Waits, Leads, Answer, Begins, Serves, Step, Joined, NotJoined, Left, Replaced, Requested, Refused, AreBelow, Registry, Steps, LacksId, May, ManagerState, answer_of, LoopState, HasStepped, IsJoin, IsLeave, IsLoopIteration, manager_state}
+use Rattle.event_loop.specs.Prelude.{PollerCall, Control, Wait, Controls, Waits, Leads, Answer, Begins, Serves, LoopStep, Joined, NotJoined, Left, Replaced, Requested, Refused, AreBelow, Registry, Steps, LacksId, May, ManagerState, run_answer, LoopState, HasStepped, IsJoin, IsLeave, IsLoopIteration, manager_state}
 use Rattle.event_loop.specs.declared.error.Error.{Error}
 use Rattle.event_loop.specs.declared.events.Request.{Request}
 use Rattle.event_loop.specs.declared.error.Error.TheVariants.{InvalidId}
-use Rattle.event_manager.specs.Trace.{Effect, Stepped, Iterated, Entry, Matches, HasEffect, IsTrace, calls_of_effect, calls_of_trace}
+use Rattle.event_manager.specs.Trace.{Effect, Stepped, Iterated, TraceEntry, Matches, HasEffect, IsTrace, calls_of_effect, calls_of_trace}
 use Rattle.event_manager.specs.SingleCall.{IsAsk, IsReplacement, HasCalled}
 use Rattle.event_manager.specs.Driven.{IsTraceOf, IsDriven}
 use Rattle.event_manager.specs.Guarantees.{RemovedStayUnknown}
@@ -25,10 +25,10 @@ HasReplies [] holds = holds []
 HasReplies {V} (c ∷ calls) holds = (r : Reply V) × HasReplies calls (λ replies. holds (r ∷ replies))
 
 -- a call was made by itself: it answered by a step, and its reply is that answer
-pub record IsAnswered {S P A : Type 0} (begins : Begins S) (controls : Controls P) (waits : Waits P) (replies : Result A Error → Reply S) (is_step : Result A Error → Step S → Type 0) (before : LoopState S P) (r : Reply S) (after : LoopState S P) : Type 0 where
+pub record IsAnswered {S P A : Type 0} (begins : Begins S) (controls : Controls P) (waits : Waits P) (replies : Result A Error → Reply S) (is_step : Result A Error → LoopStep S → Type 0) (before : LoopState S P) (r : Reply S) (after : LoopState S P) : Type 0 where
   pub result : Result A Error
   pub replied : r ≡ replies result
-  pub step : Step S
+  pub step : LoopStep S
   pub is_step_of : is_step result step
   pub has_stepped : HasStepped begins controls waits before step after
 
@@ -51,15 +51,15 @@ module _ {S J R : Type 0} (begins : Begins S) (serves : Serves S) (may : May S J
       pub first : IsCalled before c reply between
       pub driven : IsDriven begins serves may controls waits between calls others after
 
-has_first : {S J R : Type 0} {c : Call S} {calls : List (Call S)} (trace : List (Entry S J R)) → map (λ e. e.call) trace ≡ c ∷ calls → (entry : Entry S J R) × (rest : List (Entry S J R)) × (trace ≡ entry ∷ rest)
+has_first : {S J R : Type 0} {c : Call S} {calls : List (Call S)} (trace : List (TraceEntry S J R)) → map (λ e. e.call) trace ≡ c ∷ calls → (entry : TraceEntry S J R) × (rest : List (TraceEntry S J R)) × (trace ≡ entry ∷ rest)
 has_first {S} {c = c} {calls = calls} [] are = let s : ◌≡◌ {A = List (Call S)} [] (c ∷ calls) = are in cc
 has_first (entry ∷ rest) are = (entry, rest, refl)
 
-has_none : {S J R : Type 0} (trace : List (Entry S J R)) → map (λ e. e.call) trace ≡ [] → trace ≡ []
+has_none : {S J R : Type 0} (trace : List (TraceEntry S J R)) → map (λ e. e.call) trace ≡ [] → trace ≡ []
 has_none [] are = refl
 has_none {S} (entry ∷ rest) are = let s : ◌≡◌ {A = List (Call S)} (entry.call ∷ map (λ e. e.call) rest) [] = are in cc
 
-replied_in : {S J R : Type 0} (trace : List (Entry S J R)) (holds : List (Reply S) → Type 0) → holds (map (λ e. e.reply) trace) → HasReplies (map (λ e. e.call) trace) holds
+replied_in : {S J R : Type 0} (trace : List (TraceEntry S J R)) (holds : List (Reply S) → Type 0) → holds (map (λ e. e.reply) trace) → HasReplies (map (λ e. e.call) trace) holds
 replied_in [] holds h = h
 replied_in (entry ∷ trace) holds h = (entry.reply, replied_in trace (λ replies. holds (entry.reply ∷ replies)) h)
 
@@ -70,7 +70,7 @@ module _ {P : Type 0} (controls : Controls P) (waits : Waits P) where
   leads_apart before (Wait ms capacity answer ∷ first) more after (next, did, within, rest) = let k = leads_apart next first more after rest in (k.0, (next, did, within, k.1), k.2)
 
 module _ {S J R P : Type 0} {begins : Begins S} {serves : Serves S} {may : May S J R} {controls : Controls P} {waits : Waits P} where
-  answered : {A : Type 0} {before after : LoopState S P} {replies : Result A Error → Reply S} {is_step : Result A Error → Step S → Type 0} {r : Reply S} (result : Result A Error) (step : Step S) → r ≡ replies result → is_step result step → HasCalled begins serves may controls waits before (Stepped step) after
+  answered : {A : Type 0} {before after : LoopState S P} {replies : Result A Error → Reply S} {is_step : Result A Error → LoopStep S → Type 0} {r : Reply S} (result : Result A Error) (step : LoopStep S) → r ≡ replies result → is_step result step → HasCalled begins serves may controls waits before (Stepped step) after
       → IsAnswered begins controls waits replies is_step before r after
   answered result step replied is did = record { result = result; replied = replied; step = step; is_step_of = is; has_stepped = record { stepped = did.had.0; led = did.led; same_taken = did.had.1; same_capacity = did.same_capacity } }
 
@@ -85,7 +85,7 @@ module _ {S J R P : Type 0} {begins : Begins S} {serves : Serves S} {may : May S
   called_alone before (Stepped (Refused id)) (call.Set i value) r after m did = answered (Err InvalidId) _ m.1 (refl, ap Refused (sym m.0)) did
   called_alone before (Stepped (Refused id)) (call.Ask i requests) r after m did = answered (Err InvalidId) _ m.1 (refl, ap Refused (sym m.0)) did
   called_alone before (Stepped (Refused id)) c r after m did = absurd m
-  called_alone before (Iterated iteration) c r after m did = rw m.0 (answer_of iteration.waited, m.1, record { iteration = iteration; milliseconds = refl; answer = refl; iterated = did.had; led = did.led; same_capacity = did.same_capacity })
+  called_alone before (Iterated iteration) c r after m did = rw m.0 (run_answer iteration.waited, m.1, record { iteration = iteration; milliseconds = refl; answer = refl; iterated = did.had; led = did.led; same_capacity = did.same_capacity })
 
   called_at : (before after : LoopState S P) (a c : Call S) (others calls : List (Call S)) (told replies : List (Reply S)) → a ∷ others ≡ c ∷ calls → told ≡ replies → AreCalled begins serves may controls waits before a others told after → AreCalled begins serves may controls waits before c calls replies after
   called_at before after a c others calls told replies are_calls are_replies called =
@@ -93,7 +93,7 @@ module _ {S J R P : Type 0} {begins : Begins S} {serves : Serves S} {may : May S
       let are : others ≡ calls = cc are_calls in
       subst (λ rs. AreCalled begins serves may controls waits before c calls rs after) are_replies (subst (λ cs. AreCalled begins serves may controls waits before c cs told after) are (subst (λ x. AreCalled begins serves may controls waits before x others told after) is called))
 
-  entry_called : (before : LoopState S P) (entry : Entry S J R) (trace : List (Entry S J R)) (mid : ManagerState S) (after : LoopState S P) → AreBelow before.registry.next before.registry.values → Matches entry.effect entry.call entry.reply → HasEffect begins serves may (manager_state before) entry.effect mid → IsTrace begins serves may mid trace (manager_state after)
+  entry_called : (before : LoopState S P) (entry : TraceEntry S J R) (trace : List (TraceEntry S J R)) (mid : ManagerState S) (after : LoopState S P) → AreBelow before.registry.next before.registry.values → Matches entry.effect entry.call entry.reply → HasEffect begins serves may (manager_state before) entry.effect mid → IsTrace begins serves may mid trace (manager_state after)
       → Leads controls waits before.poller (calls_of_effect before.capacity entry.effect ++ calls_of_trace before.capacity trace) after.poller → after.capacity ≡ before.capacity → AreCalled begins serves may controls waits before entry.call (map (λ e. e.call) trace) (entry.reply ∷ map (λ e. e.reply) trace) after
   entry_called before entry trace mid after below matches had more led same =
       let apart = leads_apart controls waits before.poller (calls_of_effect before.capacity entry.effect) (calls_of_trace before.capacity trace) after.poller led in
@@ -108,7 +108,7 @@ module _ {S J R P : Type 0} {begins : Begins S} {serves : Serves S} {may : May S
         driven = driven_by begins serves may controls waits between trace after below_mid (record { calls_are = refl; replies_are = refl; is_trace = more; led = apart.2; same_capacity = same });
       }
 
-  traced : (before : LoopState S P) (c : Call S) (calls : List (Call S)) (replies : List (Reply S)) (after : LoopState S P) (entry : Entry S J R) (trace : List (Entry S J R)) → AreBelow before.registry.next before.registry.values → IsTraceOf begins serves may controls waits before (c ∷ calls) replies after (entry ∷ trace) → AreCalled begins serves may controls waits before c calls replies after
+  traced : (before : LoopState S P) (c : Call S) (calls : List (Call S)) (replies : List (Reply S)) (after : LoopState S P) (entry : TraceEntry S J R) (trace : List (TraceEntry S J R)) → AreBelow before.registry.next before.registry.values → IsTraceOf begins serves may controls waits before (c ∷ calls) replies after (entry ∷ trace) → AreCalled begins serves may controls waits before c calls replies after
   traced before c calls replies after entry trace below of =
       called_at before after entry.call c _ calls _ replies of.calls_are of.replies_are (entry_called before entry trace of.is_trace.0 after below of.is_trace.1 of.is_trace.2 of.is_trace.3 of.led of.same_capacity)
 
@@ -143,7 +143,7 @@ module _ {S P : Type 0} {begins : Begins S} {controls : Controls P} {waits : Wai
   pub lacked_after_remove : (id : ℕ) → IsAnswered begins controls waits reply.Removed (IsLeave id) before r after → LacksId after.registry id
   lacked_after_remove id did = by_answer did.result did.step did.is_step_of did.has_stepped.stepped
     where
-      by_answer : (result : Result S Error) (step : Step S) → IsLeave id result step → Steps begins before.registry step after.registry → LacksId after.registry id
+      by_answer : (result : Result S Error) (step : LoopStep S) → IsLeave id result step → Steps begins before.registry step after.registry → LacksId after.registry id
       by_answer (Ok value) step is did =
           let left : Steps begins before.registry (Left id value is.0) after.registry = subst (λ s. Steps begins before.registry s after.registry) is.1 did in
           ap (λ (g : Registry S). get g.values id) left.4 ∙ removed_value id before.registry.values
@@ -155,7 +155,7 @@ module _ {S P : Type 0} {begins : Begins S} {controls : Controls P} {waits : Wai
   pub refused_to_nobody : (id : ℕ) (requests : List Request) → LacksId before.registry id → IsAnswered begins controls waits reply.Asked (IsAsk id requests) before r after → r ≡ reply.Asked (Err InvalidId)
   refused_to_nobody id requests lacks did = did.replied ∙ ap reply.Asked (by_answer did.result did.step did.is_step_of did.has_stepped.stepped)
     where
-      by_answer : (result : Result (Vec Answer Global) Error) (step : Step S) → IsAsk id requests result step → Steps begins before.registry step after.registry → result ≡ Err InvalidId
+      by_answer : (result : Result (Vec Answer Global) Error) (step : LoopStep S) → IsAsk id requests result step → Steps begins before.registry step after.registry → result ≡ Err InvalidId
       by_answer (Ok answers) step is did =
           let asked : Steps begins before.registry (Requested id is.0 is.1) after.registry = subst (λ s. Steps begins before.registry s after.registry) is.2 did in
           let held : None ≡ Some asked.0 = sym lacks ∙ asked.2 in cc

@@ -4,7 +4,7 @@ use Rattle.std.specs.FinMap.{FinMap, get, insert, remove, get-insert, get-remove
 use Rattle.std.specs.Ordering.{eq_by_cmp}
 use Rattle.std.specs.Cmp.{nat_cmp_total}
 use Rattle.std.proofs.lemmas.Bool.Decides.{eqb_tells, nat_tests}
-use Rattle.event_loop.specs.Prelude.{Event, Registrations, IsFree, Ownership, OwnerMap, owner_of, PollerCall, Answer, Exchanges, Fits, by_manager, by_poller, by_agreement, ExchangesFit, ReachesPoller, registrations_after, Begins, Serves, Registry, Step, Joined, NotJoined, Left, Replaced, Requested, Refused, Steps, is_id, id_of, without_owner, Outcome, Nobody, To, IsOutcome}
+use Rattle.event_loop.specs.Prelude.{Event, Registrations, IsFree, Ownership, OwnerMap, owner_of, PollerCall, Answer, Exchanges, Fits, by_manager, by_poller, by_agreement, ExchangesFit, ReachesPoller, registrations_after, Begins, Serves, Registry, LoopStep, Joined, NotJoined, Left, Replaced, Requested, Refused, Steps, is_id, id_of, without_owner, Delivery, Nobody, To, IsDelivery}
 use Rattle.event_loop.specs.declared.events.Request.{Request}
 use Rattle.event_loop.specs.declared.events.Request.TheVariants.{Add, AddWithPriority, Modify, Remove}
 use Rattle.dispatch_tables.specs.declared.priority.Priority.{Priority}
@@ -121,7 +121,7 @@ module _ {V : Type 0} where
   untouched_at : (j : ℕ) (before made after : Registry V) → after ≡ made → get made.values j ≡ get before.values j → IsKept j before.registrations made.registrations → IsUntouched j before after
   untouched_at j before made after e v k = subst (IsUntouched j before) (sym e) (untouched j before made v k)
 
-  pub isolated_step : (begins : Begins V) (before : Registry V) (step : Step V) (after : Registry V) → Steps begins before step after → (j : ℕ) → is_id j (id_of step) ≡ false → IsUntouched j before after
+  pub isolated_step : (begins : Begins V) (before : Registry V) (step : LoopStep V) (after : Registry V) → Steps begins before step after → (j : ℕ) → is_id j (id_of step) ≡ false → IsUntouched j before after
   isolated_step begins before (Joined value id exchanges calls held) after (registrations, capacity, is, fits, beg, e) j named =
       untouched_at j before _ after e (insert_other_value id j before.values held (unnamed id j named)) (kept_exchanges id j before.registrations exchanges calls registrations (unnamed id j named) fits)
   isolated_step begins before (NotJoined value error) after h j named = untouched_at j before _ after h.1 refl (kept_refl j before.registrations)
@@ -132,8 +132,8 @@ module _ {V : Type 0} where
   isolated_step begins before (Refused id) after h j named = untouched_at j before _ after h.1 refl (kept_refl j before.registrations)
 
   -- an event leaves those who don't get it as they were
-  pub isolated_delivery : (serves : Serves V) (before : Registry V) (removed : Bool) (e : Event) (outcome : Outcome V) (after : Registry V) → IsOutcome serves before removed e outcome after
-      → (j : ℕ) → is_id j (receiver_of outcome) ≡ false → IsUntouched j before after
+  pub isolated_delivery : (serves : Serves V) (before : Registry V) (removed : Bool) (e : Event) (delivery : Delivery V) (after : Registry V) → IsDelivery serves before removed e delivery after
+      → (j : ℕ) → is_id j (receiver_of delivery) ≡ false → IsUntouched j before after
   isolated_delivery serves before removed e Nobody after (nobody, is) j other = untouched_at j before _ after is refl (kept_refl j before.registrations)
   isolated_delivery serves before removed e (To i exchanges calls held) after (value, registrations, for, serving, fits, is) j other =
       let differ = unnamed i j other in

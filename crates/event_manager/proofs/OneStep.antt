@@ -1,10 +1,10 @@
 -- One step of a registry, as a list of steps.
 use Rattle.std.proofs.Common.{◌≡◌, ℕ, [], ◌∷◌, sym, subst, refl}
 use Rattle.std.proofs.lemmas.List.{append-nil}
-use Rattle.event_loop.specs.Prelude.{Begins, Controls, Waits, Leads, Step, Replaced, Refused, HasId, LacksId, calls_of, LoopState, HasStepped, HaveStepped, with_value}
+use Rattle.event_loop.specs.Prelude.{Begins, Controls, Waits, Leads, LoopStep, Replaced, Refused, HasId, LacksId, calls_of, LoopState, HasStepped, HaveStepped, with_value}
 
 module _ {S P : Type 0} {begins : Begins S} {controls : Controls P} {waits : Waits P} where
-  pub one_step : (before after : LoopState S P) (step : Step S) → HasStepped begins controls waits before step after → HaveStepped begins controls waits before (step ∷ []) after
+  pub one_step : (before after : LoopState S P) (step : LoopStep S) → HasStepped begins controls waits before step after → HaveStepped begins controls waits before (step ∷ []) after
   one_step before after step did = record {
     stepped = (after.registry, did.stepped, refl);
     led = subst (λ calls. Leads controls waits before.poller calls after.poller) (sym (append-nil (calls_of step))) did.led;

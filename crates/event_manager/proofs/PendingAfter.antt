@@ -1,6 +1,6 @@
 -- What is pending after a position.
 use Rattle.std.proofs.Common.{Ok, eq-eqb, ne_eqb, ◌==◌, ◌≡◌, ℕ, cond, Bool, true, false, not, ◌||◌, refl, sym, ◌∙◌, ap, List, [], ◌∷◌, ◌++◌, filter, Err, inl, inr}
-use Rattle.event_loop.specs.Prelude.{Event, Registrations, PollerCall, Answer, Exchanges, Fits, by_manager, by_poller, by_agreement, ExchangesFit, registrations_after, removes, is_removal, Serves, Registry, Position, Outcome, Nobody, To, is_removed, still_pending, with_pending, IsOutcome}
+use Rattle.event_loop.specs.Prelude.{Event, Registrations, PollerCall, Answer, Exchanges, Fits, by_manager, by_poller, by_agreement, ExchangesFit, registrations_after, removes, is_removal, Serves, Registry, Position, Delivery, Nobody, To, is_removed, still_pending, with_pending, IsDelivery}
 use Rattle.event_loop.specs.declared.events.Request.{Request}
 use Rattle.event_loop.specs.declared.events.Request.TheVariants.{Add, AddWithPriority, Modify, Remove}
 use Rattle.dispatch_tables.proofs.NumberTests.{fd_tells}
@@ -54,12 +54,12 @@ ends : (a : Bool) → (a || false) ≡ a
 ends true = refl
 ends false = refl
 
-pub pending_after : {V : Type 0} (serves : Serves V) (before : Registry V) (earlier : List (Position V)) (event : Event) (later : List Event) (outcome : Outcome V) (after : Registry V)
-    → IsOutcome serves (with_pending (still_pending earlier later) before) (is_removed event.fd earlier) event outcome after → after.registrations.pending ≡ still_pending (earlier ++ record { event = event; outcome = outcome } ∷ []) later
+pub pending_after : {V : Type 0} (serves : Serves V) (before : Registry V) (earlier : List (Position V)) (event : Event) (later : List Event) (delivery : Delivery V) (after : Registry V)
+    → IsDelivery serves (with_pending (still_pending earlier later) before) (is_removed event.fd earlier) event delivery after → after.registrations.pending ≡ still_pending (earlier ++ record { event = event; delivery = delivery } ∷ []) later
 pending_after {V} serves before earlier event later Nobody after (nobody, is) =
-    ap (λ (r : Registry V). r.registrations.pending) is ∙ filter_alike _ _ later (λ e. ap not (sym (is_removed-push e.fd earlier (record { event = event; outcome = Nobody }) ∙ ends (is_removed e.fd earlier))))
+    ap (λ (r : Registry V). r.registrations.pending) is ∙ filter_alike _ _ later (λ e. ap not (sym (is_removed-push e.fd earlier (record { event = event; delivery = Nobody }) ∙ ends (is_removed e.fd earlier))))
 pending_after {V} serves before earlier event later (To i exchanges calls held) after (value, registrations, for, serving, fits, is) =
     ap (λ (r : Registry V). r.registrations.pending) is
     ∙ exchanges_pending i (with_pending (still_pending earlier later) before).registrations exchanges calls registrations fits
     ∙ filter_twice (λ e. removes e.fd exchanges) (λ e. is_removed e.fd earlier) later
-    ∙ filter_alike _ _ later (λ e. ap not (sym (is_removed-push e.fd earlier (record { event = event; outcome = To i exchanges calls held }))))
+    ∙ filter_alike _ _ later (λ e. ap not (sym (is_removed-push e.fd earlier (record { event = event; delivery = To i exchanges calls held }))))

@@ -2,7 +2,7 @@
 use Rattle.std.proofs.Common.{◌≡◌, ◌≢◌, ℕ, Bool, true, false, ◌||◌, ◌==◌, refl, sym, ◌∙◌, ap, subst, Some, inl, inr, nat_cmp, List, [], ◌∷◌, ◌++◌, cond, filter, All, IfSome, true≢false, if◌then◌else◌, eq-eqb, eqb-true}
 use Rattle.std.specs.FinMap.{FinMap, get}
 use Rattle.std.proofs.lemmas.Bool.Decides.{eqb_tells}
-use Rattle.event_loop.specs.Prelude.{Event, owner_of, PollerCall, Exchanges, removes, Serves, Registry, Outcome, Nobody, To, Position, exchanges_of, is_id, is_removed, still_pending, events_of, with_pending, IsFor, IsOutcome, AreDispatched}
+use Rattle.event_loop.specs.Prelude.{Event, owner_of, PollerCall, Exchanges, removes, Serves, Registry, Delivery, Nobody, To, Position, exchanges_of, is_id, is_removed, still_pending, events_of, with_pending, IsFor, IsDelivery, AreDispatched}
 use Rattle.event_manager.specs.Projection.{owned_by, only_values, projected_registrations, projected_registry, receiver_of, asks_to_add, adds}
 use Rattle.std.proofs.lemmas.List.Elements.{All-nil, All-cons}
 use Rattle.dispatch_tables.proofs.DispatchOrders.{nil_cons, head_is, tail_is}
@@ -14,28 +14,28 @@ use Rattle.event_manager.proofs.ProjectedSteps.{projected_with, untouched_projec
 use Rattle.event_manager.proofs.Isolation.{isolated_delivery}
 use Rattle.std.specs.List.{flat_map}
 
--- the exchanges of id i in an outcome; in positions
-abbrev pub outcome_exchanges : {V : Type 0} → ℕ → Outcome V → Exchanges
-outcome_exchanges i outcome = if is_id i (receiver_of outcome) then exchanges_of outcome else []
+-- the exchanges of id i in a delivery; in positions
+abbrev pub delivery_exchanges : {V : Type 0} → ℕ → Delivery V → Exchanges
+delivery_exchanges i delivery = if is_id i (receiver_of delivery) then exchanges_of delivery else []
 
 abbrev pub positions_exchanges : {V : Type 0} → ℕ → List (Position V) → Exchanges
-positions_exchanges i positions = flat_map (λ position. outcome_exchanges i position.outcome) positions
+positions_exchanges i positions = flat_map (λ position. delivery_exchanges i position.delivery) positions
 
 -- what other ids got becomes nobody's
-abbrev pub only_outcome : {V : Type 0} → ℕ → Outcome V → Outcome V
-only_outcome i Nobody = Nobody
-only_outcome i (To j exchanges calls after) = if j == i then To j exchanges calls after else Nobody
+abbrev pub only_delivery : {V : Type 0} → ℕ → Delivery V → Delivery V
+only_delivery i Nobody = Nobody
+only_delivery i (To j exchanges calls after) = if j == i then To j exchanges calls after else Nobody
 
 abbrev pub only_position : {V : Type 0} → ℕ → Position V → Position V
-only_position i position = record { event = position.event; outcome = only_outcome i position.outcome }
+only_position i position = record { event = position.event; delivery = only_delivery i position.delivery }
 
 -- nobody but i got it
 abbrev pub IsOnlyFor : {V : Type 0} → ℕ → Position V → Type 0
-IsOnlyFor i position = IfSome (receiver_of position.outcome) (λ j. j ≡ i)
+IsOnlyFor i position = IfSome (receiver_of position.delivery) (λ j. j ≡ i)
 
 -- what id i got, it gets, in the same order; what other ids got becomes nobody's
 pub record AreProjected {V : Type 0} (i : ℕ) (positions projected : List (Position V)) : Type 0 where
-  pub same : filter (λ position. is_id i (receiver_of position.outcome)) projected ≡ filter (λ position. is_id i (receiver_of position.outcome)) positions
+  pub same : filter (λ position. is_id i (receiver_of position.delivery)) projected ≡ filter (λ position. is_id i (receiver_of position.delivery)) positions
   pub only : All (IsOnlyFor i) projected
 
 -- the positions and those of the projection: those on descriptors of i's are in both, in one
@@ -43,26 +43,26 @@ pub record AreProjected {V : Type 0} (i : ℕ) (positions projected : List (Posi
 pub data Woven {V : Type 0} (i : ℕ) (mine : ℕ → Bool) : List (Position V) → List (Position V) → Type 0 where
   ends : Woven i mine [] []
   both : (d : Position V) {a b : List (Position V)} → mine d.event.fd ≡ true → Woven i mine a b → Woven i mine (d ∷ a) (only_position i d ∷ b)
-  skipped : (d : Position V) {a b : List (Position V)} → mine d.event.fd ≡ false → only_outcome i d.outcome ≡ Nobody → Woven i mine a b → Woven i mine (d ∷ a) b
-  added : (d : Position V) {a b : List (Position V)} → mine d.event.fd ≡ false → only_outcome i d.outcome ≡ Nobody → Woven i mine a b → Woven i mine a (only_position i d ∷ b)
+  skipped : (d : Position V) {a b : List (Position V)} → mine d.event.fd ≡ false → only_delivery i d.delivery ≡ Nobody → Woven i mine a b → Woven i mine (d ∷ a) b
+  added : (d : Position V) {a b : List (Position V)} → mine d.event.fd ≡ false → only_delivery i d.delivery ≡ Nobody → Woven i mine a b → Woven i mine a (only_position i d ∷ b)
 
 module _ {V : Type 0} (serves : Serves V) (i : ℕ) (mine : ℕ → Bool) (n : ℕ) where
   abbrev IsClaimed : Exchanges → Type 0
   IsClaimed exchanges = (fd : ℕ) → asks_to_add fd exchanges ≡ true → mine fd ≡ true
 
   -- one position that both have
-  record Same (before : Registry V) (pending : List Event) (removed : Bool) (e : Event) (outcome shown : Outcome V) (after : Registry V) : Type 0 where
+  record Same (before : Registry V) (pending : List Event) (removed : Bool) (e : Event) (delivery shown : Delivery V) (after : Registry V) : Type 0 where
     left : List Event
-    fits : IsOutcome serves (projected_with i n pending before) removed e shown (projected_with i n left after)
+    fits : IsDelivery serves (projected_with i n pending before) removed e shown (projected_with i n left after)
     still : IsMine i mine after.registrations.owners
     next : after.next ≡ before.next
-    alike : (fd : ℕ) → mine fd ≡ true → removes fd (exchanges_of shown) ≡ removes fd (exchanges_of outcome)
+    alike : (fd : ℕ) → mine fd ≡ true → removes fd (exchanges_of shown) ≡ removes fd (exchanges_of delivery)
 
   abbrev Agree : List (Position V) → List (Position V) → Type 0
   Agree earlier removed = (fd : ℕ) → mine fd ≡ true → is_removed fd removed ≡ is_removed fd earlier
 
   own_to : (before : Registry V) (pending : List Event) (gone removed : Bool) (e : Event) (exchanges : Exchanges) (calls : List PollerCall) (held : V) (after : Registry V)
-      → IsMine i mine before.registrations.owners → IsClaimed exchanges → removed ≡ gone → IsOutcome serves before gone e (To i exchanges calls held) after
+      → IsMine i mine before.registrations.owners → IsClaimed exchanges → removed ≡ gone → IsDelivery serves before gone e (To i exchanges calls held) after
       → Same before pending removed e (To i exchanges calls held) (To i exchanges calls held) after
   own_to before pending gone removed e exchanges calls held after m claimed agree (value, registrations, for, serving, fits, is) =
       let t = own_exchanges i mine pending before.registrations exchanges calls registrations m claimed fits in
@@ -86,9 +86,9 @@ module _ {V : Type 0} (serves : Serves V) (i : ℕ) (mine : ℕ → Bool) (n : �
       let is : j ≡ i = projected_is_own i j before.registrations.owners e.fd owns in
       nobody i v (owned_from_projected i before.registrations.owners e.fd (subst (λ k. owner_of (owned_by i before.registrations.owners) e.fd ≡ Some k) is owns), sym agree ∙ kept, has_from_projected i before.values v (subst (λ k. get (only_values i before.values) k ≡ Some v) is has))
 
-  one_same : (before : Registry V) (pending : List Event) (gone removed : Bool) (e : Event) (outcome : Outcome V) (after : Registry V) → mine e.fd ≡ true
-      → IsMine i mine before.registrations.owners → IsClaimed (outcome_exchanges i outcome) → removed ≡ gone → IsOutcome serves before gone e outcome after
-      → Same before pending removed e outcome (only_outcome i outcome) after
+  one_same : (before : Registry V) (pending : List Event) (gone removed : Bool) (e : Event) (delivery : Delivery V) (after : Registry V) → mine e.fd ≡ true
+      → IsMine i mine before.registrations.owners → IsClaimed (delivery_exchanges i delivery) → removed ≡ gone → IsDelivery serves before gone e delivery after
+      → Same before pending removed e delivery (only_delivery i delivery) after
   one_same before pending gone removed e Nobody after here m claimed agree (nobody, is) = record {
     left = pending;
     fits = (none_for before pending gone removed e agree nobody, ap (projected_with i n pending) is);
@@ -101,21 +101,21 @@ module _ {V : Type 0} (serves : Serves V) (i : ℕ) (mine : ℕ → Bool) (n : �
         | inl p ↦
             let made : IsClaimed exchanges = λ fd t. claimed fd (ap (λ b. asks_to_add fd (if b then exchanges else [])) p.0 ∙ t) in
             subst (λ b. Same before pending removed e (To j exchanges calls held) (if b then To j exchanges calls held else Nobody) after) (sym p.0)
-            (subst (λ k. IsOutcome serves before gone e (To k exchanges calls held) after → Same before pending removed e (To k exchanges calls held) (To k exchanges calls held) after) (sym p.1)
+            (subst (λ k. IsDelivery serves before gone e (To k exchanges calls held) after → Same before pending removed e (To k exchanges calls held) (To k exchanges calls held) after) (sym p.1)
             (own_to before pending gone removed e exchanges calls held after m made agree) out)
         | inr p ↦ absurd (true≢false (sym here ∙ m.other e.fd j p.1 (out.2).0))
       ]
 
   -- one position that is a neighbour's or nobody's
-  record Unseen (before : Registry V) (outcome : Outcome V) (after : Registry V) : Type 0 where
+  record Unseen (before : Registry V) (delivery : Delivery V) (after : Registry V) : Type 0 where
     same : (pending : List Event) → projected_with i n pending after ≡ projected_with i n pending before
     still : IsMine i mine after.registrations.owners
     next : after.next ≡ before.next
-    apart : (fd : ℕ) → mine fd ≡ true → removes fd (exchanges_of outcome) ≡ false
-    nobody : only_outcome i outcome ≡ Nobody
+    apart : (fd : ℕ) → mine fd ≡ true → removes fd (exchanges_of delivery) ≡ false
+    nobody : only_delivery i delivery ≡ Nobody
 
-  one_unseen : (before : Registry V) (gone : Bool) (e : Event) (outcome : Outcome V) (after : Registry V) → mine e.fd ≡ false → IsMine i mine before.registrations.owners
-      → ((fd : ℕ) (j : ℕ) → j ≢ i → adds fd (outcome_exchanges j outcome) ≡ true → mine fd ≡ false) → IsOutcome serves before gone e outcome after → Unseen before outcome after
+  one_unseen : (before : Registry V) (gone : Bool) (e : Event) (delivery : Delivery V) (after : Registry V) → mine e.fd ≡ false → IsMine i mine before.registrations.owners
+      → ((fd : ℕ) (j : ℕ) → j ≢ i → adds fd (delivery_exchanges j delivery) ≡ true → mine fd ≡ false) → IsDelivery serves before gone e delivery after → Unseen before delivery after
   one_unseen before gone e Nobody after there m foreign (nobody, is) = record {
     same = λ p. ap (projected_with i n p) is;
     still = subst (λ (r : Registry V). IsMine i mine r.registrations.owners) (sym is) m;
@@ -139,7 +139,7 @@ module _ {V : Type 0} (serves : Serves V) (i : ℕ) (mine : ℕ → Bool) (n : �
       ]
 
   -- one position that only the projection has
-  one_added : (before : Registry V) (pending : List Event) (removed : Bool) (e : Event) → mine e.fd ≡ false → IsMine i mine before.registrations.owners → IsOutcome serves (projected_with i n pending before) removed e Nobody (projected_with i n pending before)
+  one_added : (before : Registry V) (pending : List Event) (removed : Bool) (e : Event) → mine e.fd ≡ false → IsMine i mine before.registrations.owners → IsDelivery serves (projected_with i n pending before) removed e Nobody (projected_with i n pending before)
   one_added before pending removed e there m = (
     (λ j v for. true≢false (sym (m.own e.fd (owned_from_projected i before.registrations.owners e.fd (subst (λ k. owner_of (owned_by i before.registrations.owners) e.fd ≡ Some k) (projected_is_own i j before.registrations.owners e.fd for.0) for.0))) ∙ there)),
     refl,
@@ -151,15 +151,15 @@ module _ {V : Type 0} (serves : Serves V) (i : ℕ) (mine : ℕ → Bool) (n : �
     pub still : IsMine i mine after.registrations.owners
     pub next : after.next ≡ before.next
 
-  agree_push : (earlier removed : List (Position V)) (d shown : Position V) → Agree earlier removed → ((fd : ℕ) → mine fd ≡ true → removes fd (exchanges_of shown.outcome) ≡ removes fd (exchanges_of d.outcome)) → Agree (earlier ++ d ∷ []) (removed ++ shown ∷ [])
+  agree_push : (earlier removed : List (Position V)) (d shown : Position V) → Agree earlier removed → ((fd : ℕ) → mine fd ≡ true → removes fd (exchanges_of shown.delivery) ≡ removes fd (exchanges_of d.delivery)) → Agree (earlier ++ d ∷ []) (removed ++ shown ∷ [])
   agree_push earlier removed d shown agree alike fd h =
       is_removed-push fd removed shown ∙ (λ k. agree fd h k || alike fd h k) ∙ sym (is_removed-push fd earlier d)
 
-  agree_skip : (earlier removed : List (Position V)) (d : Position V) → Agree earlier removed → ((fd : ℕ) → mine fd ≡ true → removes fd (exchanges_of d.outcome) ≡ false) → Agree (earlier ++ d ∷ []) removed
+  agree_skip : (earlier removed : List (Position V)) (d : Position V) → Agree earlier removed → ((fd : ℕ) → mine fd ≡ true → removes fd (exchanges_of d.delivery) ≡ false) → Agree (earlier ++ d ∷ []) removed
   agree_skip earlier removed d agree apart fd h =
       agree fd h ∙ sym (is_removed-push fd earlier d ∙ ap (λ b. is_removed fd earlier || b) (apart fd h) ∙ or_false _)
 
-  agree_add : (earlier removed : List (Position V)) (shown : Position V) → Agree earlier removed → shown.outcome ≡ Nobody → Agree earlier (removed ++ shown ∷ [])
+  agree_add : (earlier removed : List (Position V)) (shown : Position V) → Agree earlier removed → shown.delivery ≡ Nobody → Agree earlier (removed ++ shown ∷ [])
   agree_add earlier removed shown agree none fd h =
       is_removed-push fd removed shown ∙ ap (λ o. is_removed fd removed || removes fd (exchanges_of o)) none ∙ or_false _ ∙ agree fd h
 
@@ -170,19 +170,19 @@ module _ {V : Type 0} (serves : Serves V) (i : ℕ) (mine : ℕ → Bool) (n : �
     next = ap (λ (r : Registry V). r.next) is;
   }
   projected_dispatch pending before earlier removed (_ ∷ real) (_ ∷ shown) after (both d here w) m claimed foreign agree (mid, out, more) =
-      let one = one_same (with_pending (still_pending earlier (events_of real)) before) (still_pending removed (events_of shown)) _ _ d.event d.outcome mid here m
-      (λ fd t. claimed fd (asked_first fd (outcome_exchanges i d.outcome) (positions_exchanges i real) t)) (agree d.event.fd here) out in
+      let one = one_same (with_pending (still_pending earlier (events_of real)) before) (still_pending removed (events_of shown)) _ _ d.event d.delivery mid here m
+      (λ fd t. claimed fd (asked_first fd (delivery_exchanges i d.delivery) (positions_exchanges i real) t)) (agree d.event.fd here) out in
       let rest = projected_dispatch one.left mid (earlier ++ d ∷ []) (removed ++ only_position i d ∷ []) real shown after w one.still
-      (λ fd t. claimed fd (asked_then fd (outcome_exchanges i d.outcome) (positions_exchanges i real) t))
-      (λ fd j differ t. foreign fd j differ (adds_then fd (outcome_exchanges j d.outcome) (positions_exchanges j real) t))
+      (λ fd t. claimed fd (asked_then fd (delivery_exchanges i d.delivery) (positions_exchanges i real) t))
+      (λ fd j differ t. foreign fd j differ (adds_then fd (delivery_exchanges j d.delivery) (positions_exchanges j real) t))
       (agree_push earlier removed d (only_position i d) agree one.alike) more
       in
       record { fits = (projected_with i n one.left mid, one.fits, rest.fits); still = rest.still; next = rest.next ∙ one.next }
   projected_dispatch pending before earlier removed (_ ∷ real) shown after (skipped d there nobody w) m claimed foreign agree (mid, out, more) =
-      let one = one_unseen (with_pending (still_pending earlier (events_of real)) before) _ d.event d.outcome mid there m (λ fd j differ t. foreign fd j differ (adds_first fd (outcome_exchanges j d.outcome) (positions_exchanges j real) t)) out in
+      let one = one_unseen (with_pending (still_pending earlier (events_of real)) before) _ d.event d.delivery mid there m (λ fd j differ t. foreign fd j differ (adds_first fd (delivery_exchanges j d.delivery) (positions_exchanges j real) t)) out in
       let rest = projected_dispatch pending mid (earlier ++ d ∷ []) removed real shown after w one.still
-      (λ fd t. claimed fd (asked_then fd (outcome_exchanges i d.outcome) (positions_exchanges i real) t))
-      (λ fd j differ t. foreign fd j differ (adds_then fd (outcome_exchanges j d.outcome) (positions_exchanges j real) t))
+      (λ fd t. claimed fd (asked_then fd (delivery_exchanges i d.delivery) (positions_exchanges i real) t))
+      (λ fd j differ t. foreign fd j differ (adds_then fd (delivery_exchanges j d.delivery) (positions_exchanges j real) t))
       (agree_skip earlier removed d agree one.apart) more
       in
       record { fits = subst (λ r. AreDispatched serves r removed shown (projected_registry i n after)) (one.same pending) rest.fits; still = rest.still; next = rest.next ∙ one.next }
@@ -191,7 +191,7 @@ module _ {V : Type 0} (serves : Serves V) (i : ℕ) (mine : ℕ → Bool) (n : �
       record {
         fits = (
           projected_with i n (still_pending removed (events_of shown)) before,
-          subst (λ o. IsOutcome serves (projected_with i n (still_pending removed (events_of shown)) before) (is_removed d.event.fd removed) d.event o (projected_with i n (still_pending removed (events_of shown)) before)) (sym nobody)
+          subst (λ o. IsDelivery serves (projected_with i n (still_pending removed (events_of shown)) before) (is_removed d.event.fd removed) d.event o (projected_with i n (still_pending removed (events_of shown)) before)) (sym nobody)
               (one_added before (still_pending removed (events_of shown)) (is_removed d.event.fd removed) d.event there m),
           rest.fits,
         );
@@ -202,19 +202,19 @@ module _ {V : Type 0} (serves : Serves V) (i : ℕ) (mine : ℕ → Bool) (n : �
   -- outside i's descriptors nothing goes to i
   pub Foreign : List (Position V) → Type 0
   Foreign [] = Unit {0}
-  Foreign (d ∷ positions) = (mine d.event.fd ≡ false → only_outcome i d.outcome ≡ Nobody) × Foreign positions
+  Foreign (d ∷ positions) = (mine d.event.fd ≡ false → only_delivery i d.delivery ≡ Nobody) × Foreign positions
 
   pub foreign_positions : (before : Registry V) (earlier : List (Position V)) (real : List (Position V)) (after : Registry V) → IsMine i mine before.registrations.owners → IsClaimed (positions_exchanges i real) → ((fd : ℕ) (j : ℕ) → j ≢ i → adds fd (positions_exchanges j real) ≡ true → mine fd ≡ false) → AreDispatched serves before earlier real after → Foreign real
   unfolding Foreign
   foreign_positions before earlier [] after m claimed foreign h = tt
   foreign_positions before earlier (d ∷ real) after m claimed foreign (mid, out, more) =
-      let first : (b : Bool) → mine d.event.fd ≡ b → (mine d.event.fd ≡ false → only_outcome i d.outcome ≡ Nobody) × IsMine i mine mid.registrations.owners = elim [
-        | true ↦ λ e. let one = one_same (with_pending (still_pending earlier (events_of real)) before) [] _ _ d.event d.outcome mid e m (λ fd t. claimed fd (asked_first fd (outcome_exchanges i d.outcome) (positions_exchanges i real) t)) refl out in ((λ f. absurd (true≢false (sym e ∙ f))), one.still)
-        | false ↦ λ e. let one = one_unseen (with_pending (still_pending earlier (events_of real)) before) _ d.event d.outcome mid e m (λ fd j differ t. foreign fd j differ (adds_first fd (outcome_exchanges j d.outcome) (positions_exchanges j real) t)) out in ((λ f. one.nobody), one.still)
+      let first : (b : Bool) → mine d.event.fd ≡ b → (mine d.event.fd ≡ false → only_delivery i d.delivery ≡ Nobody) × IsMine i mine mid.registrations.owners = elim [
+        | true ↦ λ e. let one = one_same (with_pending (still_pending earlier (events_of real)) before) [] _ _ d.event d.delivery mid e m (λ fd t. claimed fd (asked_first fd (delivery_exchanges i d.delivery) (positions_exchanges i real) t)) refl out in ((λ f. absurd (true≢false (sym e ∙ f))), one.still)
+        | false ↦ λ e. let one = one_unseen (with_pending (still_pending earlier (events_of real)) before) _ d.event d.delivery mid e m (λ fd j differ t. foreign fd j differ (adds_first fd (delivery_exchanges j d.delivery) (positions_exchanges j real) t)) out in ((λ f. one.nobody), one.still)
       ]
       in
       let p = first (mine d.event.fd) refl in
-      (p.0, foreign_positions mid (earlier ++ d ∷ []) real after p.1 (λ fd t. claimed fd (asked_then fd (outcome_exchanges i d.outcome) (positions_exchanges i real) t)) (λ fd j differ t. foreign fd j differ (adds_then fd (outcome_exchanges j d.outcome) (positions_exchanges j real) t)) more)
+      (p.0, foreign_positions mid (earlier ++ d ∷ []) real after p.1 (λ fd t. claimed fd (asked_then fd (delivery_exchanges i d.delivery) (positions_exchanges i real) t)) (λ fd j differ t. foreign fd j differ (adds_then fd (delivery_exchanges j d.delivery) (positions_exchanges j real) t)) more)
 
   abbrev on_mine : List Event → List Event
   on_mine events = filter (λ e. mine e.fd) events
@@ -266,7 +266,7 @@ module _ {V : Type 0} (serves : Serves V) (i : ℕ) (mine : ℕ → Bool) (n : �
             record { shown = only_position i first.position ∷ rest.shown; events_are = (λ k. first.event k ∷ rest.events_are k); woven = first.weave rest.shown rest.woven }
         | false ↦ λ t h.
             let rest = weave events real f h in
-            record { shown = record { event = e; outcome = Nobody } ∷ rest.shown; events_are = ap (λ es. e ∷ es) rest.events_are; woven = added (record { event = e; outcome = Nobody }) t refl rest.woven }
+            record { shown = record { event = e; delivery = Nobody } ∷ rest.shown; events_are = ap (λ es. e ∷ es) rest.events_are; woven = added (record { event = e; delivery = Nobody }) t refl rest.woven }
       ]
       in at (mine e.fd) refl is
 
@@ -274,28 +274,28 @@ module _ {V : Type 0} (serves : Serves V) (i : ℕ) (mine : ℕ → Bool) (n : �
 to_nobody : {V : Type 0} (id : ℕ) (exchanges : Exchanges) (calls : List PollerCall) (after : V) → To id exchanges calls after ≡ Nobody → ⊥
 to_nobody id exchanges calls after e = true≢false (ap is_somebody e)
   where
-    is_somebody : {V : Type 0} → Outcome V → Bool
+    is_somebody : {V : Type 0} → Delivery V → Bool
     is_somebody Nobody = false
     is_somebody (To id exchanges calls after) = true
 
 module _ {V : Type 0} (i : ℕ) where
   abbrev to_i : List (Position V) → List (Position V)
-  to_i positions = filter (λ position. is_id i (receiver_of position.outcome)) positions
+  to_i positions = filter (λ position. is_id i (receiver_of position.delivery)) positions
 
-  both_alike : (e : Event) (o : Outcome V) (real shown : List (Position V)) → to_i shown ≡ to_i real
-      → to_i (record { event = e; outcome = only_outcome i o } ∷ shown) ≡ to_i (record { event = e; outcome = o } ∷ real)
+  both_alike : (e : Event) (o : Delivery V) (real shown : List (Position V)) → to_i shown ≡ to_i real
+      → to_i (record { event = e; delivery = only_delivery i o } ∷ shown) ≡ to_i (record { event = e; delivery = o } ∷ real)
   both_alike e Nobody real shown same = same
   both_alike e (To j exchanges calls after) real shown same =
-      elim (j == i) as (λ b. (j == i) ≡ b → to_i (record { event = e; outcome = if b then To j exchanges calls after else Nobody } ∷ shown) ≡ cond b (record { event = e; outcome = To j exchanges calls after } ∷ to_i real) (to_i real)) [
-        | true ↦ λ t. ap (λ b. cond b (record { event = e; outcome = To j exchanges calls after } ∷ to_i shown) (to_i shown)) t ∙ ap (λ l. record { event = e; outcome = To j exchanges calls after } ∷ l) same
+      elim (j == i) as (λ b. (j == i) ≡ b → to_i (record { event = e; delivery = if b then To j exchanges calls after else Nobody } ∷ shown) ≡ cond b (record { event = e; delivery = To j exchanges calls after } ∷ to_i real) (to_i real)) [
+        | true ↦ λ t. ap (λ b. cond b (record { event = e; delivery = To j exchanges calls after } ∷ to_i shown) (to_i shown)) t ∙ ap (λ l. record { event = e; delivery = To j exchanges calls after } ∷ l) same
         | false ↦ λ t. same
       ] refl
 
-  only_is_only : (o : Outcome V) → IfSome (receiver_of (only_outcome i o)) (λ j. j ≡ i)
+  only_is_only : (o : Delivery V) → IfSome (receiver_of (only_delivery i o)) (λ j. j ≡ i)
   only_is_only Nobody = tt
   only_is_only (To j exchanges calls after) = elim (j == i) as (λ b. (j == i) ≡ b → IfSome (receiver_of (if b then To j exchanges calls after else Nobody)) (λ k. k ≡ i)) [ true ↦ λ t. eqb-true j i t | false ↦ λ t. tt ] refl
 
-  not_to : (o : Outcome V) → only_outcome i o ≡ Nobody → is_id i (receiver_of o) ≡ false
+  not_to : (o : Delivery V) → only_delivery i o ≡ Nobody → is_id i (receiver_of o) ≡ false
   not_to Nobody h = refl
   not_to (To j exchanges calls after) h =
       elim (j == i) as (λ b. (j == i) ≡ b → (if b then To j exchanges calls after else Nobody) ≡ Nobody → b ≡ false) [ true ↦ λ t g. absurd (to_nobody j exchanges calls after g) | false ↦ λ t g. refl ] refl h
@@ -304,10 +304,10 @@ module _ {V : Type 0} (i : ℕ) where
   woven_projected mine [] [] ends = record { same = refl; only = All-nil (IsOnlyFor i) }
   woven_projected mine (_ ∷ real) (_ ∷ shown) (both d here w) =
       let rest = woven_projected mine real shown w in
-      record { same = both_alike d.event d.outcome real shown rest.same; only = All-cons (IsOnlyFor i) (only_position i d) shown (only_is_only d.outcome) rest.only }
+      record { same = both_alike d.event d.delivery real shown rest.same; only = All-cons (IsOnlyFor i) (only_position i d) shown (only_is_only d.delivery) rest.only }
   woven_projected mine (_ ∷ real) shown (skipped d there nobody w) =
       let rest = woven_projected mine real shown w in
-      record { same = rest.same ∙ sym (ap (λ b. cond b (d ∷ to_i real) (to_i real)) (not_to d.outcome nobody)); only = rest.only }
+      record { same = rest.same ∙ sym (ap (λ b. cond b (d ∷ to_i real) (to_i real)) (not_to d.delivery nobody)); only = rest.only }
   woven_projected mine real (_ ∷ shown) (added d there nobody w) =
       let rest = woven_projected mine real shown w in
-      record { same = ap (λ o. cond (is_id i (receiver_of o)) (only_position i d ∷ to_i shown) (to_i shown)) nobody ∙ rest.same; only = All-cons (IsOnlyFor i) (only_position i d) shown (only_is_only d.outcome) rest.only }
+      record { same = ap (λ o. cond (is_id i (receiver_of o)) (only_position i d ∷ to_i shown) (to_i shown)) nobody ∙ rest.same; only = All-cons (IsOnlyFor i) (only_position i d) shown (only_is_only d.delivery) rest.only }

@@ -2,7 +2,7 @@
 use Rattle.std.proofs.Common.{◌≡◌, ◌≢◌, ℕ, ◌+◌, ◌<◌, ◌≤◌, ◌==◌, cond, Bool, true, false, not, refl, sym, ◌∙◌, ap, subst, arith, Some, None, Option, inl, inr, nat_cmp, List, [], true≢false, if◌then◌else◌, eq-eqb, eqb-true, le_of_eq}
 use Rattle.std.specs.FinMap.{FinMap, get}
 use Rattle.std.proofs.lemmas.Bool.Decides.{eqb_tells}
-use Rattle.event_loop.specs.Prelude.{Event, OwnerMap, owner_of, Registrations, PollerCall, Exchanges, ExchangesFit, Begins, Registry, Step, Joined, NotJoined, Left, Replaced, Requested, Refused, Steps, is_id, id_of, without_owner, ids_end}
+use Rattle.event_loop.specs.Prelude.{Event, OwnerMap, owner_of, Registrations, PollerCall, Exchanges, ExchangesFit, Begins, Registry, LoopStep, Joined, NotJoined, Left, Replaced, Requested, Refused, Steps, is_id, id_of, without_owner, ids_end}
 use Rattle.event_manager.specs.Projection.{only_values, projected_registrations, projected_registry, step_exchanges, asks_to_add, adds}
 use Rattle.event_loop.proofs.WithoutOwner.{owner_of-without_owner}
 use Rattle.event_manager.proofs.FiniteMaps.{get_only, owned_by-without_owner, only_values-insert, only_values-remove, only_values-same}
@@ -47,7 +47,7 @@ has_from_projected i values v h = sym (get_only i values i ∙ ap (λ b. cond b 
 
 module _ {V : Type 0} (begins : Begins V) where
   -- a step of i's own
-  pub record OwnStep (i : ℕ) (mine : ℕ → Bool) (n : ℕ) (before : Registry V) (step : Step V) (after : Registry V) : Type 0 where
+  pub record OwnStep (i : ℕ) (mine : ℕ → Bool) (n : ℕ) (before : Registry V) (step : LoopStep V) (after : Registry V) : Type 0 where
     pub next : ℕ
     pub fits : Steps begins (projected_registry i n before) step (projected_registry i next after)
     pub still : IsMine i mine after.registrations.owners
@@ -56,7 +56,7 @@ module _ {V : Type 0} (begins : Begins V) where
   abbrev IsClaimed : (ℕ → Bool) → Exchanges → Type 0
   IsClaimed mine exchanges = (fd : ℕ) → asks_to_add fd exchanges ≡ true → mine fd ≡ true
 
-  unchanged : (i : ℕ) (mine : ℕ → Bool) (n : ℕ) (before after : Registry V) (step : Step V) → IsMine i mine before.registrations.owners → (before.next ≤ i → n ≡ i) → after ≡ before → (projected_registry i n after ≡ projected_registry i n before → Steps begins (projected_registry i n before) step (projected_registry i n after)) → OwnStep i mine n before step after
+  unchanged : (i : ℕ) (mine : ℕ → Bool) (n : ℕ) (before after : Registry V) (step : LoopStep V) → IsMine i mine before.registrations.owners → (before.next ≤ i → n ≡ i) → after ≡ before → (projected_registry i n after ≡ projected_registry i n before → Steps begins (projected_registry i n before) step (projected_registry i n after)) → OwnStep i mine n before step after
   unchanged i mine n before after step m joins e fits = record {
     next = n;
     fits = fits (ap (projected_registry i n) e);
@@ -134,7 +134,7 @@ module _ {V : Type 0} (begins : Begins V) where
   claims_of : (mine : ℕ → Bool) (exchanges : Exchanges) (b : Bool) → b ≡ true → IsClaimed mine (if b then exchanges else []) → IsClaimed mine exchanges
   claims_of mine exchanges b e h = λ fd t. h fd (ap (λ x. asks_to_add fd (if x then exchanges else [])) e ∙ t)
 
-  pub own_step : (i : ℕ) (mine : ℕ → Bool) (n : ℕ) (before : Registry V) (step : Step V) (after : Registry V) → is_id i (id_of step) ≡ true → IsMine i mine before.registrations.owners → IsClaimed mine (step_exchanges i step) → (before.next ≤ i → n ≡ i) → Steps begins before step after → OwnStep i mine n before step after
+  pub own_step : (i : ℕ) (mine : ℕ → Bool) (n : ℕ) (before : Registry V) (step : LoopStep V) (after : Registry V) → is_id i (id_of step) ≡ true → IsMine i mine before.registrations.owners → IsClaimed mine (step_exchanges i step) → (before.next ≤ i → n ≡ i) → Steps begins before step after → OwnStep i mine n before step after
   own_step i mine n before (Joined value id exchanges calls held) after named m claimed joins h =
       subst (λ k. Steps begins before (Joined value k exchanges calls held) after → OwnStep i mine n before (Joined value k exchanges calls held) after) (sym (eqb-true id i named))
       (own_joined i mine n before after value exchanges calls held m (claims_of mine exchanges (id == i) named claimed) joins) h
@@ -166,11 +166,11 @@ module _ {V : Type 0} (begins : Begins V) where
   made : (j : ℕ) (exchanges : Exchanges) (fd : ℕ) → adds fd exchanges ≡ true → adds fd (if j == j then exchanges else []) ≡ true
   made j exchanges fd t = ap (λ b. adds fd (if b then exchanges else [])) (eq-eqb j j refl) ∙ t
 
-  pub other_step : (i : ℕ) (mine : ℕ → Bool) (before : Registry V) (step : Step V) (after : Registry V) → is_id i (id_of step) ≡ false → IsMine i mine before.registrations.owners
+  pub other_step : (i : ℕ) (mine : ℕ → Bool) (before : Registry V) (step : LoopStep V) (after : Registry V) → is_id i (id_of step) ≡ false → IsMine i mine before.registrations.owners
       → ((fd : ℕ) (j : ℕ) → j ≢ i → adds fd (step_exchanges j step) ≡ true → mine fd ≡ false) → Steps begins before step after → OtherStep i mine before after
   other_step i mine before step after named m foreign h = by_step step (isolated_step begins before step after h i named) named foreign h
     where
-      by_step : (step : Step V) → IsUntouched i before after → is_id i (id_of step) ≡ false → ((fd : ℕ) (j : ℕ) → j ≢ i → adds fd (step_exchanges j step) ≡ true → mine fd ≡ false) → Steps begins before step after → OtherStep i mine before after
+      by_step : (step : LoopStep V) → IsUntouched i before after → is_id i (id_of step) ≡ false → ((fd : ℕ) (j : ℕ) → j ≢ i → adds fd (step_exchanges j step) ≡ true → mine fd ≡ false) → Steps begins before step after → OtherStep i mine before after
       by_step (Joined value id exchanges calls held) u named foreign (registrations, capacity, is, fits, beg, e) =
           let differ : id ≢ i = λ s. true≢false (sym (eq-eqb id i s) ∙ named) in
           let t = other_exchanges i id mine before.registrations exchanges calls registrations differ m (λ fd a. foreign fd id differ (made id exchanges fd a)) fits in

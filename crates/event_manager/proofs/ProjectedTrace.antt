@@ -3,8 +3,8 @@ use Rattle.std.proofs.Common.{◌≡◌, ◌≢◌, ℕ, nat_lt, ◌+◌, ◌≤
 use Rattle.std.proofs.lemmas.Bool.{or_left, or_right, or_cases}
 use Rattle.std.proofs.lemmas.List.Elements.{All-nil, All-cons}
 use Rattle.event_loop.specs.Prelude.{Event, Exchanges, Begins, Serves, Registrations, Owns, owner_of, class_in, IsDispatchOrder, is_id, id_of, May, Position, events_of, ManagerState, JobRun, IsIteration, AreRun}
-use Rattle.event_manager.specs.Trace.{Effect, Stepped, Iterated, Entry, Matches, HasEffect, IsTrace}
-use Rattle.event_manager.specs.Projection.{projected_registrations, projected_registry, projected_state, effect_exchanges, exchanges_in, asks_to_add, adds, stays, seen_of, seen_in, IsOnly, IsProjection, NonInterference}
+use Rattle.event_manager.specs.Trace.{Effect, Stepped, Iterated, TraceEntry, Matches, HasEffect, IsTrace}
+use Rattle.event_manager.specs.Projection.{projected_registrations, projected_registry, projected_state, effect_exchanges, exchanges_in, asks_to_add, adds, stays, projected_effect, seen_in, IsOnly, IsProjection, NonInterference}
 use Rattle.vmm_sys.specs.declared.errno.Errno.{Errno}
 use Rattle.event_manager.proofs.ProjectedExchanges.{IsMine, same_at_mine, asked_first, asked_then, adds_first, adds_then}
 use Rattle.event_manager.proofs.ProjectedSteps.{own_step, other_step}
@@ -28,9 +28,9 @@ module _ {V J R : Type 0} (i : ℕ) where
       (positions : List (Position V)) × AreProjected i iteration.positions positions × (projected ≡ Iterated (record iteration { positions = positions }))
 
   -- where it stays, i sees the same of it, and nobody else has part in it
-  seen_alike : (effect shown : Effect V J R) → IsProjectedEffect effect shown → seen_of i shown ≡ seen_of i effect
-  seen_alike (Stepped step) shown is = ap (seen_of i) is
-  seen_alike (Iterated iteration) shown (positions, are, is) = ap (seen_of i) is ∙ ap (λ ps. Iterated (record iteration { positions = ps })) are.same
+  seen_alike : (effect shown : Effect V J R) → IsProjectedEffect effect shown → projected_effect i shown ≡ projected_effect i effect
+  seen_alike (Stepped step) shown is = ap (projected_effect i) is
+  seen_alike (Iterated iteration) shown (positions, are, is) = ap (projected_effect i) is ∙ ap (λ ps. Iterated (record iteration { positions = ps })) are.same
 
   shown_only : (effect shown : Effect V J R) → IsProjectedEffect effect shown → stays i effect ≡ true → IsOnly i shown
   shown_only (Stepped step) shown is e = subst (IsOnly i) (sym is) (is_id_Some i (id_of step) e)
@@ -40,22 +40,22 @@ module _ {V J R : Type 0} (i : ℕ) where
   shown_stays (Stepped step) shown is e = ap (stays i) is ∙ e
   shown_stays (Iterated iteration) shown (positions, are, is) e = ap (stays i) is
 
-  abbrev seen : Entry V J R → Entry V J R
-  seen entry = record entry { effect = seen_of i entry.effect }
+  abbrev seen : TraceEntry V J R → TraceEntry V J R
+  seen entry = record entry { effect = projected_effect i entry.effect }
 
-  seen_first : (entry : Entry V J R) (trace : List (Entry V J R)) → stays i entry.effect ≡ true → seen_in i (entry ∷ trace) ≡ seen entry ∷ seen_in i trace
+  seen_first : (entry : TraceEntry V J R) (trace : List (TraceEntry V J R)) → stays i entry.effect ≡ true → seen_in i (entry ∷ trace) ≡ seen entry ∷ seen_in i trace
   seen_first entry trace e = ap (λ b. map seen (cond b (entry ∷ filter (λ e. stays i e.effect) trace) (filter (λ e. stays i e.effect) trace))) e
 
-  seen_none : (entry : Entry V J R) (trace : List (Entry V J R)) → stays i entry.effect ≡ false → seen_in i (entry ∷ trace) ≡ seen_in i trace
+  seen_none : (entry : TraceEntry V J R) (trace : List (TraceEntry V J R)) → stays i entry.effect ≡ false → seen_in i (entry ∷ trace) ≡ seen_in i trace
   seen_none entry trace e = ap (λ b. map seen (cond b (entry ∷ filter (λ e. stays i e.effect) trace) (filter (λ e. stays i e.effect) trace))) e
 
-  one_more_seen : (entry : Entry V J R) (trace projected : List (Entry V J R)) (shown : Effect V J R) → IsProjectedEffect entry.effect shown → stays i entry.effect ≡ true
+  one_more_seen : (entry : TraceEntry V J R) (trace projected : List (TraceEntry V J R)) (shown : Effect V J R) → IsProjectedEffect entry.effect shown → stays i entry.effect ≡ true
       → IsProjection i trace projected → IsProjection i (entry ∷ trace) (record entry { effect = shown } ∷ projected)
   one_more_seen entry trace projected shown is stay h = (
     seen_first (record entry { effect = shown }) projected (shown_stays entry.effect shown is stay)
         ∙ ap₂ (λ x xs. record entry { effect = x } ∷ xs) (seen_alike entry.effect shown is) h.0
         ∙ sym (seen_first entry trace stay),
-    All-cons (λ (e : Entry V J R). IsOnly i e.effect) (record entry { effect = shown }) projected (shown_only entry.effect shown is stay) h.1,
+    All-cons (λ (e : TraceEntry V J R). IsOnly i e.effect) (record entry { effect = shown }) projected (shown_only entry.effect shown is stay) h.1,
   )
 
 module _ {V J R : Type 0} (begins : Begins V) (serves : Serves V) (may : May V J R) where
@@ -76,7 +76,7 @@ module _ {V J R : Type 0} (begins : Begins V) (serves : Serves V) (may : May V J
   does_grow before (Stepped step) after h = le_of_eq (sym h.1)
   does_grow before (Iterated iteration) after h = wait_grows before iteration.waited iteration.positions iteration.jobs after h
 
-  trace_grows : (before : ManagerState V) (trace : List (Entry V J R)) (after : ManagerState V) → IsTrace begins serves may before trace after → before.taken ≤ after.taken
+  trace_grows : (before : ManagerState V) (trace : List (TraceEntry V J R)) (after : ManagerState V) → IsTrace begins serves may before trace after → before.taken ≤ after.taken
   trace_grows before [] after is = le_of_eq (sym (ap (λ (s : ManagerState V). s.taken) is))
   trace_grows before (entry ∷ trace) after (mid, made, has_effect, more) = let a = does_grow before entry.effect mid has_effect in let b = trace_grows mid trace after more in omega arith
 
@@ -153,8 +153,8 @@ module _ {V J R : Type 0} (begins : Begins V) (serves : Serves V) (may : May V J
     matches_projected (Stepped step) shown c r is h = subst (λ s. Matches s c r) (sym is) h
     matches_projected (Iterated iteration) shown c r (positions, are, is) h = subst (λ s. Matches s c r) (sym is) h
 
-    pub trace_projected : (n : ℕ) (before : ManagerState V) (trace : List (Entry V J R)) (after : ManagerState V) → after.taken ≡ before.taken → IsMine i mine before.registry.registrations.owners → IsClaimed (exchanges_in i trace) → Apart (λ j. exchanges_in j trace) → (before.registry.next ≤ i → n ≡ i) → IsTrace begins serves may before trace after → (next : ℕ) × (projected : List (Entry V J R)) × IsProjection i trace projected × IsTrace begins serves may (projected_state i n before) projected (projected_state i next after)
-    trace_projected n before [] after same m claimed apart joins is = (n, [], (refl, All-nil (λ (e : Entry V J R). IsOnly i e.effect)), ap (projected_state i n) is)
+    pub trace_projected : (n : ℕ) (before : ManagerState V) (trace : List (TraceEntry V J R)) (after : ManagerState V) → after.taken ≡ before.taken → IsMine i mine before.registry.registrations.owners → IsClaimed (exchanges_in i trace) → Apart (λ j. exchanges_in j trace) → (before.registry.next ≤ i → n ≡ i) → IsTrace begins serves may before trace after → (next : ℕ) × (projected : List (TraceEntry V J R)) × IsProjection i trace projected × IsTrace begins serves may (projected_state i n before) projected (projected_state i next after)
+    trace_projected n before [] after same m claimed apart joins is = (n, [], (refl, All-nil (λ (e : TraceEntry V J R). IsOnly i e.effect)), ap (projected_state i n) is)
     trace_projected n before (entry ∷ trace) after same m claimed apart joins (mid, made, has_effect, more) =
         let a = does_grow before entry.effect mid has_effect in
         let b = trace_grows mid trace after more in
@@ -185,7 +185,7 @@ module _ {V J R : Type 0} (begins : Begins V) (serves : Serves V) (may : May V J
   not_true true h = absurd (h refl)
   not_true false h = refl
 
-  pub non_interference : (before : ManagerState V) (trace : List (Entry V J R)) (after : ManagerState V) → IsTrace begins serves may before trace after → NonInterference begins serves may before trace after
+  pub non_interference : (before : ManagerState V) (trace : List (TraceEntry V J R)) (after : ManagerState V) → IsTrace begins serves may before trace after → NonInterference begins serves may before trace after
   non_interference before trace after h i same apart =
       let mine : ℕ → Bool = λ fd. is_id i (owner_of before.registry.registrations.owners fd) || asks_to_add fd (exchanges_in i trace) in
       let claims : (fd : ℕ) → mine fd ≡ true → Owns i before.registry.registrations fd ⊎ (asks_to_add fd (exchanges_in i trace) ≡ true) = λ fd e. elim (or_cases (is_id i (owner_of before.registry.registrations.owners fd)) (asks_to_add fd (exchanges_in i trace)) e) [ inl p ↦ inl (is_id_Some i _ p) | inr p ↦ inr p ] in

@@ -4,10 +4,10 @@ use Rattle.std.specs.FinMap.{FinMap, get, insert, remove, get-insert, get-remove
 use Rattle.std.specs.Cmp.{nat_cmp_total, nat_cmp_is}
 use Rattle.std.specs.Ordering.{eq_by_cmp}
 use Rattle.std.proofs.lemmas.Bool.Decides.{eqb_tells}
-use Rattle.event_loop.specs.Prelude.{Event, Registrations, Owns, IsFree, PollerCall, Answer, Exchanges, Fits, by_manager, by_poller, by_agreement, ExchangesFit, ReachesPoller, registrations_after, Begins, Serves, Registry, Step, Joined, NotJoined, Left, Replaced, Requested, Refused, Steps, is_id, without_owner, HasId, LacksId, AreBelow, May, Outcome, Nobody, To, Position, with_pending, IsOutcome, AreDispatched, is_removed, still_pending, events_of, ManagerState, JobRun, IsIteration, AreRun, AllSteps, Ownership, OwnerMap, owner_of}
+use Rattle.event_loop.specs.Prelude.{Event, Registrations, Owns, IsFree, PollerCall, Answer, Exchanges, Fits, by_manager, by_poller, by_agreement, ExchangesFit, ReachesPoller, registrations_after, Begins, Serves, Registry, LoopStep, Joined, NotJoined, Left, Replaced, Requested, Refused, Steps, is_id, without_owner, HasId, LacksId, AreBelow, May, Delivery, Nobody, To, Position, with_pending, IsDelivery, AreDispatched, is_removed, still_pending, events_of, ManagerState, JobRun, IsIteration, AreRun, AllSteps, Ownership, OwnerMap, owner_of}
 use Rattle.event_loop.specs.declared.events.Request.{Request}
 use Rattle.event_loop.specs.declared.events.Request.TheVariants.{Add, AddWithPriority, Modify, Remove}
-use Rattle.event_manager.specs.Trace.{Effect, Stepped, Iterated, Entry, HasEffect, IsTrace, new_state}
+use Rattle.event_manager.specs.Trace.{Effect, Stepped, Iterated, TraceEntry, HasEffect, IsTrace, new_state}
 use Rattle.event_manager.specs.Guarantees.{IsSound, steps_of_effect, steps_of, AreGiven, AreRefusedTo, RemovedStayGone}
 use Rattle.vmm_sys.specs.declared.errno.Errno.{Errno}
 use Rattle.dispatch_tables.specs.declared.priority.Priority.{Priority}
@@ -118,7 +118,7 @@ module _ {V : Type 0} where
         endpoint_free = o.endpoint_free ((λ k. get (same k) (same_end k)) ∙ s.endpoint_free);
       }
 
-  sound_step : (begins : Begins V) (before : Registry V) (step : Step V) (after : Registry V) → IsSound before → Steps begins before step after → IsSound after
+  sound_step : (begins : Begins V) (before : Registry V) (step : LoopStep V) (after : Registry V) → IsSound before → Steps begins before step after → IsSound after
   sound_step begins before (Joined value id exchanges calls held) after s (registrations, capacity, is, fits, beg, e) =
       sound_at after _ e (sound_exchanges before id (before.next + 1) held exchanges calls before.registrations registrations s refl refl fits)
   sound_step begins before (NotJoined value error) after s h = sound_at after before h.1 s
@@ -145,20 +145,20 @@ module _ {V : Type 0} where
   abbrev left : Registry V → List (Position V) → List (Position V) → Registry V
   left before earlier positions = with_pending (still_pending earlier (events_of positions)) before
 
-  sound_outcome : (serves : Serves V) (before : Registry V) (removed : Bool) (e : Event) (outcome : Outcome V) (after : Registry V) → IsSound before → IsOutcome serves before removed e outcome after → IsSound after
-  sound_outcome serves before removed e Nobody after s (nobody, is) = sound_at after _ is (record { owners = s.owners; endpoint_free = s.endpoint_free })
-  sound_outcome serves before removed e (To i exchanges calls held) after s (value, registrations, for, serving, fits, is) =
+  sound_delivery : (serves : Serves V) (before : Registry V) (removed : Bool) (e : Event) (delivery : Delivery V) (after : Registry V) → IsSound before → IsDelivery serves before removed e delivery after → IsSound after
+  sound_delivery serves before removed e Nobody after s (nobody, is) = sound_at after _ is (record { owners = s.owners; endpoint_free = s.endpoint_free })
+  sound_delivery serves before removed e (To i exchanges calls held) after s (value, registrations, for, serving, fits, is) =
       sound_at after _ is (sound_exchanges before i before.next held exchanges calls before.registrations registrations s refl refl fits)
 
   sound_positions : (serves : Serves V) (before : Registry V) (earlier positions : List (Position V)) (after : Registry V) → IsSound before → AreDispatched serves before earlier positions after → IsSound after
   sound_positions serves before earlier [] after s is = sound_at after _ is (record { owners = s.owners; endpoint_free = s.endpoint_free })
-  sound_positions serves before earlier (d ∷ positions) after s (mid, out, more) = sound_positions serves mid (earlier ++ d ∷ []) positions after (sound_outcome serves (left before earlier positions) (is_removed d.event.fd earlier) d.event d.outcome mid (record { owners = s.owners; endpoint_free = s.endpoint_free }) out) more
+  sound_positions serves before earlier (d ∷ positions) after s (mid, out, more) = sound_positions serves mid (earlier ++ d ∷ []) positions after (sound_delivery serves (left before earlier positions) (is_removed d.event.fd earlier) d.event d.delivery mid (record { owners = s.owners; endpoint_free = s.endpoint_free }) out) more
 
   -- held ids stay below the next
   below_at : (after made : Registry V) → after ≡ made → AreBelow made.next made.values → AreBelow after.next after.values
   below_at after made e h = subst (λ (r : Registry V). AreBelow r.next r.values) (sym e) h
 
-  below_step : (begins : Begins V) (before : Registry V) (step : Step V) (after : Registry V) → AreBelow before.next before.values → Steps begins before step after → AreBelow after.next after.values
+  below_step : (begins : Begins V) (before : Registry V) (step : LoopStep V) (after : Registry V) → AreBelow before.next before.values → Steps begins before step after → AreBelow after.next after.values
   below_step begins before (Joined value id exchanges calls held) after h (registrations, capacity, is, fits, beg, e) =
       below_at after _ e (below_joined id before.next before.values held is h)
   below_step begins before (NotJoined value error) after h s = below_at after before s.1 h
@@ -167,24 +167,24 @@ module _ {V : Type 0} where
   below_step begins before (Requested id exchanges calls) after h (value, registrations, has, fits, e) = below_at after _ e h
   below_step begins before (Refused id) after h s = below_at after before s.1 h
 
-  below_outcome : (serves : Serves V) (before : Registry V) (removed : Bool) (e : Event) (outcome : Outcome V) (after : Registry V) → AreBelow before.next before.values → IsOutcome serves before removed e outcome after → AreBelow after.next after.values
-  below_outcome serves before removed e Nobody after h (nobody, is) = below_at after _ is h
-  below_outcome serves before removed e (To i exchanges calls held) after h (value, registrations, for, serving, fits, is) = below_at after _ is (below_insert i before.next before.values held (h i value for.2) h)
+  below_delivery : (serves : Serves V) (before : Registry V) (removed : Bool) (e : Event) (delivery : Delivery V) (after : Registry V) → AreBelow before.next before.values → IsDelivery serves before removed e delivery after → AreBelow after.next after.values
+  below_delivery serves before removed e Nobody after h (nobody, is) = below_at after _ is h
+  below_delivery serves before removed e (To i exchanges calls held) after h (value, registrations, for, serving, fits, is) = below_at after _ is (below_insert i before.next before.values held (h i value for.2) h)
 
   below_positions : (serves : Serves V) (before : Registry V) (earlier positions : List (Position V)) (after : Registry V) → AreBelow before.next before.values → AreDispatched serves before earlier positions after → AreBelow after.next after.values
   below_positions serves before earlier [] after h is = below_at after _ is h
-  below_positions serves before earlier (d ∷ positions) after h (mid, out, more) = below_positions serves mid (earlier ++ d ∷ []) positions after (below_outcome serves (left before earlier positions) (is_removed d.event.fd earlier) d.event d.outcome mid h out) more
+  below_positions serves before earlier (d ∷ positions) after h (mid, out, more) = below_positions serves mid (earlier ++ d ∷ []) positions after (below_delivery serves (left before earlier positions) (is_removed d.event.fd earlier) d.event d.delivery mid h out) more
 
   -- the next id
-  next_outcome : (serves : Serves V) (before : Registry V) (removed : Bool) (e : Event) (outcome : Outcome V) (after : Registry V) → IsOutcome serves before removed e outcome after → after.next ≡ before.next
-  next_outcome serves before removed e Nobody after (nobody, is) = ap (λ (r : Registry V). r.next) is
-  next_outcome serves before removed e (To i exchanges calls held) after (value, registrations, for, serving, fits, is) = ap (λ (r : Registry V). r.next) is
+  next_delivery : (serves : Serves V) (before : Registry V) (removed : Bool) (e : Event) (delivery : Delivery V) (after : Registry V) → IsDelivery serves before removed e delivery after → after.next ≡ before.next
+  next_delivery serves before removed e Nobody after (nobody, is) = ap (λ (r : Registry V). r.next) is
+  next_delivery serves before removed e (To i exchanges calls held) after (value, registrations, for, serving, fits, is) = ap (λ (r : Registry V). r.next) is
 
   next_positions : (serves : Serves V) (before : Registry V) (earlier positions : List (Position V)) (after : Registry V) → AreDispatched serves before earlier positions after → after.next ≡ before.next
   next_positions serves before earlier [] after is = ap (λ (r : Registry V). r.next) is
-  next_positions serves before earlier (d ∷ positions) after (mid, out, more) = next_positions serves mid (earlier ++ d ∷ []) positions after more ∙ next_outcome serves (left before earlier positions) (is_removed d.event.fd earlier) d.event d.outcome mid out
+  next_positions serves before earlier (d ∷ positions) after (mid, out, more) = next_positions serves mid (earlier ++ d ∷ []) positions after more ∙ next_delivery serves (left before earlier positions) (is_removed d.event.fd earlier) d.event d.delivery mid out
 
-  given_step : (begins : Begins V) (before : Registry V) (step : Step V) (after : Registry V) → Steps begins before step after → AreGiven before.next (step ∷ []) after.next
+  given_step : (begins : Begins V) (before : Registry V) (step : LoopStep V) (after : Registry V) → Steps begins before step after → AreGiven before.next (step ∷ []) after.next
   given_step begins before (Joined value id exchanges calls held) after (registrations, capacity, is, fits, beg, e) = (is, ap (λ (r : Registry V). r.next) e)
   given_step begins before (NotJoined value error) after h = ap (λ (r : Registry V). r.next) h.1
   given_step begins before (Left id value calls) after (fds, has, is_owner, deletes, e) = ap (λ (r : Registry V). r.next) e
@@ -192,7 +192,7 @@ module _ {V : Type 0} where
   given_step begins before (Requested id exchanges calls) after (value, registrations, has, fits, e) = ap (λ (r : Registry V). r.next) e
   given_step begins before (Refused id) after h = ap (λ (r : Registry V). r.next) h.1
 
-  given_join : (a b c : ℕ) (xs ys : List (Step V)) → AreGiven a xs b → AreGiven b ys c → AreGiven a (xs ++ ys) c
+  given_join : (a b c : ℕ) (xs ys : List (LoopStep V)) → AreGiven a xs b → AreGiven b ys c → AreGiven a (xs ++ ys) c
   given_join a b c [] ys h k = subst (λ n. AreGiven n ys c) h k
   given_join a b c (Joined value id exchanges calls held ∷ xs) ys h k = (h.0, given_join (a + 1) b c xs ys h.1 k)
   given_join a b c (NotJoined value error ∷ xs) ys h k = given_join a b c xs ys h k
@@ -215,7 +215,7 @@ module _ {V : Type 0} where
   differs : (i id : ℕ) (r : Registry V) (v : V) → IsGone i r → HasId r id v → id ≢ i
   differs i id r v g has = λ e. some_none v (get r.values id) (ap (get r.values) e ∙ g.lacks) has
 
-  gone_step : (begins : Begins V) (i : ℕ) (before : Registry V) (step : Step V) (after : Registry V) → IsGone i before → Steps begins before step after → ((steps : List (Step V)) → AreRefusedTo i steps → AreRefusedTo i (step ∷ steps)) × IsGone i after
+  gone_step : (begins : Begins V) (i : ℕ) (before : Registry V) (step : LoopStep V) (after : Registry V) → IsGone i before → Steps begins before step after → ((steps : List (LoopStep V)) → AreRefusedTo i steps → AreRefusedTo i (step ∷ steps)) × IsGone i after
   gone_step begins i before (Joined value id exchanges calls held) after g (registrations, capacity, is, fits, beg, e) =
       let differ : id ≢ i = λ t. lt_irrefl before.next (subst (λ k. k < before.next) (sym t ∙ is) g.given) in
       (λ steps rest. (differ, rest), gone_at i after _ e (record { lacks = lacks_insert i id before.values held (λ t. differ (sym t)) g.lacks; given = (let b = g.given in omega arith) }))
@@ -227,21 +227,21 @@ module _ {V : Type 0} where
   gone_step begins i before (Requested id exchanges calls) after g (value, registrations, has, fits, e) = (λ steps rest. (differs i id before value g has, rest), gone_at i after _ e (record { lacks = g.lacks; given = g.given }))
   gone_step begins i before (Refused id) after g h = (λ steps rest. rest, gone_at i after before h.1 g)
 
-  gone_outcome : (serves : Serves V) (i : ℕ) (before : Registry V) (removed : Bool) (e : Event) (outcome : Outcome V) (after : Registry V) → IsGone i before → IsOutcome serves before removed e outcome after → IsGone i after
-  gone_outcome serves i before removed e Nobody after g (nobody, is) = gone_at i after _ is (record { lacks = g.lacks; given = g.given })
-  gone_outcome serves i before removed e (To id exchanges calls held) after g (value, registrations, for, serving, fits, is) =
+  gone_delivery : (serves : Serves V) (i : ℕ) (before : Registry V) (removed : Bool) (e : Event) (delivery : Delivery V) (after : Registry V) → IsGone i before → IsDelivery serves before removed e delivery after → IsGone i after
+  gone_delivery serves i before removed e Nobody after g (nobody, is) = gone_at i after _ is (record { lacks = g.lacks; given = g.given })
+  gone_delivery serves i before removed e (To id exchanges calls held) after g (value, registrations, for, serving, fits, is) =
       let differ = differs i id before value g for.2 in
       gone_at i after _ is (record { lacks = lacks_insert i id before.values held (λ t. differ (sym t)) g.lacks; given = g.given })
 
   gone_positions : (serves : Serves V) (i : ℕ) (before : Registry V) (earlier positions : List (Position V)) (after : Registry V) → IsGone i before → AreDispatched serves before earlier positions after → IsGone i after
   gone_positions serves i before earlier [] after g is = gone_at i after _ is (record { lacks = g.lacks; given = g.given })
-  gone_positions serves i before earlier (d ∷ positions) after g (mid, out, more) = gone_positions serves i mid (earlier ++ d ∷ []) positions after (gone_outcome serves i (left before earlier positions) (is_removed d.event.fd earlier) d.event d.outcome mid (record { lacks = g.lacks; given = g.given }) out) more
+  gone_positions serves i before earlier (d ∷ positions) after g (mid, out, more) = gone_positions serves i mid (earlier ++ d ∷ []) positions after (gone_delivery serves i (left before earlier positions) (is_removed d.event.fd earlier) d.event d.delivery mid (record { lacks = g.lacks; given = g.given }) out) more
 
   left_is_gone : (begins : Begins V) (before : Registry V) (id : ℕ) (value : V) (calls : List PollerCall) (after : Registry V) → AreBelow before.next before.values → Steps begins before (Left id value calls) after → IsGone id after
   left_is_gone begins before id value calls after s (fds, has, is_owner, deletes, e) = gone_at id after _ e (record { lacks = removed_value id before.values; given = s id value has })
 
   -- each step's removal stays, where what follows refuses all that is gone after it
-  stays_gone : (begins : Begins V) (before : Registry V) (step : Step V) (after : Registry V) (steps : List (Step V)) → AreBelow before.next before.values → Steps begins before step after → ((i : ℕ) → IsGone i after → AreRefusedTo i steps) → RemovedStayGone steps → RemovedStayGone (step ∷ steps)
+  stays_gone : (begins : Begins V) (before : Registry V) (step : LoopStep V) (after : Registry V) (steps : List (LoopStep V)) → AreBelow before.next before.values → Steps begins before step after → ((i : ℕ) → IsGone i after → AreRefusedTo i steps) → RemovedStayGone steps → RemovedStayGone (step ∷ steps)
   stays_gone begins before (Joined value id exchanges calls held) after steps s h k gone = gone
   stays_gone begins before (NotJoined value error) after steps s h k gone = gone
   stays_gone begins before (Left id value calls) after steps s h k gone = (k id (left_is_gone begins before id value calls after s h), gone)
@@ -250,12 +250,12 @@ module _ {V : Type 0} where
   stays_gone begins before (Refused id) after steps s h k gone = gone
 
 -- the steps of jobs, one after another
-abbrev pub steps_of_jobs : {V J R : Type 0} → List (JobRun V J R) → List (Step V)
+abbrev pub steps_of_jobs : {V J R : Type 0} → List (JobRun V J R) → List (LoopStep V)
 steps_of_jobs jobs = flat_map (λ job_run. job_run.steps) jobs
 
 module _ {V J R : Type 0} (begins : Begins V) (serves : Serves V) (may : May V J R) where
   -- what the steps between two registries are, and what stays true
-  pub record Follows (before : Registry V) (steps : List (Step V)) (after : Registry V) : Type 0 where
+  pub record Follows (before : Registry V) (steps : List (LoopStep V)) (after : Registry V) : Type 0 where
     pub sound : IsSound before → IsSound after
     pub given : AreGiven before.next steps after.next
     pub gone : (i : ℕ) → IsGone i before → AreRefusedTo i steps × IsGone i after
@@ -272,7 +272,7 @@ module _ {V J R : Type 0} (begins : Begins V) (serves : Serves V) (may : May V J
   }
 
   -- one step first
-  follows_cons : (before : Registry V) (step : Step V) (mid : Registry V) (steps : List (Step V)) (after : Registry V) → Steps begins before step mid → Follows mid steps after → Follows before (step ∷ steps) after
+  follows_cons : (before : Registry V) (step : LoopStep V) (mid : Registry V) (steps : List (LoopStep V)) (after : Registry V) → Steps begins before step mid → Follows mid steps after → Follows before (step ∷ steps) after
   follows_cons before step mid steps after h k = record {
     sound = λ s. k.sound (sound_step begins before step mid s h);
     given = given_join before.next mid.next after.next (step ∷ []) steps (given_step begins before step mid h) k.given;
@@ -282,7 +282,7 @@ module _ {V J R : Type 0} (begins : Begins V) (serves : Serves V) (may : May V J
   }
 
   -- what leads to any continuation
-  follows_positions_then : (before : Registry V) (positions : List (Position V)) (mid : Registry V) (steps : List (Step V)) (after : Registry V) → AreDispatched serves before [] positions mid → Follows mid steps after → Follows before steps after
+  follows_positions_then : (before : Registry V) (positions : List (Position V)) (mid : Registry V) (steps : List (LoopStep V)) (after : Registry V) → AreDispatched serves before [] positions mid → Follows mid steps after → Follows before steps after
   follows_positions_then before positions mid steps after h k = record {
     sound = λ s. k.sound (sound_positions serves before [] positions mid s h);
     given = subst (λ n. AreGiven n steps after.next) (next_positions serves before [] positions mid h) k.given;
@@ -291,27 +291,27 @@ module _ {V J R : Type 0} (begins : Begins V) (serves : Serves V) (may : May V J
     removed = λ b. k.removed (below_positions serves before [] positions mid b h);
   }
 
-  follows_steps : (before : Registry V) (steps : List (Step V)) (mid : Registry V) (more : List (Step V)) (after : Registry V) → AllSteps begins before steps mid → Follows mid more after → Follows before (steps ++ more) after
+  follows_steps : (before : Registry V) (steps : List (LoopStep V)) (mid : Registry V) (more : List (LoopStep V)) (after : Registry V) → AllSteps begins before steps mid → Follows mid more after → Follows before (steps ++ more) after
   follows_steps before [] mid more after is k = subst (λ r. Follows r more after) is k
   follows_steps before (step ∷ steps) mid more after (next, h, others) k = follows_cons before step next (steps ++ more) after h (follows_steps next steps mid more after others k)
 
-  follows_jobs : (before : ManagerState V) (jobs : List (JobRun V J R)) (mid : ManagerState V) (more : List (Step V)) (after : Registry V) → AreRun begins serves may before jobs mid → Follows mid.registry more after → Follows before.registry (steps_of_jobs jobs ++ more) after
+  follows_jobs : (before : ManagerState V) (jobs : List (JobRun V J R)) (mid : ManagerState V) (more : List (LoopStep V)) (after : Registry V) → AreRun begins serves may before jobs mid → Follows mid.registry more after → Follows before.registry (steps_of_jobs jobs ++ more) after
   follows_jobs before [] mid more after is k = subst (λ (s : ManagerState V). Follows s.registry more after) is k
   follows_jobs before (job_run ∷ jobs) mid more after (next, ticket, chosen, steps, others) k =
       subst (λ xs. Follows before.registry xs after) (sym (append_assoc job_run.steps (steps_of_jobs jobs) more))
       (follows_steps before.registry job_run.steps next (steps_of_jobs jobs ++ more) after steps (follows_jobs (record { registry = next; taken = before.taken + 1 }) jobs mid more after others k))
 
-  follows_wait : (before : ManagerState V) (waited : Result (List Event) Errno) (positions : List (Position V)) (jobs : List (JobRun V J R)) (mid : ManagerState V) (more : List (Step V)) (after : Registry V) → IsIteration begins serves may before waited positions jobs mid → Follows mid.registry more after → Follows before.registry (steps_of_jobs jobs ++ more) after
+  follows_wait : (before : ManagerState V) (waited : Result (List Event) Errno) (positions : List (Position V)) (jobs : List (JobRun V J R)) (mid : ManagerState V) (more : List (LoopStep V)) (after : Registry V) → IsIteration begins serves may before waited positions jobs mid → Follows mid.registry more after → Follows before.registry (steps_of_jobs jobs ++ more) after
   follows_wait before (Ok report) positions jobs mid more after (dispatched, dispatch, idle, job_run) k =
       follows_positions_then before.registry positions dispatched (steps_of_jobs jobs ++ more) after dispatch.1 (follows_jobs (record before { registry = dispatched }) jobs mid more after job_run k)
   follows_wait before (Err errno) positions jobs mid more after (no_positions, no_jobs, is) k =
       subst (λ js. Follows before.registry (steps_of_jobs js ++ more) after) (sym no_jobs) (subst (λ (s : ManagerState V). Follows s.registry more after) is k)
 
-  follows_effect : (before : ManagerState V) (effect : Effect V J R) (mid : ManagerState V) (more : List (Step V)) (after : Registry V) → HasEffect begins serves may before effect mid → Follows mid.registry more after → Follows before.registry (steps_of_effect effect ++ more) after
+  follows_effect : (before : ManagerState V) (effect : Effect V J R) (mid : ManagerState V) (more : List (LoopStep V)) (after : Registry V) → HasEffect begins serves may before effect mid → Follows mid.registry more after → Follows before.registry (steps_of_effect effect ++ more) after
   follows_effect before (Stepped step) mid more after h k = follows_cons before.registry step mid.registry more after h.0 k
   follows_effect before (Iterated iteration) mid more after h k = follows_wait before iteration.waited iteration.positions iteration.jobs mid more after h k
 
-  pub trace_follows : (before : ManagerState V) (trace : List (Entry V J R)) (after : ManagerState V) → IsTrace begins serves may before trace after → Follows before.registry (steps_of trace) after.registry
+  pub trace_follows : (before : ManagerState V) (trace : List (TraceEntry V J R)) (after : ManagerState V) → IsTrace begins serves may before trace after → Follows before.registry (steps_of trace) after.registry
   trace_follows before [] after is = follows_none before.registry after.registry (ap (λ (s : ManagerState V). s.registry) is)
   trace_follows before (entry ∷ trace) after (mid, made, has_effect, more) = follows_effect before entry.effect mid (steps_of trace) after.registry has_effect (trace_follows mid trace after more)
 

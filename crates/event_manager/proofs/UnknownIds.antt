@@ -1,8 +1,8 @@
 -- What was removed is unknown: by the replies of a trace.
 use Rattle.std.proofs.Common.{◌≡◌, ℕ, List, [], ◌∷◌, ◌++◌, refl, sym, subst, ◌∙◌, map, Ok, Err}
 use Rattle.std.specs.List.{AllZip}
-use Rattle.event_loop.specs.Prelude.{Begins, Serves, Step, Joined, NotJoined, Left, Replaced, Requested, Refused, May, ManagerState}
-use Rattle.event_manager.specs.Trace.{Effect, Stepped, Iterated, Entry, Matches, IsTrace}
+use Rattle.event_loop.specs.Prelude.{Begins, Serves, LoopStep, Joined, NotJoined, Left, Replaced, Requested, Refused, May, ManagerState}
+use Rattle.event_manager.specs.Trace.{Effect, Stepped, Iterated, TraceEntry, Matches, IsTrace}
 use Rattle.event_manager.specs.Guarantees.{AreRefusedTo, RemovedStayGone, IsUnknown, RemovedStayUnknown, steps_of, steps_of_effect}
 use Rattle.event_loop.specs.declared.error.Error.TheVariants.{InvalidId}
 use Rattle.event_manager.specs.declared.calls.Call.{Call}
@@ -11,12 +11,12 @@ use Rattle.event_manager.specs.declared.calls.Reply.{Reply}
 use Rattle.event_manager.specs.declared.calls.Reply.TheVariants as reply
 
 module _ {V : Type 0} where
-  refused_apart : (i : ℕ) (steps more : List (Step V)) → AreRefusedTo i (steps ++ more) → AreRefusedTo i steps × AreRefusedTo i more
+  refused_apart : (i : ℕ) (steps more : List (LoopStep V)) → AreRefusedTo i (steps ++ more) → AreRefusedTo i steps × AreRefusedTo i more
   refused_apart i [] more h = (tt, h)
   refused_apart i (Refused id ∷ steps) more h = refused_apart i steps more h
   refused_apart i (step ∷ steps) more h = let k = refused_apart i steps more h.1 in ((h.0, k.0), k.1)
 
-  gone_behind : (steps more : List (Step V)) → RemovedStayGone (steps ++ more) → RemovedStayGone more
+  gone_behind : (steps more : List (LoopStep V)) → RemovedStayGone (steps ++ more) → RemovedStayGone more
   gone_behind [] more h = h
   gone_behind (Left id value calls ∷ steps) more h = gone_behind steps more h.1
   gone_behind (step ∷ steps) more h = gone_behind steps more h
@@ -36,7 +36,7 @@ module _ {V J R : Type 0} where
   unknown_at i (Iterated iteration) c r m h = rw m.0 tt
 
   -- a removal that was agreed is a leave
-  refused_behind : (effect : Effect V J R) (more : List (Step V)) (id : ℕ) (value : V) → Matches effect (call.Remove id) (reply.Removed (Ok value)) → RemovedStayGone (steps_of_effect effect ++ more) → AreRefusedTo id more
+  refused_behind : (effect : Effect V J R) (more : List (LoopStep V)) (id : ℕ) (value : V) → Matches effect (call.Remove id) (reply.Removed (Ok value)) → RemovedStayGone (steps_of_effect effect ++ more) → AreRefusedTo id more
   refused_behind (Stepped (Joined other i exchanges calls held)) more id value m h = let s : ◌≡◌ {A = Call V} (call.Remove id) (call.Add other) = m.0 in cc
   refused_behind (Stepped (NotJoined other error)) more id value m h = let s : ◌≡◌ {A = Call V} (call.Remove id) (call.Add other) = m.0 in cc
   refused_behind (Stepped (Left i left calls)) more id value m h = let s : ◌≡◌ {A = Call V} (call.Remove id) (call.Remove i) = m.0 in let same : i ≡ id = cc in subst (λ k. AreRefusedTo k more) same h.0
@@ -46,13 +46,13 @@ module _ {V J R : Type 0} where
   refused_behind (Iterated iteration) more id value m h = let s : ◌≡◌ {A = Call V} (call.Remove id) (call.Run iteration.ms) = m.0 in cc
 
 module _ {V J R : Type 0} (begins : Begins V) (serves : Serves V) (may : May V J R) where
-  unknown_in : (i : ℕ) (before : ManagerState V) (trace : List (Entry V J R)) (after : ManagerState V) → IsTrace begins serves may before trace after → AreRefusedTo i (steps_of trace) → AllZip (IsUnknown i) (map (λ e. e.call) trace) (map (λ e. e.reply) trace)
+  unknown_in : (i : ℕ) (before : ManagerState V) (trace : List (TraceEntry V J R)) (after : ManagerState V) → IsTrace begins serves may before trace after → AreRefusedTo i (steps_of trace) → AllZip (IsUnknown i) (map (λ e. e.call) trace) (map (λ e. e.reply) trace)
   unknown_in i before [] after is h = tt
   unknown_in i before (entry ∷ trace) after (mid, matches, had, more) h =
       let k = refused_apart i (steps_of_effect entry.effect) (steps_of trace) h in
       (unknown_at i entry.effect entry.call entry.reply matches k.0, unknown_in i mid trace after more k.1)
 
-  pub removed_unknown : (before : ManagerState V) (trace : List (Entry V J R)) (after : ManagerState V) → IsTrace begins serves may before trace after → RemovedStayGone (steps_of trace) → RemovedStayUnknown (map (λ e. e.call) trace) (map (λ e. e.reply) trace)
+  pub removed_unknown : (before : ManagerState V) (trace : List (TraceEntry V J R)) (after : ManagerState V) → IsTrace begins serves may before trace after → RemovedStayGone (steps_of trace) → RemovedStayUnknown (map (λ e. e.call) trace) (map (λ e. e.reply) trace)
   removed_unknown before [] after is h = refl
   removed_unknown before (entry ∷ trace) after (mid, matches, had, more) h = (
     λ id value asked answered. unknown_in id mid trace after more (refused_behind entry.effect (steps_of trace) id value (rw (asked, answered) at matches) h),

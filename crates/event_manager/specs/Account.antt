@@ -68,8 +68,8 @@ module _ {J : Type 0} where
   answers_after before (Take ∷ steps) = answers_after (before ++ (Take ∷ [])) steps
   answers_after before (Close ∷ steps) = answers_after (before ++ (Close ∷ [])) steps
 
-  abbrev pub answers_of : List (Step J) → List (Result ℕ Error)
-  answers_of steps = answers_after [] steps
+  abbrev pub answers_to_sends : List (Step J) → List (Result ℕ Error)
+  answers_to_sends steps = answers_after [] steps
 
   -- one step of the replay: the answers, what was handed out, and the queue
   abbrev pub IsReplayed : Step J → QueueState J (Unit {0}) → List (Result ℕ Error) → List (ℕ × J)

@@ -1,6 +1,6 @@
 -- A repeated report: subscriber 1 owns descriptor 3; at the first event it removes and adds it, and the second event goes to nobody.
 use Rattle.std.specs.Prelude.{ℕ, negsuc, List, [], ◌∷◌, Ok}
-use Rattle.event_loop.specs.Prelude.{Event, Exchanges, call_for, Joined, Step, To, Nobody}
+use Rattle.event_loop.specs.Prelude.{Event, Exchanges, call_for, Joined, LoopStep, To, Nobody}
 use Rattle.event_loop.specs.declared.events.Request.TheVariants.{Add, Remove}
 use Rattle.event_manager.specs.Trace.{Effect, Stepped, Iterated}
 
@@ -14,8 +14,8 @@ abbrev pub iterates : Effect ℕ ℕ ℕ
 iterates = Iterated (record {
   ms = negsuc 0;
   waited = Ok (three ∷ three ∷ []);
-  positions = record { event = three; outcome = To 1 ((Remove three, Ok tt) ∷ (Add three, Ok tt) ∷ []) (call_for (Remove three) (Ok tt) ∷ call_for (Add three) (Ok tt) ∷ []) 1 }
-      ∷ record { event = three; outcome = Nobody } ∷ [];
+  positions = record { event = three; delivery = To 1 ((Remove three, Ok tt) ∷ (Add three, Ok tt) ∷ []) (call_for (Remove three) (Ok tt) ∷ call_for (Add three) (Ok tt) ∷ []) 1 }
+      ∷ record { event = three; delivery = Nobody } ∷ [];
   jobs = [];
 })
 
@@ -26,5 +26,5 @@ any_begins v exchanges w = Unit {0}
 abbrev pub any_serves : ℕ → Event → Exchanges → ℕ → Type 0
 any_serves v e exchanges w = Unit {0}
 
-abbrev pub any_may : ℕ → List (Step ℕ) → ℕ → Type 0
+abbrev pub any_may : ℕ → List (LoopStep ℕ) → ℕ → Type 0
 any_may j steps r = Unit {0}

@@ -63,9 +63,9 @@ IsSend rings q job slot (Err InvalidCapacity) r = ⊥
 IsSend rings q job slot (Err IdsUsedUp) r = ⊥
 
 -- what a send answers that hands back what it refuses
-abbrev pub answer_of : {T J Q : Type 0} → Result T (Refused J Q) → Result T Error
-answer_of (Ok ticket) = Ok ticket
-answer_of (Err refused) = Err refused.error
+abbrev pub send_answer : {T J Q : Type 0} → Result T (Refused J Q) → Result T Error
+send_answer (Ok ticket) = Ok ticket
+send_answer (Err refused) = Err refused.error
 
 -- the tickets and the jobs of entries
 abbrev pub tickets_and_jobs : {J Q : Type 0} → List (Entry J Q) → List (ℕ × J)

@@ -1,6 +1,6 @@
 -- Jobs that ran on a registry of the program.
 use Rattle.std.specs.Prelude.{◌≡◌, ℕ, List, map}
-use Rattle.event_loop.specs.Prelude.{Controls, Waits, Leads, Begins, Serves, Step, May, JobRun, AreRun, calls_of_jobs, LoopState, HaveStepped}
+use Rattle.event_loop.specs.Prelude.{Controls, Waits, Leads, Begins, Serves, LoopStep, May, JobRun, AreRun, calls_of_jobs, LoopState, HaveStepped}
 use Rattle.event_manager.specs.declared.jobs.queue.Entry.{Entry}
 
 -- how many jobs ran, and what was taken and didn't run
@@ -11,7 +11,7 @@ pub record Taken (J : Type 0) : Type 0 where
 module _ {S P J R : Type 0} (begins : Begins S) (may : May S J R) (controls : Controls P) (waits : Waits P) where
   -- one job ran: it made steps that it may make, and gave a reply that it may then give
   pub record HasRun (before : LoopState S P) (job : J) (after : LoopState S P) : Type 0 where
-    pub steps : List (Step S)
+    pub steps : List (LoopStep S)
     pub reply : R
     pub might : may job steps reply
     pub stepped : HaveStepped begins controls waits before steps after

@@ -1,7 +1,7 @@
 -- What one call of a list did.
 use Rattle.std.specs.Prelude.{◌≡◌, ℕ, List, vec_len, Vec, Result, Ok, Err}
 use Rattle.std.specs.declared.alloc.Global.{Global}
-use Rattle.event_loop.specs.Prelude.{PollerCall, Controls, Waits, Leads, Exchanges, Answer, requests_of, answers_of, Begins, Serves, Step, Requested, Replaced, Refused, May, LoopState, manager_state}
+use Rattle.event_loop.specs.Prelude.{PollerCall, Controls, Waits, Leads, Exchanges, Answer, requests_of, answers_of, Begins, Serves, LoopStep, Requested, Replaced, Refused, May, LoopState, manager_state}
 use Rattle.event_loop.specs.declared.error.Error.{Error}
 use Rattle.event_loop.specs.declared.events.Request.{Request}
 use Rattle.event_manager.specs.Trace.{Effect, HasEffect, calls_of_effect}
@@ -18,13 +18,13 @@ answers_to (Ask id requests) = vec_len requests
 answers_to (Run ms) = 0
 
 -- the step of requests in order, by what was answered
-abbrev pub IsAsk : {V : Type 0} → ℕ → List Request → Result (Vec Answer Global) Error → Step V → Type 0
+abbrev pub IsAsk : {V : Type 0} → ℕ → List Request → Result (Vec Answer Global) Error → LoopStep V → Type 0
 IsAsk id requests (Ok answers) step =
     (exchanges : Exchanges) × (calls : List PollerCall) × (step ≡ Requested id exchanges calls) × (requests_of exchanges ≡ requests) × (answers_of exchanges ≡ answers.items)
 IsAsk id requests (Err error) step = (error ≡ InvalidId) × (step ≡ Refused id)
 
 -- the step of another value, by what was answered
-abbrev pub IsReplacement : {V : Type 0} → ℕ → V → Result V Error → Step V → Type 0
+abbrev pub IsReplacement : {V : Type 0} → ℕ → V → Result V Error → LoopStep V → Type 0
 IsReplacement id value (Ok old) step = step ≡ Replaced id old value
 IsReplacement id value (Err error) step = (error ≡ InvalidId) × (step ≡ Refused id)
 

@@ -2,7 +2,7 @@
 use Rattle.std.specs.Prelude.{◌≡◌, ℕ, List, [], ◌∷◌, Ok, Err, Vec}
 use Rattle.std.specs.List.{flat_map}
 use Rattle.std.specs.declared.alloc.Global.{Global}
-use Rattle.event_loop.specs.Prelude.{PollerCall, Answer, requests_of, answers_of, Begins, Serves, Step, Steps, Joined, NotJoined, Left, Replaced, Requested, Refused, calls_of, new_registry, May, ManagerState, Iteration, IsIteration, answer_of, calls_of_iteration}
+use Rattle.event_loop.specs.Prelude.{PollerCall, Answer, requests_of, answers_of, Begins, Serves, LoopStep, Steps, Joined, NotJoined, Left, Replaced, Requested, Refused, calls_of, new_registry, May, ManagerState, Iteration, IsIteration, run_answer, calls_of_iteration}
 use Rattle.event_loop.specs.declared.events.Request.{Request}
 use Rattle.event_loop.specs.declared.error.Error.TheVariants.{InvalidId}
 use Rattle.event_manager.specs.declared.calls.Call.{Call}
@@ -12,11 +12,11 @@ use Rattle.event_manager.specs.declared.calls.Reply.TheVariants as reply
 
 -- what a call did: one step, or an iteration
 pub data Effect (V J R : Type 0) : Type 0 where
-  Stepped : Step V → Effect V J R
+  Stepped : LoopStep V → Effect V J R
   Iterated : Iteration V J R → Effect V J R
 
 -- a call, its reply, and what it did
-pub record Entry (V J R : Type 0) : Type 0 where
+pub record TraceEntry (V J R : Type 0) : Type 0 where
   pub call : Call V
   pub reply : Reply V
   pub effect : Effect V J R
@@ -38,7 +38,7 @@ Matches (Stepped (Requested id exchanges calls)) c r =
     (requests : Vec Request Global) × (answers : Vec Answer Global) × (c ≡ call.Ask id requests) × (r ≡ reply.Asked (Ok answers))
     × (requests_of exchanges ≡ requests.items) × (answers_of exchanges ≡ answers.items)
 Matches (Stepped (Refused id)) c r = IsRefused id c r
-Matches (Iterated iteration) c r = (c ≡ call.Run iteration.ms) × (r ≡ reply.Ran (answer_of iteration.waited))
+Matches (Iterated iteration) c r = (c ≡ call.Run iteration.ms) × (r ≡ reply.Ran (run_answer iteration.waited))
 
 module _ {V J R : Type 0} (begins : Begins V) (serves : Serves V) (may : May V J R) where
   abbrev pub HasEffect : ManagerState V → Effect V J R → ManagerState V → Type 0
@@ -46,7 +46,7 @@ module _ {V J R : Type 0} (begins : Begins V) (serves : Serves V) (may : May V J
   HasEffect before (Iterated iteration) after = IsIteration begins serves may before iteration.waited iteration.positions iteration.jobs after
 
   -- each call from the state that the one before it left
-  abbrev pub IsTrace : ManagerState V → List (Entry V J R) → ManagerState V → Type 0
+  abbrev pub IsTrace : ManagerState V → List (TraceEntry V J R) → ManagerState V → Type 0
   IsTrace before [] after = after ≡ before
   IsTrace before (entry ∷ trace) after = (mid : ManagerState V) × Matches entry.effect entry.call entry.reply × HasEffect before entry.effect mid × IsTrace mid trace after
 
@@ -55,7 +55,7 @@ abbrev pub calls_of_effect : {V J R : Type 0} → ℕ → Effect V J R → List 
 calls_of_effect capacity (Stepped step) = calls_of step
 calls_of_effect capacity (Iterated iteration) = calls_of_iteration capacity iteration
 
-abbrev pub calls_of_trace : {V J R : Type 0} → ℕ → List (Entry V J R) → List PollerCall
+abbrev pub calls_of_trace : {V J R : Type 0} → ℕ → List (TraceEntry V J R) → List PollerCall
 calls_of_trace capacity trace = flat_map (λ entry. calls_of_effect capacity entry.effect) trace
 
 -- a new manager, by its endpoint's descriptor

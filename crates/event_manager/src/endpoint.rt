@@ -1,7 +1,7 @@
 //! The remote endpoint, by which other threads send jobs to the loop.
 
 ghost use Rattle.std.specs.Prelude.{◌≡◌, ◌<◌, IfOk, IfErr};
-ghost use Rattle.event_manager.specs.JobQueue.{answer_of};
+ghost use Rattle.event_manager.specs.JobQueue.{send_answer};
 ghost use Rattle.event_manager.specs.Endpoint.{counter_of_endpoint, IsSendRefusal, IsCallRefusal, IsRingRefusal};
 ghost use Rattle.event_loop.specs.declared.error.Error.TheVariants.{OutOfMemory};
 
@@ -28,7 +28,7 @@ use vmm_sys::counter::Bell;
 fn answer<J: Drop, Q: Drop, N: Naming>(
     sent: std::result::Result<Ticket<N>, Refused<J, Q>>,
 ) -> Result<Ticket<N>>
-    ensures { result ≡ answer_of sent }
+    ensures { result ≡ send_answer sent }
 {
     match sent {
         Ok(ticket) => Ok(ticket),

@@ -11,10 +11,10 @@ ghost use Rattle.event_loop.specs.Registrations.{Registrations};
 ghost use Rattle.dispatch_tables.specs.Priority.{number_of};
 ghost use Rattle.event_loop.specs.DispatchOrder.{IsDispatchOrder};
 ghost use Rattle.event_loop.specs.Exchange.{Exchanges, ExchangesFit};
-ghost use Rattle.event_loop.specs.Registry.{Registry, Step, Steps, Left, AreBelow, is_id, id_of};
-ghost use Rattle.event_loop.specs.Dispatch.{Position, Outcome, is_removed, still_pending, with_pending, IsOutcome};
+ghost use Rattle.event_loop.specs.Registry.{Registry, LoopStep, Steps, Left, AreBelow, is_id, id_of};
+ghost use Rattle.event_loop.specs.Dispatch.{Position, Delivery, is_removed, still_pending, with_pending, IsDelivery};
 ghost use Rattle.event_loop.specs.Iteration.{ManagerState};
-ghost use Rattle.event_manager.specs.Trace.{Entry, HasEffect, IsTrace, new_state};
+ghost use Rattle.event_manager.specs.Trace.{TraceEntry, HasEffect, IsTrace, new_state};
 ghost use Rattle.event_manager.specs.Projection.{NonInterference, receiver_of};
 ghost use Rattle.event_manager.specs.Guarantees.{AreGiven, steps_of, RemovedStayGone, RemovedStayUnknown, IsSound, IsUntouched, FreesExactly};
 ghost use Rattle.event_loop.specs.LoopState.{LoopState};
@@ -52,7 +52,7 @@ pub enum WakeStep<J> {
 /// other id owns at the start, or adds with success, a descriptor that the id owns at the start or asks to add) is
 /// itself a trace, with the same replies to that id, the same deliveries and exchanges, and the same value at the end.
 pub fn non_interference<S: MutEventSubscriber, J: Job<S>>()
-    ensures { (before : ManagerState S) (trace : List (Entry S J J.Reply)) (after : ManagerState S) →
+    ensures { (before : ManagerState S) (trace : List (TraceEntry S J J.Reply)) (after : ManagerState S) →
         IsTrace S.begins S.serves J.may before trace after → NonInterference S.begins S.serves J.may before trace after }
 {}
 
@@ -60,15 +60,15 @@ pub fn non_interference<S: MutEventSubscriber, J: Job<S>>()
 /// the next, as in a new manager, that stays so, and every later call for a subscriber that left is refused: by the replies
 /// alone, each later call of an id that a call removed is answered `InvalidId`.
 pub fn ids_are_given_once<S: MutEventSubscriber, J: Job<S>>()
-    ensures given { (before : ManagerState S) (trace : List (Entry S J J.Reply)) (after : ManagerState S) →
+    ensures given { (before : ManagerState S) (trace : List (TraceEntry S J J.Reply)) (after : ManagerState S) →
         IsTrace S.begins S.serves J.may before trace after → AreGiven before.registry.next (steps_of trace) after.registry.next }
-    ensures removed { (before : ManagerState S) (trace : List (Entry S J J.Reply)) (after : ManagerState S) →
+    ensures removed { (before : ManagerState S) (trace : List (TraceEntry S J J.Reply)) (after : ManagerState S) →
         IsTrace S.begins S.serves J.may before trace after → AreBelow before.registry.next before.registry.values → RemovedStayGone (steps_of trace) }
-    ensures unknown { (before : ManagerState S) (trace : List (Entry S J J.Reply)) (after : ManagerState S) →
+    ensures unknown { (before : ManagerState S) (trace : List (TraceEntry S J J.Reply)) (after : ManagerState S) →
         IsTrace S.begins S.serves J.may before trace after → AreBelow before.registry.next before.registry.values →
         RemovedStayUnknown (map (λ entry. entry.call) trace) (map (λ entry. entry.reply) trace) }
     ensures new { (endpoint : ℕ) → AreBelow 1 (new_state {V = S} endpoint).registry.values }
-    ensures below { (before : ManagerState S) (trace : List (Entry S J J.Reply)) (after : ManagerState S) →
+    ensures below { (before : ManagerState S) (trace : List (TraceEntry S J J.Reply)) (after : ManagerState S) →
         IsTrace S.begins S.serves J.may before trace after → AreBelow before.registry.next before.registry.values → AreBelow after.registry.next after.registry.values }
 {}
 
@@ -76,7 +76,7 @@ pub fn ids_are_given_once<S: MutEventSubscriber, J: Job<S>>()
 /// endpoint's descriptor.
 pub fn owners_are_subscribers<S: MutEventSubscriber, J: Job<S>>()
     ensures new { (endpoint : ℕ) → IsSound (new_state {V = S} endpoint).registry }
-    ensures kept { (before : ManagerState S) (trace : List (Entry S J J.Reply)) (after : ManagerState S) →
+    ensures kept { (before : ManagerState S) (trace : List (TraceEntry S J J.Reply)) (after : ManagerState S) →
         IsTrace S.begins S.serves J.may before trace after → IsSound before.registry → IsSound after.registry }
 {}
 
@@ -84,10 +84,10 @@ pub fn owners_are_subscribers<S: MutEventSubscriber, J: Job<S>>()
 /// pending events of all others; an event that nobody gets leaves those of all; a leave frees exactly the descriptors of its
 /// id, whatever the poller answers.
 pub fn others_are_untouched<S: MutEventSubscriber>()
-    ensures steps { (before : Registry S) (step : Step S) (after : Registry S) → Steps S.begins before step after →
+    ensures steps { (before : Registry S) (step : LoopStep S) (after : Registry S) → Steps S.begins before step after →
         (j : ℕ) → is_id j (id_of step) ≡ false → IsUntouched j before after }
-    ensures deliveries { (before : Registry S) (removed : Bool) (event : Event) (outcome : Outcome S) (after : Registry S) →
-        IsOutcome S.serves before removed event outcome after → (j : ℕ) → is_id j (receiver_of outcome) ≡ false → IsUntouched j before after }
+    ensures deliveries { (before : Registry S) (removed : Bool) (event : Event) (delivery : Delivery S) (after : Registry S) →
+        IsDelivery S.serves before removed event delivery after → (j : ℕ) → is_id j (receiver_of delivery) ≡ false → IsUntouched j before after }
     ensures leaving { (before after : Registry S) (i : ℕ) (value : S) (calls : List PollerCall) →
         Steps S.begins before (Left i value calls) after → FreesExactly i before.registrations after.registrations }
 {}
@@ -106,9 +106,9 @@ pub fn one_dispatch_order()
 
 /// What is pending after a position: the later events whose descriptor no exchange so far removed.
 pub fn pending_after_a_position<S: MutEventSubscriber>()
-    ensures { (before : Registry S) (earlier : List (Position S)) (event : Event) (later : List Event) (outcome : Outcome S) (after : Registry S) →
-        IsOutcome S.serves (with_pending (still_pending earlier later) before) (is_removed event.fd earlier) event outcome after →
-        after.registrations.pending ≡ still_pending (earlier ++ record { event = event; outcome = outcome } ∷ []) later }
+    ensures { (before : Registry S) (earlier : List (Position S)) (event : Event) (later : List Event) (delivery : Delivery S) (after : Registry S) →
+        IsDelivery S.serves (with_pending (still_pending earlier later) before) (is_removed event.fd earlier) event delivery after →
+        after.registrations.pending ≡ still_pending (earlier ++ record { event = event; delivery = delivery } ∷ []) later }
 {}
 
 /// No exchange is a list of exchanges, and two lists of exchanges in a row are one: so a subscriber made of subscribers

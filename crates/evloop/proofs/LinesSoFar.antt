@@ -4,7 +4,7 @@ use Rattle.std.proofs.lemmas.List.{append-nil, map-append}
 use Rattle.std.specs.Result.{IsErr}
 use Rattle.event_manager.specs.declared.calls.Call.{Call}
 use Rattle.event_manager.specs.declared.calls.Reply.{Reply}
-use Rattle.event_manager.specs.Prelude.{LoopState, Controls, Waits, Step}
+use Rattle.event_manager.specs.Prelude.{LoopState, Controls, Waits, LoopStep}
 use Rattle.event_manager.specs.Error.{Error}
 use Rattle.event_manager.specs.Error.TheVariants.{InvalidId}
 use Rattle.std.specs.Option.{IfSome}
@@ -63,7 +63,7 @@ module _ {O : Type 0} where
   made_join at between then (line ∷ lines) more made others (first, rest, next, are, makes, is) more_is =
       (first, rest ++ others, next, ap (λ m. m ++ others) are ∙ append_assoc first rest others, makes, made_join next between then lines more rest others is more_is)
 
-  module _ {J R P : Type 0} (may : J → List (Step (Subscriber O)) → R → Type 0) (controls : Controls P) (waits : Waits P) where
+  module _ {J R P : Type 0} (may : J → List (LoopStep (Subscriber O)) → R → Type 0) (controls : Controls P) (waits : Waits P) where
     -- the lines so far were made, and those that are left weren't
     pub record IsRunSoFar (at : Progress) (lines : List script.Call) (before : LoopState (Subscriber O) P) (left : List script.Call) (then : Progress) (now : LoopState (Subscriber O) P) : Type 0 where
       pub first : List script.Call

@@ -6,8 +6,8 @@ use Rattle.event_manager.specs.declared.calls.Call.TheVariants.{Remove, Set, Ask
 use Rattle.event_manager.specs.declared.calls.Reply.{Reply}
 use Rattle.event_manager.specs.Error.TheVariants.{InvalidId}
 use Rattle.event_manager.specs.Driven.{IsDriven}
-use Rattle.event_manager.specs.Prelude.{Event, Exchanges, ManagerState, answer_of, LoopState, manager_state, Controls, Waits, Step, Joined, NotJoined, Left, Replaced, Requested, Refused, Begins, Serves, May}
-use Rattle.event_manager.specs.Trace.{Effect, Stepped, Iterated, Entry, Matches, IsTrace}
+use Rattle.event_manager.specs.Prelude.{Event, Exchanges, ManagerState, run_answer, LoopState, manager_state, Controls, Waits, LoopStep, Joined, NotJoined, Left, Replaced, Requested, Refused, Begins, Serves, May}
+use Rattle.event_manager.specs.Trace.{Effect, Stepped, Iterated, TraceEntry, Matches, IsTrace}
 use Rattle.evloop.specs.Replies.{IsReplyTo}
 
 is_of_call : {S : Type 0} {call other : Call S} (reply : Reply S) → call ≡ other → IsReplyTo other reply → IsReplyTo call reply
@@ -29,10 +29,10 @@ matching_reply (Stepped (Refused id)) (Remove other) reply h = (Err InvalidId, h
 matching_reply (Stepped (Refused id)) (Set other value) reply h = (Err InvalidId, h.1)
 matching_reply (Stepped (Refused id)) (Ask other requests) reply h = (Err InvalidId, h.1)
 matching_reply (Stepped (Refused id)) call reply h = absurd h
-matching_reply (Iterated iteration) call reply h = is_of_call reply h.0 (answer_of iteration.waited, h.1)
+matching_reply (Iterated iteration) call reply h = is_of_call reply h.0 (run_answer iteration.waited, h.1)
 
 module _ {S J R : Type 0} (begins : Begins S) (serves : Serves S) (may : May S J R) where
-  reply_in_trace : (trace : List (Entry S J R)) (call : Call S) (reply : Reply S) (before after : ManagerState S) → map (λ entry. entry.call) trace ≡ call ∷ [] → map (λ entry. entry.reply) trace ≡ reply ∷ [] → IsTrace begins serves may before trace after → IsReplyTo call reply
+  reply_in_trace : (trace : List (TraceEntry S J R)) (call : Call S) (reply : Reply S) (before after : ManagerState S) → map (λ entry. entry.call) trace ≡ call ∷ [] → map (λ entry. entry.reply) trace ≡ reply ∷ [] → IsTrace begins serves may before trace after → IsReplyTo call reply
   reply_in_trace [] call reply before after calls replies is = cc
   reply_in_trace (entry ∷ trace) call reply before after calls replies is =
       let same_call : entry.call ≡ call = cc in

@@ -8,7 +8,7 @@ use Rattle.event_manager.specs.declared.calls.Call.TheVariants as call
 use Rattle.event_manager.specs.declared.calls.Reply.{Reply}
 use Rattle.event_manager.specs.declared.calls.Reply.TheVariants as reply
 use Rattle.event_manager.specs.Driven.{IsDriven}
-use Rattle.event_manager.specs.Prelude.{Answer, LoopState, Controls, Waits, Step}
+use Rattle.event_manager.specs.Prelude.{Answer, LoopState, Controls, Waits, LoopStep}
 use Rattle.event_manager.specs.Error.{Error}
 use Rattle.event_manager.specs.Error.TheVariants.{InvalidId}
 use Rattle.evloop_script.specs.Coming.{coming}
@@ -80,7 +80,7 @@ module _ {O : Type 0} where
   AreMade at (line ∷ lines) made then =
       (first : Made O) × (others : Made O) × (between : Progress) × (made ≡ first ++ others) × Makes at line first between × AreMade between lines others then
 
-  module _ {J R P : Type 0} (may : J → List (Step (Subscriber O)) → R → Type 0) (controls : Controls P) (waits : Waits P) where
+  module _ {J R P : Type 0} (may : J → List (LoopStep (Subscriber O)) → R → Type 0) (controls : Controls P) (waits : Waits P) where
     -- these calls, as one list, were driven with these replies
     abbrev pub AreDriven : LoopState (Subscriber O) P → Made O → LoopState (Subscriber O) P → Type 0
     AreDriven before made after = IsDriven script_begins script_serves may controls waits before (map (λ m. m.0) made) (map (λ m. m.1) made) after

@@ -11,14 +11,14 @@ abbrev pub empty : Script
 empty = record { answers = []; refusals = [] }
 
 -- what a wait answers
-abbrev pub answer_of : Wait → Answer
-answer_of (Report events) = Ok events.items
-answer_of Interrupted = Err EINTR
+abbrev pub wait_answer : Wait → Answer
+wait_answer (Report events) = Ok events.items
+wait_answer Interrupted = Err EINTR
 
 -- the poller with these waits after its own
 abbrev pub with_waits : Script → List Wait → Script
 with_waits poller [] = poller
-with_waits poller (wait ∷ waits) = with_waits (with_answer poller (answer_of wait)) waits
+with_waits poller (wait ∷ waits) = with_waits (with_answer poller (wait_answer wait)) waits
 
 -- the poller with these refusals after its own
 abbrev pub with_refusals : Script → List Refusal → Script

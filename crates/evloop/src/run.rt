@@ -1,7 +1,7 @@
 //! A script, run over an event manager.
 
 ghost use Rattle.std.specs.Prelude.{◌≡◌, IfOk, OnOk, IsOkUnless};
-ghost use Rattle.evloop.specs.ScriptedPoller.{empty, answer_of, with_waits, with_refusals};
+ghost use Rattle.evloop.specs.ScriptedPoller.{empty, wait_answer, with_waits, with_refusals};
 ghost use Rattle.vmm_sys.specs.ScriptPoller.{with_answer};
 
 use crate::lines::make_lines;
@@ -135,7 +135,7 @@ fn poller_of(
 // Appends what one wait answers. `ENOMEM`: memory was refused.
 fn push_wait(poller: &mut ScriptPoller, wait: ScriptedWait) -> Result<(), Errno>
     ensures errors { IsOkUnless result Errno.ENOMEM }
-    ensures pushed { OnOk result (poller.new ≡ with_answer poller.old (answer_of wait)) }
+    ensures pushed { OnOk result (poller.new ≡ with_answer poller.old (wait_answer wait)) }
 {
     match wait {
         ScriptedWait::Report(events) => poller.push_report(events),

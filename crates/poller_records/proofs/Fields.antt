@@ -15,8 +15,8 @@ use Rattle.std.proofs.lemmas.Bool.{false_from_ne_true}
 use Rattle.vmm_sys.specs.declared.entries.ControlOperation.{ControlOperation}
 use Rattle.vmm_sys.specs.declared.entries.ControlOperation.TheVariants.{Add, Modify, Delete}
 use Rattle.vmm_sys.specs.declared.errno.Errno.{Errno}
-use Rattle.vmm_sys.specs.declared.record.RecordEntry.{RecordEntry}
-use Rattle.vmm_sys.specs.declared.record.RecordEntry.TheVariants.{Control, Wait, Reported}
+use Rattle.poller_records.specs.declared.record.RecordEntry.{RecordEntry}
+use Rattle.poller_records.specs.declared.record.RecordEntry.TheVariants.{Control, Wait, Reported}
 use Rattle.poller_records.specs.Held.{IsEntry, HasErrno}
 use Rattle.poller_records.specs.Lines.{operation_word, control_answer, wait_answer, fields_of, line_of}
 

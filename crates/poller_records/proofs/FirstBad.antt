@@ -4,7 +4,7 @@ use Rattle.std.specs.List.{All}
 use Rattle.std.proofs.lemmas.Bool.{false_from_ne_true}
 use Rattle.std.proofs.lemmas.Bool.Decides.{Decides-eqb}
 use Rattle.std.proofs.lemmas.List.Elements.{All-head, All-tail}
-use Rattle.vmm_sys.specs.declared.record.RecordEntry.{RecordEntry}
+use Rattle.poller_records.specs.declared.record.RecordEntry.{RecordEntry}
 use Rattle.poller_records.specs.BadLine.{IsFirstBad}
 use Rattle.poller_records.specs.Held.{IsEntry}
 use Rattle.poller_records.specs.Lines.{line_of, text_of}

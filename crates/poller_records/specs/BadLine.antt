@@ -1,6 +1,6 @@
 -- Which line of a text is bad.
 use Rattle.std.specs.Prelude.{ℕ, ◌≡◌, ◌≢◌, ◌+◌, List, [], ◌∷◌, ◌++◌, All, Option, Some, None, length}
-use Rattle.vmm_sys.specs.declared.record.RecordEntry.{RecordEntry}
+use Rattle.poller_records.specs.declared.record.RecordEntry.{RecordEntry}
 use Rattle.poller_records.specs.Held.{IsEntry}
 use Rattle.poller_records.specs.Lines.{line_of, text_of}
 use Rattle.poller_records.specs.declared.fault.RecordFault.{RecordFault}

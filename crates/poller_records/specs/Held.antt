@@ -5,8 +5,8 @@ use Rattle.vmm_sys.specs.EpollEvent.{set_of, word_of}
 use Rattle.vmm_sys.specs.EventSet.{bits_of}
 use Rattle.vmm_sys.specs.declared.entries.EpollEvent.{EpollEvent}
 use Rattle.vmm_sys.specs.declared.errno.Errno.{Errno}
-use Rattle.vmm_sys.specs.declared.record.RecordEntry.{RecordEntry}
-use Rattle.vmm_sys.specs.declared.record.RecordEntry.TheVariants.{Control, Wait, Reported}
+use Rattle.poller_records.specs.declared.record.RecordEntry.{RecordEntry}
+use Rattle.poller_records.specs.declared.record.RecordEntry.TheVariants.{Control, Wait, Reported}
 
 -- a set of 32 bits and a word of 64
 abbrev pub IsEvent : EpollEvent → Type 0

@@ -9,8 +9,8 @@ use Rattle.vmm_sys.specs.declared.entries.ControlOperation.{ControlOperation}
 use Rattle.vmm_sys.specs.declared.entries.ControlOperation.TheVariants.{Add, Modify, Delete}
 use Rattle.vmm_sys.specs.declared.entries.EpollEvent.{EpollEvent}
 use Rattle.vmm_sys.specs.declared.errno.Errno.{Errno}
-use Rattle.vmm_sys.specs.declared.record.RecordEntry.{RecordEntry}
-use Rattle.vmm_sys.specs.declared.record.RecordEntry.TheVariants.{Control, Wait, Reported}
+use Rattle.poller_records.specs.declared.record.RecordEntry.{RecordEntry}
+use Rattle.poller_records.specs.declared.record.RecordEntry.TheVariants.{Control, Wait, Reported}
 
 -- the first field of a call of ctl
 abbrev pub operation_word : ControlOperation → List ℕ

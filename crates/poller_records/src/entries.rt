@@ -4,13 +4,13 @@ ghost use Rattle.std.specs.Prelude.{◌≡◌, ◌∷◌, Ok, IfOk, codes};
 ghost use Rattle.poller_records.specs.Held.{IsEntry, IsEvent};
 ghost use Rattle.poller_records.specs.Lines.{contents, event_fields, fields_of, operation_word};
 ghost use Rattle.vmm_sys.specs.declared.entries.EpollEvent.{EpollEvent};
-ghost use Rattle.vmm_sys.specs.declared.record.RecordEntry.{RecordEntry};
+ghost use Rattle.poller_records.specs.declared.record.RecordEntry.{RecordEntry};
 
 use crate::answers::{control_answer, wait_answer};
 use crate::fault::LineFault;
 use crate::numbers::{integer, natural, natural_32};
+use crate::record::RecordEntry;
 use vmm_sys::epoll::{ControlOperation, EpollEvent, EventSet};
-use vmm_sys::record::RecordEntry;
 
 /// The event of a set and a word. `BadNumber`.
 fn event(fields: &[&str]) -> Result<EpollEvent, LineFault>

@@ -6,9 +6,9 @@ ghost use Rattle.poller_records.specs.Held.{IsEntry};
 ghost use Rattle.poller_records.specs.declared.fault.RecordFault.TheVariants.{OutOfMemory};
 
 use crate::fault::RecordFault;
+use crate::record::RecordEntry;
 use crate::text::{read_record, write_record};
 use std::alloc::Global;
-use vmm_sys::record::RecordEntry;
 
 /// The numbers of an entry are in the ranges of their types.
 pub fn entry_is_held(entry: RecordEntry)

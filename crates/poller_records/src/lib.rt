@@ -1,4 +1,5 @@
-//! Records of a poller's calls as text, a line an entry.
+//! Records of a poller's calls. [`recording_poller::RecordingPoller`] is any poller with a record of its calls beside it, and
+//! [`replay_poller::ReplayPoller`] answers from such a record. A record is also read and written as text, a line an entry.
 //!
 //! ```text
 //! add FD SET WORD ok           a call of ctl; also modify, delete
@@ -17,4 +18,7 @@ mod entries;
 pub mod fault;
 pub mod laws;
 mod numbers;
+pub mod record;
+pub mod recording_poller;
+pub mod replay_poller;
 pub mod text;

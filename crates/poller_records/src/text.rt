@@ -6,14 +6,14 @@ ghost use Rattle.poller_records.specs.BadLine.{bad_line, IsFirstBad};
 ghost use Rattle.poller_records.specs.Held.{IsEntry};
 ghost use Rattle.poller_records.specs.Lines.{contents, line_of, operation_word, text_of};
 ghost use Rattle.poller_records.specs.declared.fault.RecordFault.TheVariants.{OutOfMemory};
-ghost use Rattle.vmm_sys.specs.declared.record.RecordEntry.{RecordEntry};
+ghost use Rattle.poller_records.specs.declared.record.RecordEntry.{RecordEntry};
 
 use crate::entries::entry;
 use crate::fault::{LineFault, RecordFault};
+use crate::record::RecordEntry;
 use std::alloc::{AllocError, Global};
 use std::fmt;
 use vmm_sys::epoll::ControlOperation;
-use vmm_sys::record::RecordEntry;
 
 /// An entry that prints as its line, without the `\n`.
 #[derive(Clone, Copy)]

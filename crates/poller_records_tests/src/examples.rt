@@ -1,10 +1,10 @@
 //! Records beside their texts.
 
 use crate::expecting::{expect_ok, expect_same};
+use poller_records::record::RecordEntry;
 use poller_records::text::write_record;
 use vmm_sys::epoll::{ControlOperation, EpollEvent, EventSet};
 use vmm_sys::errno::Errno;
-use vmm_sys::record::RecordEntry;
 
 const TEXT: &str = "add 5 1 12 ok\n\
     modify 2147483647 4294967295 18446744073709551615 error 2\n\

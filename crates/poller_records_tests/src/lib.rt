@@ -1,4 +1,4 @@
-//! Tests of `poller_records`: worked examples, each kind of bad line, and random records.
+//! Tests of `poller_records`: worked examples, each kind of bad line, random records, and a table that is recorded and replayed.
 #![tactic(auto)]
 
 #[cfg(test)]
@@ -9,3 +9,5 @@ mod examples;
 mod expecting;
 #[cfg(test)]
 mod random_records;
+#[cfg(test)]
+mod records;

@@ -2,11 +2,11 @@
 
 use crate::expecting::{expect_ok, expect_same};
 use poller_records::laws::what_is_written_is_read;
+use poller_records::record::RecordEntry;
 use rand_core::Rng;
 use rand_pcg::Pcg32;
 use vmm_sys::epoll::{ControlOperation, EpollEvent, EventSet};
 use vmm_sys::errno::Errno;
-use vmm_sys::record::RecordEntry;
 
 /// How many entries a record has.
 const ENTRIES: u32 = 4_000;

@@ -1,7 +1,7 @@
 //! Requests, and leaving.
 
 ghost use Rattle.std.specs.Prelude.{◌≡◌};
-ghost use Rattle.event_manager.specs.Registry.{Step};
+ghost use Rattle.event_manager.specs.Registry.{LoopStep};
 ghost use Rattle.event_manager.specs.LoopState.{HasStepped, IsRequest};
 
 use crate::expecting::{expect_ok, expect_same};
@@ -49,7 +49,7 @@ fn wanted(fd: u8) -> Events {
 
 /// Makes one request under the id, through `event_ops`; its contract follows from those of the two calls.
 fn ask<O: SubscriberOps>(owner: &mut O, id: SubscriberId, request: Request) -> Result<Result<()>>
-    ensures { (step : Step O.Subscriber) × IsRequest id request result step
+    ensures { (step : LoopStep O.Subscriber) × IsRequest id request result step
         × HasStepped O.Subscriber.begins O.Poller.controls O.Poller.waits (O.seen owner.old) step (O.seen owner.new) }
 {
     match owner.event_ops(id) {

@@ -6,8 +6,8 @@ use Rattle.std.specs.Cmp.{nat_cmp_total, nat_cmp_is}
 use Rattle.std.proofs.lemmas.Bool.Decides.{eqb_tells}
 use Rattle.std.proofs.lemmas.List.Elements.{Contains-append_cases}
 use Rattle.vmm_sys.specs.declared.errno.Errno.{Errno}
-use Rattle.event_loop.specs.Prelude.{Event, Exchanges, Answer, answers_of, Begins, Serves, Registry, Joined, NotJoined, Left, Replaced, Requested, Refused, HasId, AreBelow, Position, Outcome, Nobody, To, with_pending, is_removed, still_pending, IsOutcome, AreDispatched, events_of, exchanges_of, ManagerState, JobRun, IsIteration, no_job}
-use Rattle.event_manager.specs.Trace.{Effect, Stepped, Iterated, Entry, Matches, HasEffect, IsTrace}
+use Rattle.event_loop.specs.Prelude.{Event, Exchanges, Answer, answers_of, Begins, Serves, Registry, Joined, NotJoined, Left, Replaced, Requested, Refused, HasId, AreBelow, Position, Delivery, Nobody, To, with_pending, is_removed, still_pending, IsDelivery, AreDispatched, events_of, exchanges_of, ManagerState, JobRun, IsIteration, no_job}
+use Rattle.event_manager.specs.Trace.{Effect, Stepped, Iterated, TraceEntry, Matches, HasEffect, IsTrace}
 use Rattle.recorded_runs.specs.Determinism.{HaveMemory, answers_of_positions, answers_of_jobs, answers_of_effect, answers_in}
 use Rattle.event_loop.specs.declared.error.Error.TheVariants.{OutOfMemory}
 use Rattle.event_manager.specs.declared.calls.Call.{Call}
@@ -68,9 +68,9 @@ module _ {V : Type 0} (begins : Begins V) (serves : Serves V) (ids : ℕ → Typ
   abbrev pub AreWithin : Registry V → Type 0
   AreWithin registry = AllHeld (λ i v. ids i) registry
 
-  outcome_within : (before : Registry V) (removed : Bool) (event : Event) (outcome : Outcome V) (mid : Registry V) → IsOutcome serves before removed event outcome mid → AreWithin before → AreWithin mid
-  outcome_within before removed event Nobody mid (nobody, is) within i v has = within i v (ap (λ g. get g.values i) (sym is) ∙ has)
-  outcome_within before removed event (To id exchanges calls held) mid (value, registrations, for, serves_so, fits, is) within i v has =
+  delivery_within : (before : Registry V) (removed : Bool) (event : Event) (delivery : Delivery V) (mid : Registry V) → IsDelivery serves before removed event delivery mid → AreWithin before → AreWithin mid
+  delivery_within before removed event Nobody mid (nobody, is) within i v has = within i v (ap (λ g. get g.values i) (sym is) ∙ has)
+  delivery_within before removed event (To id exchanges calls held) mid (value, registrations, for, serves_so, fits, is) within i v has =
       elim (from_insert i id before.values v held (ap (λ g. get g.values i) (sym is) ∙ has)) [
         | inl same ↦ subst ids (sym same) (within id value for.2)
         | inr other ↦ within i v other
@@ -78,8 +78,8 @@ module _ {V : Type 0} (begins : Begins V) (serves : Serves V) (ids : ℕ → Typ
 
   dispatch_within : (before : Registry V) (earlier positions : List (Position V)) (after : Registry V) → AreDispatched serves before earlier positions after → AreWithin before → AreWithin after
   dispatch_within before earlier [] after is within = λ i v has. within i v (ap (λ g. get g.values i) (sym is) ∙ has)
-  dispatch_within before earlier (position ∷ later) after (mid, outcome, rest) within =
-      dispatch_within mid (earlier ++ position ∷ []) later after rest (outcome_within (with_pending (still_pending earlier (events_of later)) before) (is_removed position.event.fd earlier) position.event position.outcome mid outcome within)
+  dispatch_within before earlier (position ∷ later) after (mid, delivery, rest) within =
+      dispatch_within mid (earlier ++ position ∷ []) later after rest (delivery_within (with_pending (still_pending earlier (events_of later)) before) (is_removed position.event.fd earlier) position.event position.delivery mid delivery within)
 
   wait_within : (before : ManagerState V) (waited : Result (List Event) Errno) (positions : List (Position V)) (jobs : List (JobRun V ⊥ (Unit {0}))) (after : ManagerState V) → IsIteration begins serves no_job before waited positions jobs after → AreWithin before.registry → AreWithin after.registry
   wait_within before (Err errno) positions jobs after (no_positions, no_jobs, is) within = subst (λ (s : ManagerState V). AreWithin s.registry) (sym is) within
@@ -97,10 +97,10 @@ module _ {V : Type 0} (begins : Begins V) (serves : Serves V) (ids : ℕ → Typ
   effect_within before (Iterated iteration) mid did calm within = wait_within before iteration.waited iteration.positions iteration.jobs mid did within
 
   -- the calls of this trace are calm
-  abbrev pub AreCalm : List (Entry V ⊥ (Unit {0})) → Type 0
+  abbrev pub AreCalm : List (TraceEntry V ⊥ (Unit {0})) → Type 0
   AreCalm trace = AllZip (IsCalm ids) (map (λ e. e.call) trace) (map (λ e. e.reply) trace)
 
-  pub trace_within : (before : ManagerState V) (trace : List (Entry V ⊥ (Unit {0}))) (after : ManagerState V) → IsTrace begins serves no_job before trace after → AreCalm trace → AreWithin before.registry → AreWithin after.registry
+  pub trace_within : (before : ManagerState V) (trace : List (TraceEntry V ⊥ (Unit {0}))) (after : ManagerState V) → IsTrace begins serves no_job before trace after → AreCalm trace → AreWithin before.registry → AreWithin after.registry
   trace_within before [] after is calm within = subst (λ (s : ManagerState V). AreWithin s.registry) (sym is) within
   trace_within before (entry ∷ trace) after (mid, matches, had, more) (calm, calms) within =
       trace_within mid trace after more calms (effect_within before entry.effect mid had (calm_effect ids entry.effect entry.call entry.reply matches calm) within)
@@ -112,10 +112,10 @@ module _ {V : Type 0} (begins : Begins V) (serves : Serves V) (ids : ℕ → Typ
     abbrev pub AllAgree : Registry V → Type 0
     AllAgree registry = AllHeld (λ i v. Agrees v) registry
 
-    outcome_agrees : (before : Registry V) (removed : Bool) (event : Event) (outcome : Outcome V) (mid : Registry V) → IsOutcome serves before removed event outcome mid → AllAgree mid
-        → AllAgree before × HaveMemory (answers_of (exchanges_of outcome))
-    outcome_agrees before removed event Nobody mid (nobody, is) all = (same_values (λ i v. Agrees v) before mid (ap (λ g. g.values) is) all, none_lacking)
-    outcome_agrees before removed event (To id exchanges calls held) mid (value, registrations, for, serves_so, fits, is) all =
+    delivery_agrees : (before : Registry V) (removed : Bool) (event : Event) (delivery : Delivery V) (mid : Registry V) → IsDelivery serves before removed event delivery mid → AllAgree mid
+        → AllAgree before × HaveMemory (answers_of (exchanges_of delivery))
+    delivery_agrees before removed event Nobody mid (nobody, is) all = (same_values (λ i v. Agrees v) before mid (ap (λ g. g.values) is) all, none_lacking)
+    delivery_agrees before removed event (To id exchanges calls held) mid (value, registrations, for, serves_so, fits, is) all =
         let here = served value event exchanges held serves_so (all id held (ap (λ g. get g.values id) is ∙ insert_same_value id before.values held)) in (
           λ i v has. elim (eqb_tells i id) [
             | inl same ↦ subst Agrees (sym (same_held before i id v value same.1 has for.2)) here.0
@@ -126,10 +126,10 @@ module _ {V : Type 0} (begins : Begins V) (serves : Serves V) (ids : ℕ → Typ
 
     dispatch_agrees : (before : Registry V) (earlier positions : List (Position V)) (after : Registry V) → AreDispatched serves before earlier positions after → AllAgree after → AllAgree before × HaveMemory (answers_of_positions positions)
     dispatch_agrees before earlier [] after is all = (same_values (λ i v. Agrees v) before after (ap (λ g. g.values) is) all, none_lacking)
-    dispatch_agrees before earlier (position ∷ later) after (mid, outcome, rest) all =
+    dispatch_agrees before earlier (position ∷ later) after (mid, delivery, rest) all =
         let behind = dispatch_agrees mid (earlier ++ position ∷ []) later after rest all in
-        let here = outcome_agrees (with_pending (still_pending earlier (events_of later)) before) (is_removed position.event.fd earlier) position.event position.outcome mid outcome behind.0 in
-        (here.0, both_have (answers_of (exchanges_of position.outcome)) (answers_of_positions later) here.1 behind.1)
+        let here = delivery_agrees (with_pending (still_pending earlier (events_of later)) before) (is_removed position.event.fd earlier) position.event position.delivery mid delivery behind.0 in
+        (here.0, both_have (answers_of (exchanges_of position.delivery)) (answers_of_positions later) here.1 behind.1)
 
     wait_agrees : (before : ManagerState V) (waited : Result (List Event) Errno) (positions : List (Position V)) (jobs : List (JobRun V ⊥ (Unit {0}))) (after : ManagerState V) → IsIteration begins serves no_job before waited positions jobs after → AllAgree after.registry
         → AllAgree before.registry × HaveMemory (answers_of_positions positions ++ answers_of_jobs jobs)
@@ -150,7 +150,7 @@ module _ {V : Type 0} (begins : Begins V) (serves : Serves V) (ids : ℕ → Typ
     effect_agrees before (Stepped step) mid did calm below all = absurd calm
     effect_agrees before (Iterated iteration) mid did calm below all = wait_agrees before iteration.waited iteration.positions iteration.jobs mid did all
 
-    pub trace_agrees : (before : ManagerState V) (trace : List (Entry V ⊥ (Unit {0}))) (after : ManagerState V) → IsTrace begins serves no_job before trace after → AreCalm trace → AreBelow before.registry.next before.registry.values → AllAgree after.registry
+    pub trace_agrees : (before : ManagerState V) (trace : List (TraceEntry V ⊥ (Unit {0}))) (after : ManagerState V) → IsTrace begins serves no_job before trace after → AreCalm trace → AreBelow before.registry.next before.registry.values → AllAgree after.registry
         → AllAgree before.registry × HaveMemory (answers_in trace)
     trace_agrees before [] after is calm below all = (subst (λ (s : ManagerState V). AllAgree s.registry) is all, none_lacking)
     trace_agrees before (entry ∷ trace) after (mid, matches, had, more) (calm, calms) below all =

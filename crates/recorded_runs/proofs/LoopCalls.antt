@@ -2,9 +2,9 @@
 use Rattle.std.proofs.Common.{◌≡◌, ℕ, ℤ, List, [], ◌∷◌, ◌++◌, refl, sym, ap, ◌∙◌, map, Result}
 use Rattle.std.specs.List.{AllZip}
 use Rattle.std.proofs.lemmas.List.{append-nil}
-use Rattle.event_loop.specs.Prelude.{Controls, Waits, Begins, Serves, Step, JobRun, LoopState, HasStepped, IsJoin, IsLoopIteration, no_job}
+use Rattle.event_loop.specs.Prelude.{Controls, Waits, Begins, Serves, LoopStep, JobRun, LoopState, HasStepped, IsJoin, IsLoopIteration, no_job}
 use Rattle.event_loop.specs.declared.error.Error.{Error}
-use Rattle.event_manager.specs.Trace.{Effect, Stepped, Iterated, Entry, Matches}
+use Rattle.event_manager.specs.Trace.{Effect, Stepped, Iterated, TraceEntry, Matches}
 use Rattle.event_manager.specs.SingleCall.{HasCalled}
 use Rattle.event_manager.specs.Driven.{IsTraceOf}
 use Rattle.recorded_runs.specs.Determinism.{IsSameCall, HaveMemory, answers_in, jobs_of_effect, jobs_in}
@@ -18,7 +18,7 @@ use Rattle.event_manager.proofs.TraceSoFar.{IsTracedSoFar, one_more_traced, join
 module _ {S P : Type 0} (begins : Begins S) (serves : Serves S) (controls : Controls P) (waits : Waits P) where
   -- these calls were made and replied so
   pub record AreMade (before : LoopState S P) (calls : List (Call S)) (replies : List (Reply S)) (after : LoopState S P) : Type 0 where
-    pub trace : List (Entry S ⊥ (Unit {0}))
+    pub trace : List (TraceEntry S ⊥ (Unit {0}))
     pub is_trace_of : IsTraceOf begins serves no_job controls waits before calls replies after trace
 
   pub none_made : (before : LoopState S P) → AreMade before [] [] before
@@ -37,7 +37,7 @@ module _ {S P : Type 0} (begins : Begins S) (serves : Serves S) (controls : Cont
       }
 
   -- one call more: a join, a leave, a run
-  pub join_made : (before now next : LoopState S P) (calls : List (Call S)) (replies : List (Reply S)) (value : S) (result : Result ℕ Error) → AreMade before calls replies now → (step : Step S) × IsJoin value result step × HasStepped begins controls waits now step next
+  pub join_made : (before now next : LoopState S P) (calls : List (Call S)) (replies : List (Reply S)) (value : S) (result : Result ℕ Error) → AreMade before calls replies now → (step : LoopStep S) × IsJoin value result step × HasStepped begins controls waits now step next
       → AreMade before (calls ++ call.Add value ∷ []) (replies ++ reply.Added result ∷ []) next
   join_made before now next calls replies value result made did =
       one_more_made before now next calls replies (call.Add value) (reply.Added result) (Stepped did.0) made (join_matches ⊥ (Unit {0}) value result did.0 did.1) (step_called begins serves no_job controls waits did.2)
@@ -68,7 +68,7 @@ module _ {S : Type 0} where
   no_jobs (Stepped step) = refl
   no_jobs (Iterated iteration) = no_run iteration.jobs
 
-  same_jobs : (trace again : List (Entry S ⊥ (Unit {0}))) → map (λ e. e.call) trace ≡ map (λ e. e.call) again → jobs_in trace ≡ jobs_in again
+  same_jobs : (trace again : List (TraceEntry S ⊥ (Unit {0}))) → map (λ e. e.call) trace ≡ map (λ e. e.call) again → jobs_in trace ≡ jobs_in again
   same_jobs [] [] same = refl
   same_jobs [] (entry ∷ again) same = let s : ◌≡◌ {A = List (Call S)} [] (entry.call ∷ map (λ e. e.call) again) = same in cc
   same_jobs (entry ∷ trace) [] same = let s : ◌≡◌ {A = List (Call S)} (entry.call ∷ map (λ e. e.call) trace) [] = same in cc
@@ -80,7 +80,7 @@ module _ {S : Type 0} where
       ap (λ js. js ∷ jobs_in trace) here ∙ ap (λ jss. jobs_of_effect other.effect ∷ jss) others
 
   -- the same calls are made again, where memory isn't lacking
-  pub calls_made_again : (trace again : List (Entry S ⊥ (Unit {0}))) (calls : List (Call S)) → map (λ e. e.call) trace ≡ calls → map (λ e. e.call) again ≡ calls → HaveMemory (answers_in trace) → HaveMemory (answers_in again) → IsMadeAgain trace again
+  pub calls_made_again : (trace again : List (TraceEntry S ⊥ (Unit {0}))) (calls : List (Call S)) → map (λ e. e.call) trace ≡ calls → map (λ e. e.call) again ≡ calls → HaveMemory (answers_in trace) → HaveMemory (answers_in again) → IsMadeAgain trace again
   calls_made_again trace again calls are are_again memory memory_again = record {
     same_calls = rw (are, are_again) (are_same_calls calls);
     same_jobs = same_jobs trace again (are ∙ sym are_again);

@@ -4,14 +4,14 @@ use Rattle.std.specs.Prelude.{Ok, Err, ◌&&◌, if◌then◌else◌}
 use Rattle.std.proofs.lemmas.List.{append-nil}
 use base.Stored.{Gv}
 use Rattle.vmm_sys.specs.declared.entries.EpollEvent.{EpollEvent}
-use Rattle.vmm_sys.specs.declared.record.RecordEntry.{RecordEntry}
-use Rattle.vmm_sys.specs.declared.record.RecordEntry.TheVariants.{Reported}
+use Rattle.poller_records.specs.declared.record.RecordEntry.{RecordEntry}
+use Rattle.poller_records.specs.declared.record.RecordEntry.TheVariants.{Reported}
 use Rattle.vmm_sys.specs.Poller.{CtlRelation, WaitRelation}
-use Rattle.vmm_sys.specs.Record.{entries_of_ctl, entries_of_wait}
-use Rattle.vmm_sys.specs.Recording as recording
-use Rattle.vmm_sys.specs.Recording.{Recording, recorded, with_poller, recording_code}
-use Rattle.vmm_sys.specs.Replay as replay
-use Rattle.vmm_sys.specs.Replay.{Replay, Passes, divergence, replay_code}
+use Rattle.poller_records.specs.Record.{entries_of_ctl, entries_of_wait}
+use Rattle.poller_records.specs.Recording as recording
+use Rattle.poller_records.specs.Recording.{Recording, recorded, with_poller, recording_code}
+use Rattle.poller_records.specs.Replay as replay
+use Rattle.poller_records.specs.Replay.{Replay, Passes, divergence, replay_code}
 use Rattle.dispatch_tables.specs.Event.{event_of_entry}
 use Rattle.event_loop.specs.PollerCall.{PollerCall, Control, Wait, Controls, Waits, Leads}
 use Rattle.event_loop.specs.PollerRelations.{packed, WaitsBy}

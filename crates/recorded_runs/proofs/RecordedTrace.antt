@@ -3,10 +3,10 @@ use Rattle.std.proofs.Common.{◌≡◌, false, sym, ap, subst, ◌∙◌, List,
 use Rattle.std.proofs.lemmas.List.{append_cancel_left, append-nil}
 use base.Stored.{Gv}
 use Rattle.vmm_sys.specs.Poller.{CtlRelation, WaitRelation}
-use Rattle.vmm_sys.specs.Recording.{Recording}
-use Rattle.vmm_sys.specs.Replay.{Replay}
+use Rattle.poller_records.specs.Recording.{Recording}
+use Rattle.poller_records.specs.Replay.{Replay}
 use Rattle.event_loop.specs.Prelude.{Begins, Serves, May, LoopState, manager_state, Leads}
-use Rattle.event_manager.specs.Trace.{Entry, IsTrace, calls_of_trace}
+use Rattle.event_manager.specs.Trace.{TraceEntry, IsTrace, calls_of_trace}
 use Rattle.recorded_runs.specs.Determinism.{AreFunctions, IsTheRun}
 use Rattle.recorded_runs.specs.RecordedRun.{BeginsAgain, IsMadeAgain}
 use Rattle.recorded_runs.proofs.SameExchanges.{AreSameCalls, eventless}
@@ -15,7 +15,7 @@ use Rattle.recorded_runs.proofs.RecordedCalls.{recording_controls, recording_wai
 
 module _ {V J R P : Type 0} (begins : Begins V) (serves : Serves V) (may : May V J R) where
   module _ (functions : AreFunctions begins serves may) (meaning : P → Gv) (may_ctl : CtlRelation) (may_wait : WaitRelation) where
-    pub made_again : (before after : LoopState V (Recording P)) (trace : List (Entry V J R)) (start end : LoopState V Replay) (again : List (Entry V J R))
+    pub made_again : (before after : LoopState V (Recording P)) (trace : List (TraceEntry V J R)) (start end : LoopState V Replay) (again : List (TraceEntry V J R))
         → IsTrace begins serves may (manager_state before) trace (manager_state after)
         → Leads (recording_controls meaning may_ctl may_wait) (recording_waits meaning may_ctl may_wait)
         before.poller (calls_of_trace before.capacity trace) after.poller

@@ -6,7 +6,7 @@ use Rattle.std.specs.Cmp.{nat_eq_equiv}
 use Rattle.std.specs.FinMap.{insert}
 use Rattle.std.proofs.lemmas.Bool.Decides.{Decides-eqb}
 use Rattle.std.proofs.lemmas.Map.Made.{length-le_from_is_member, is_member-Decides, IsDistinct-from_AllPairs}
-use Rattle.event_loop.specs.Prelude.{PollerCall, Control, Registrations, Exchanges, ExchangesFit, answers_of, Begins, Registry, Step, Joined, NotJoined, Left, Replaced, Requested, Refused, Steps, AreDeletes, AreOwnedBy, ids_end, calls_of, AllSteps}
+use Rattle.event_loop.specs.Prelude.{PollerCall, Control, Registrations, Exchanges, ExchangesFit, answers_of, Begins, Registry, LoopStep, Joined, NotJoined, Left, Replaced, Requested, Refused, Steps, AreDeletes, AreOwnedBy, ids_end, calls_of, AllSteps}
 use Rattle.event_loop.specs.declared.error.Error.{Error}
 use Rattle.event_loop.specs.declared.error.Error.TheVariants.{OutOfMemory, IdsUsedUp}
 use Rattle.vmm_sys.specs.declared.errno.Errno.{Errno}
@@ -89,10 +89,10 @@ module _ {V : Type 0} where
   same_asked c d h = ap asked_by h
 
   module _ (J R : Type 0) where
-    abbrev pub AreOf : Step V → Call V → Reply V → Type 0
+    abbrev pub AreOf : LoopStep V → Call V → Reply V → Type 0
     AreOf step = Matches {J = J} {R = R} (Stepped step)
 
-    pub asked_for : (step : Step V) (c : Call V) (r : Reply V) → AreOf step c r → (asked : Asked V) × (asked_by c ≡ Some asked) × Answers asked step
+    pub asked_for : (step : LoopStep V) (c : Call V) (r : Reply V) → AreOf step c r → (asked : Asked V) × (asked_by c ≡ Some asked) × Answers asked step
     asked_for (Joined value id exchanges calls held) c r m = (ToJoin value, ap asked_by m.0, refl)
     asked_for (NotJoined value error) c r m = (ToJoin value, ap asked_by m.0, refl)
     asked_for (Left id value calls) c r m = (ToLeave id, ap asked_by m.0, refl)
@@ -103,7 +103,7 @@ module _ {V : Type 0} where
     asked_for (Refused id) (call.Ask i requests) r m = (ToRequest i, refl, inr (inr (ap ToRequest m.0)))
     asked_for (Refused id) c r m = absurd m
 
-    with_same : (step other : Step V) (c d : Call V) (r q : Reply V) → IsSameCall c d → AreOf step c r → AreOf other d q → GoAlike step other
+    with_same : (step other : LoopStep V) (c d : Call V) (r q : Reply V) → IsSameCall c d → AreOf step c r → AreOf other d q → GoAlike step other
     with_same (Replaced id old new) (Replaced other older newer) c d r q h m n =
         let e : ◌≡◌ {A = Call V} (call.Set id new) (call.Set other newer) = rw (m.0, n.0) at h in λ same. cc
     with_same (Requested id exchanges calls) (Requested other others more) c d r q h m n =
@@ -111,7 +111,7 @@ module _ {V : Type 0} where
     with_same step other c d r q h m n = tt
 
     -- two steps that answer the same call
-    pub asked_alike : (step other : Step V) (c d : Call V) (r q : Reply V) → IsSameCall c d → AreOf step c r → AreOf other d q → AreAlike step other
+    pub asked_alike : (step other : LoopStep V) (c d : Call V) (r q : Reply V) → IsSameCall c d → AreOf step c r → AreOf other d q → AreAlike step other
     asked_alike step other c d r q h m n =
         let a = asked_for step c r m in
         let b = asked_for other d q n in
@@ -154,7 +154,7 @@ module _ {V : Type 0} where
           )
 
       -- a step is decided by what it was asked for, and by its answers
-      pub step_alike : (before : Registry V) (step other : Step V) (rest more : List PollerCall) (after onto : Registry V)
+      pub step_alike : (before : Registry V) (step other : LoopStep V) (rest more : List PollerCall) (after onto : Registry V)
           → AreAlike step other → HaveMemory (answers_of_step step) → HaveMemory (answers_of_step other) → AreSameCalls (calls_of step ++ rest) (calls_of other ++ more)
           → Steps begins before step after → Steps begins before other onto → (step ≡ other) × (after ≡ onto)
       step_alike before (Joined value id exchanges calls held) (Joined newer i others made kept) rest more after onto a m n same h k =
@@ -198,7 +198,7 @@ module _ {V : Type 0} where
       step_alike before step (Refused i) rest more after onto a m n same h k = let ids = id_refused a.0 i a.2 in let t = ap id_asked a.1 in cc
       step_alike before step other rest more after onto a m n same h k = let t = sym a.1 ∙ a.2 in cc
 
-      pub steps_alike : (before : Registry V) (steps others : List (Step V)) (rest more : List PollerCall) (after onto : Registry V)
+      pub steps_alike : (before : Registry V) (steps others : List (LoopStep V)) (rest more : List PollerCall) (after onto : Registry V)
           → StepsAlike steps others → HaveMemory (flat_map answers_of_step steps) → HaveMemory (flat_map answers_of_step others)
           → AreSameCalls (flat_map calls_of steps ++ rest) (flat_map calls_of others ++ more)
           → AllSteps begins before steps after → AllSteps begins before others onto → (steps ≡ others) × (after ≡ onto)

@@ -2,10 +2,10 @@
 use Rattle.std.proofs.Common.{Bool, ◌≡◌, ℕ, ◌+◌, ℤ, refl, sym, ap, subst, ◌∙◌, Some, None, Option, List, [], ◌∷◌, ◌++◌, map, Ok, Err, Result}
 use Rattle.std.specs.List.{AllZip, flat_map}
 use Rattle.std.specs.FinMap.{insert}
-use Rattle.event_loop.specs.Prelude.{Event, PollerCall, Wait, Exchanges, answers_of, Begins, Serves, Registry, Joined, NotJoined, Left, Replaced, Requested, Refused, calls_of, May, Outcome, Nobody, To, Position, with_pending, IsOutcome, AreDispatched, events_of, exchanges_of, is_removed, still_pending, ManagerState, JobRun, AreRun, IsIteration, calls_of_outcome, calls_of_positions, calls_of_jobs, class_in}
+use Rattle.event_loop.specs.Prelude.{Event, PollerCall, Wait, Exchanges, answers_of, Begins, Serves, Registry, Joined, NotJoined, Left, Replaced, Requested, Refused, calls_of, May, Delivery, Nobody, To, Position, with_pending, IsDelivery, AreDispatched, events_of, exchanges_of, is_removed, still_pending, ManagerState, JobRun, AreRun, IsIteration, calls_of_delivery, calls_of_positions, calls_of_jobs, class_in}
 use Rattle.dispatch_tables.proofs.DispatchOrders.{head_is, tail_is, one_order}
 use Rattle.vmm_sys.specs.declared.errno.Errno.{Errno}
-use Rattle.event_manager.specs.Trace.{Effect, Stepped, Iterated, Entry, Matches, HasEffect, IsTrace, calls_of_effect, calls_of_trace}
+use Rattle.event_manager.specs.Trace.{Effect, Stepped, Iterated, TraceEntry, Matches, HasEffect, IsTrace, calls_of_effect, calls_of_trace}
 use Rattle.recorded_runs.specs.Determinism.{Asked, IsFunction, AreFunctions, IsSameCall, IsSameReply, IsReplay, IsTheRun}
 use Rattle.recorded_runs.specs.Determinism.{HaveMemory, jobs_of_effect, jobs_in}
 use Rattle.recorded_runs.specs.Determinism.{answers_of_step, answers_of_positions, answers_of_jobs, answers_of_effect, answers_in}
@@ -19,13 +19,13 @@ module _ {V : Type 0} (serves : Serves V) where
   abbrev DecidesAnswers : Type 0
   DecidesAnswers = (event : Event) → IsFunction (λ v exchanges w. serves v event exchanges w)
 
-  delivery_alike : DecidesAnswers → (before : Registry V) (removed : Bool) (event : Event) (id : ℕ)
+  received_alike : DecidesAnswers → (before : Registry V) (removed : Bool) (event : Event) (id : ℕ)
       (exchanges others : Exchanges) (calls made rest more : List PollerCall) (held kept : V) (after onto : Registry V)
       → HaveMemory (answers_of exchanges) → HaveMemory (answers_of others) → AreSameCalls (calls ++ rest) (made ++ more)
-      → IsOutcome serves before removed event (To id exchanges calls held) after
-      → IsOutcome serves before removed event (To id others made kept) onto
+      → IsDelivery serves before removed event (To id exchanges calls held) after
+      → IsDelivery serves before removed event (To id others made kept) onto
       → (To id exchanges calls held ≡ To id others made kept) × (after ≡ onto)
-  delivery_alike function before removed event id exchanges others calls made rest more held kept after onto m n same
+  received_alike function before removed event id exchanges others calls made rest more held kept after onto m n same
       (value, ours, is_for, served, fits, e) (older, theirs, was_for, serving, fit, f) =
       let one : older ≡ value = let v = is_for.2 in let w = was_for.2 in cc in
       let alike = function event value exchanges others held kept served (subst (λ v. serves v event others kept) one serving) in
@@ -35,19 +35,19 @@ module _ {V : Type 0} (serves : Serves V) where
         e ∙ (λ j. record before { values = insert before.values id (holds j); registrations = all.2 j }) ∙ sym f,
       )
 
-  outcome_alike : DecidesAnswers → (before : Registry V) (removed : Bool) (event : Event)
-      (outcome other : Outcome V) (rest more : List PollerCall) (after onto : Registry V)
-      → HaveMemory (answers_of (exchanges_of outcome)) → HaveMemory (answers_of (exchanges_of other))
-      → AreSameCalls (calls_of_outcome outcome ++ rest) (calls_of_outcome other ++ more)
-      → IsOutcome serves before removed event outcome after → IsOutcome serves before removed event other onto
-      → (outcome ≡ other) × (after ≡ onto)
-  outcome_alike function before removed event Nobody Nobody rest more after onto m n same h k = (refl, h.1 ∙ sym k.1)
-  outcome_alike function before removed event Nobody (To i others made kept) rest more after onto m n same h k = absurd (h.0 i k.0 k.2)
-  outcome_alike function before removed event (To id exchanges calls held) Nobody rest more after onto m n same h k = absurd (k.0 id h.0 h.2)
-  outcome_alike function before removed event (To id exchanges calls held) (To i others made kept) rest more after onto m n same h k =
+  delivery_alike : DecidesAnswers → (before : Registry V) (removed : Bool) (event : Event)
+      (delivery other : Delivery V) (rest more : List PollerCall) (after onto : Registry V)
+      → HaveMemory (answers_of (exchanges_of delivery)) → HaveMemory (answers_of (exchanges_of other))
+      → AreSameCalls (calls_of_delivery delivery ++ rest) (calls_of_delivery other ++ more)
+      → IsDelivery serves before removed event delivery after → IsDelivery serves before removed event other onto
+      → (delivery ≡ other) × (after ≡ onto)
+  delivery_alike function before removed event Nobody Nobody rest more after onto m n same h k = (refl, h.1 ∙ sym k.1)
+  delivery_alike function before removed event Nobody (To i others made kept) rest more after onto m n same h k = absurd (h.0 i k.0 k.2)
+  delivery_alike function before removed event (To id exchanges calls held) Nobody rest more after onto m n same h k = absurd (k.0 id h.0 h.2)
+  delivery_alike function before removed event (To id exchanges calls held) (To i others made kept) rest more after onto m n same h k =
       let ids : i ≡ id = let v = (h.2).0 in let w = (k.2).0 in cc in
-      let here = subst (λ x. IsOutcome serves before removed event (To x others made kept) onto) ids k in
-      let all = delivery_alike function before removed event id exchanges others calls made rest more held kept after onto m n same h here in
+      let here = subst (λ x. IsDelivery serves before removed event (To x others made kept) onto) ids k in
+      let all = received_alike function before removed event id exchanges others calls made rest more held kept after onto m n same h here in
       (all.0 ∙ sym (ap (λ x. To x others made kept) ids), all.1)
 
   positions_alike : DecidesAnswers → (before : Registry V) (earlier positions others : List (Position V)) (rest more : List PollerCall)
@@ -59,24 +59,24 @@ module _ {V : Type 0} (serves : Serves V) where
   positions_alike function before earlier [] (q ∷ others) rest more after onto events m n same h k = cc
   positions_alike function before earlier (p ∷ positions) [] rest more after onto events m n same h k = cc
   positions_alike function before earlier (p ∷ positions) (q ∷ others) rest more after onto events m n same (mid, h, ours) (between, k, theirs) =
-      let first = answers_of (exchanges_of p.outcome) in
-      let front = answers_of (exchanges_of q.outcome) in
-      let calls = calls_of_outcome p.outcome in
-      let made = calls_of_outcome q.outcome in
+      let first = answers_of (exchanges_of p.delivery) in
+      let front = answers_of (exchanges_of q.delivery) in
+      let calls = calls_of_delivery p.delivery in
+      let made = calls_of_delivery q.delivery in
       let event = head_is p.event q.event (events_of positions) (events_of others) events in
       let later = tail_is p.event q.event (events_of positions) (events_of others) events in
       let parts = in_parts calls (calls_of_positions positions) made (calls_of_positions others) _ _ rest more refl refl same in
       let from = with_pending (still_pending earlier (events_of positions)) before in
       let here =
-      subst (λ (r : Event × List Event). IsOutcome serves (with_pending (still_pending earlier r.1) before) (is_removed r.0.fd earlier) r.0 q.outcome between)
+      subst (λ (r : Event × List Event). IsDelivery serves (with_pending (still_pending earlier r.1) before) (is_removed r.0.fd earlier) r.0 q.delivery between)
       (sym (λ j. (event j, later j))) k in
-      let one = outcome_alike function from (is_removed p.event.fd earlier) p.event p.outcome q.outcome
+      let one = delivery_alike function from (is_removed p.event.fd earlier) p.event p.delivery q.delivery
       (calls_of_positions positions ++ rest) (calls_of_positions others ++ more) mid between (memory_first first _ m) (memory_first front _ n) parts h here in
-      let position : p ≡ q = λ j. record { event = event j; outcome = one.0 j } in
+      let position : p ≡ q = λ j. record { event = event j; delivery = one.0 j } in
       let theirs_here =
       subst (λ (r : Registry V × Position V). AreDispatched serves r.0 (earlier ++ r.1 ∷ []) others onto) (sym (λ j. (one.1 j, position j))) theirs in
       let all = positions_alike function mid (earlier ++ p ∷ []) positions others rest more after onto later (memory_then first _ m) (memory_then front _ n)
-      (behind_same calls made _ _ (ap calls_of_outcome one.0) parts) ours theirs_here in
+      (behind_same calls made _ _ (ap calls_of_delivery one.0) parts) ours theirs_here in
       ((λ j. position j ∷ all.0 j), all.1)
 
 module _ {V J R : Type 0} (begins : Begins V) (serves : Serves V) (may : May V J R) where
@@ -170,7 +170,7 @@ module _ {V J R : Type 0} (begins : Begins V) (serves : Serves V) (may : May V J
     reply_alike (Stepped (Refused id)) c d r q h m n = cc
     reply_alike (Iterated iteration) c d r q h m n = rw (m.1, n.1) refl
 
-    pub trace_alike : (capacity : ℕ) (before : ManagerState V) (trace replay : List (Entry V J R)) (rest more : List PollerCall) (after replayed : ManagerState V)
+    pub trace_alike : (capacity : ℕ) (before : ManagerState V) (trace replay : List (TraceEntry V J R)) (rest more : List PollerCall) (after replayed : ManagerState V)
         → AllZip IsSameCall (map (λ entry. entry.call) trace) (map (λ entry. entry.call) replay) → jobs_in trace ≡ jobs_in replay
         → HaveMemory (answers_in trace) → HaveMemory (answers_in replay)
         → AreSameCalls (calls_of_trace capacity trace ++ rest) (calls_of_trace capacity replay ++ more)
@@ -197,7 +197,7 @@ module _ {V J R : Type 0} (begins : Begins V) (serves : Serves V) (may : May V J
           same_state = all.same_state;
         }
 
-    pub replay_is_the_run : (capacity : ℕ) (before : ManagerState V) (trace replay : List (Entry V J R)) (after replayed : ManagerState V)
+    pub replay_is_the_run : (capacity : ℕ) (before : ManagerState V) (trace replay : List (TraceEntry V J R)) (after replayed : ManagerState V)
         → IsTrace begins serves may before trace after → IsTrace begins serves may before replay replayed
         → IsReplay capacity trace replay → IsTheRun trace replay after replayed
     replay_is_the_run capacity before trace replay after replayed h k is =

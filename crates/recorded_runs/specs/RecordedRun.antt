@@ -2,9 +2,9 @@
 use Rattle.std.specs.Prelude.{◌≡◌, true, List, ◌++◌, map}
 use Rattle.std.specs.List.{AllZip}
 use Rattle.event_loop.specs.LoopState.{LoopState, manager_state}
-use Rattle.vmm_sys.specs.Recording.{Recording}
-use Rattle.vmm_sys.specs.Replay.{Replay}
-use Rattle.event_manager.specs.Trace.{Entry}
+use Rattle.poller_records.specs.Recording.{Recording}
+use Rattle.poller_records.specs.Replay.{Replay}
+use Rattle.event_manager.specs.Trace.{TraceEntry}
 use Rattle.recorded_runs.specs.Determinism.{IsSameCall, HaveMemory, answers_in, jobs_in}
 
 -- No call was left out of the record; and the manager begins again as it began, its replay at what was recorded since then.
@@ -15,7 +15,7 @@ pub record BeginsAgain {S P : Type 0} (before after : LoopState S (Recording P))
   pub same_capacity : again.capacity ≡ before.capacity
 
 -- The same calls of the manager again, and the same jobs in each; neither time memory is lacking.
-pub record IsMadeAgain {V J R : Type 0} (trace again : List (Entry V J R)) : Type 0 where
+pub record IsMadeAgain {V J R : Type 0} (trace again : List (TraceEntry V J R)) : Type 0 where
   pub same_calls : AllZip IsSameCall (map (λ entry. entry.call) trace) (map (λ entry. entry.call) again)
   pub same_jobs : jobs_in trace ≡ jobs_in again
   pub memory : HaveMemory (answers_in trace)

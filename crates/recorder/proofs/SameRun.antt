@@ -1,13 +1,13 @@
 -- A run over a new recording, and one over a replay of its record: they tell the same.
 use Rattle.std.proofs.Common.{◌≡◌, ℕ, Bool, true, false, List, [], ◌∷◌, Option, Some, None, Ok, refl, sym, ap, subst, ◌∙◌, map, if◌then◌else◌}
 use Rattle.std.specs.List.{All, AllZip}
-use Rattle.vmm_sys.specs.Recording.{Recording}
-use Rattle.vmm_sys.specs.Replay.{Replay, start_of, divergence_index}
-use Rattle.vmm_sys.specs.declared.record.RecordEntry.{RecordEntry}
+use Rattle.poller_records.specs.Recording.{Recording}
+use Rattle.poller_records.specs.Replay.{Replay, start_of, divergence_index}
+use Rattle.poller_records.specs.declared.record.RecordEntry.{RecordEntry}
 use Rattle.poller_records.specs.Held.{IsEntry}
 use Rattle.poller_records.specs.Lines.{text_of}
 use Rattle.event_manager.specs.Prelude.{Controls, Waits, Registry, HasId, ManagerState, LoopState, new_loop, no_descriptor, no_job, manager_state}
-use Rattle.event_manager.specs.Trace.{Entry}
+use Rattle.event_manager.specs.Trace.{TraceEntry}
 use Rattle.event_manager.specs.Driven.{IsTraceOf}
 use Rattle.recorded_runs.specs.Determinism.{AreFunctions, IsSameReply, IsTheRun}
 use Rattle.recorded_runs.specs.RecordedRun.{BeginsAgain, IsMadeAgain}
@@ -68,8 +68,8 @@ module _ {P : Type 0} (controls : Controls (Recording P)) (waits : Waits (Record
   module _ (replay_controls : Controls Replay) (replay_waits : Waits Replay) where
     -- the law of recorded loops, of devices
     abbrev pub RecordedLoopLaw : Type 0
-    RecordedLoopLaw = (before after : LoopState Device (Recording P)) (calls : List (Call Device)) (replies : List (Reply Device)) (trace : List (Entry Device ⊥ (Unit {0})))
-        (start end : LoopState Device Replay) (calls_again : List (Call Device)) (replies_again : List (Reply Device)) (again : List (Entry Device ⊥ (Unit {0})))
+    RecordedLoopLaw = (before after : LoopState Device (Recording P)) (calls : List (Call Device)) (replies : List (Reply Device)) (trace : List (TraceEntry Device ⊥ (Unit {0})))
+        (start end : LoopState Device Replay) (calls_again : List (Call Device)) (replies_again : List (Reply Device)) (again : List (TraceEntry Device ⊥ (Unit {0})))
         → AreFunctions device_begins device_serves no_job → IsTraceOf device_begins device_serves no_job controls waits before calls replies after trace
         → IsTraceOf device_begins device_serves no_job replay_controls replay_waits start calls_again replies_again end again
         → BeginsAgain before after start → end.poller.diverged ≡ false → IsMadeAgain trace again → IsTheRun trace again (manager_state after) (manager_state end)

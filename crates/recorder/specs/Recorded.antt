@@ -1,6 +1,6 @@
 -- A recorded run and its replay.
 use Rattle.std.specs.Prelude.{◌≡◌, ℕ, true, List, [], All}
-use Rattle.vmm_sys.specs.Recording.{Recording}
+use Rattle.poller_records.specs.Recording.{Recording}
 use Rattle.event_manager.specs.Prelude.{Controls, Waits, LoopState, new_loop, no_descriptor}
 use Rattle.poller_records.specs.Held.{IsEntry}
 use Rattle.poller_records.specs.Lines.{text_of}

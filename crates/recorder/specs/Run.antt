@@ -2,7 +2,7 @@
 use Rattle.std.specs.Prelude.{◌≡◌, ℕ, pos, map, List, ◌∷◌, Ok}
 use Rattle.std.proofs.Math.ListN.{replicate}
 use Rattle.event_manager.specs.Prelude.{Controls, Waits, HasId, LoopState, no_job}
-use Rattle.event_manager.specs.Trace.{Entry}
+use Rattle.event_manager.specs.Trace.{TraceEntry}
 use Rattle.event_manager.specs.Driven.{IsTraceOf}
 use Rattle.event_manager.specs.declared.calls.Call.{Call}
 use Rattle.event_manager.specs.declared.calls.Call.TheVariants.{Add, Run}
@@ -22,7 +22,7 @@ replies_of queue console events = Added (Ok queue) ∷ Added (Ok console) ∷ ma
 
 -- The calls of a run, five runs of the loop among them, were replied as it tells, and its devices are those at the end, no request of which was refused.
 pub record IsRun {P : Type 0} (controls : Controls P) (waits : Waits P) (before : LoopState Device P) (devices : Device × Device) (told : Told) (after : LoopState Device P) : Type 0 where
-  pub trace : List (Entry Device ⊥ (Unit {0}))
+  pub trace : List (TraceEntry Device ⊥ (Unit {0}))
   pub queue : ℕ
   pub console : ℕ
   pub is_trace_of : IsTraceOf device_begins device_serves no_job controls waits before (calls_of devices 5) (replies_of queue console told.events) after trace

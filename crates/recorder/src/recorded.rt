@@ -11,12 +11,12 @@ use crate::run::{Told, drive};
 use anyhow::Result;
 use event_manager::{EventLoop, EventPoller};
 use poller_records::laws::entries_are_held;
+use poller_records::recording_poller::RecordingPoller;
+use poller_records::replay_poller::ReplayPoller;
 use poller_records::text::{read_record, write_record};
 use recorded_runs::laws::a_recorded_loop_is_made_again;
 use std::alloc::Global;
 use vmm_sys::poller::Poller;
-use vmm_sys::recording_poller::RecordingPoller;
-use vmm_sys::replay_poller::ReplayPoller;
 
 /// How many entries find room in the record.
 const MOST_ENTRIES: usize = 64;

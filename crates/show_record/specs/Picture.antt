@@ -1,7 +1,7 @@
 -- What is drawn of a record.
 use Rattle.vmm_sys.specs.EpollEvent.{fd_of}
-use Rattle.vmm_sys.specs.declared.record.RecordEntry.{RecordEntry}
-use Rattle.vmm_sys.specs.declared.record.RecordEntry.TheVariants as entry
+use Rattle.poller_records.specs.declared.record.RecordEntry.{RecordEntry}
+use Rattle.poller_records.specs.declared.record.RecordEntry.TheVariants as entry
 use Rattle.show_record.specs.declared.picture.Form.{Form}
 use Rattle.show_record.specs.declared.picture.Form.TheVariants.{Call, Event, Wait}
 use Rattle.show_record.specs.declared.picture.Lane.TheVariants.{Descriptor}

@@ -42,12 +42,12 @@ mod tests;
 
 use anyhow::{Result, bail};
 use picture::Picture;
+use poller_records::record::RecordEntry;
 use poller_records::text::read_record;
 use shown::call_at;
 use std::env;
 use std::io::Read;
 use std::rt::Env;
-use vmm_sys::record::RecordEntry;
 
 /// What is to be shown.
 #[derive(Clone, Copy)]

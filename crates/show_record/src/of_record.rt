@@ -6,10 +6,10 @@ ghost use Rattle.show_record.specs.Picture.{form_of};
 use crate::picture::{Form, INTERRUPTED, Lane, Step, Tone, count_text};
 use crate::shown::{Set, ShownCall, call_at, data, operation_word};
 use anyhow::Result;
+use poller_records::record::RecordEntry;
 use std::alloc::{AllocError, Global};
 use vmm_sys::epoll::{ControlOperation, EpollEvent};
 use vmm_sys::errno::Errno;
-use vmm_sys::record::RecordEntry;
 
 /// What the entry is in a picture.
 fn form(entry: &RecordEntry) -> Form

@@ -2,10 +2,10 @@
 
 use anyhow::{Result, bail};
 use evloop_script::names::SetNames;
+use poller_records::record::RecordEntry;
 use std::fmt;
 use vmm_sys::epoll::{ControlOperation, EpollEvent, EventSet};
 use vmm_sys::errno::Errno;
-use vmm_sys::record::RecordEntry;
 
 /// A call with the entries behind it up to the next call, which prints as its line.
 #[derive(Clone, Copy)]

@@ -5,11 +5,11 @@ use measures::arguments::Family;
 use measures::bench::{Bench, Measured, expect};
 use measures::fixed::{BATCH, Fixed};
 use measures::timing::{REPEATS, Times};
+use poller_records::recording_poller::RecordingPoller;
 use std::time::Clock;
 use vmm_sys::epoll::{EpollEvent, EventSet};
 use vmm_sys::errno::Errno;
 use vmm_sys::poller::Poller;
-use vmm_sys::recording_poller::RecordingPoller;
 
 /// What picks these measures.
 pub const RECORD: Family = Family("record");

@@ -1,5 +1,7 @@
 //! A poller with a record of its calls, and a replay of that.
 
+use poller_records::recording_poller::RecordingPoller;
+use poller_records::replay_poller::ReplayPoller;
 use refused_calls::again;
 use refused_calls::call_name::CallName;
 use refused_calls::fault::{Fault, expect};
@@ -8,8 +10,6 @@ use refused_calls::reports::{event_of, push_report};
 use std::alloc::Global;
 use vmm_sys::epoll::ControlOperation;
 use vmm_sys::poller::Poller;
-use vmm_sys::recording_poller::RecordingPoller;
-use vmm_sys::replay_poller::ReplayPoller;
 use vmm_sys::script_poller::ScriptPoller;
 
 /// The entries of a change, and of a wait with one event.

@@ -12,7 +12,7 @@ use Rattle.vmm_sys.specs.declared.errno.TheConstants.Errno.{EINVAL, ENOMEM}
 use Rattle.vmm_sys.specs.EventSet.{with_bits}
 use Rattle.vmm_sys.specs.EpollEvent.{event, word_of}
 use Rattle.vmm_sys.specs.Poller.{CtlRelation, WaitRelation}
-use Rattle.vmm_sys.specs.Table.{ctl_of, wait_of, filled, entries_of}
+use Rattle.vmm_sys.specs.Table.{ctl_of, wait_of, filled, reported_entries}
 use Rattle.timerfd.specs.TimerTable.{TimerTableState, table_of, Changes}
 use Rattle.timerfd.specs.Limits.{IsLimit}
 
@@ -83,7 +83,7 @@ MayCtl may_ctl before op fd e answer after =
 
 -- the entries that timers report with this room
 abbrev pub report_of : TimerTableState → ℕ → List EpollEvent
-report_of s room = entries_of (wait_of (table_of s) room)
+report_of s room = reported_entries (wait_of (table_of s) room)
 
 -- some timers have reported in front of the buffer
 abbrev pub Reports : List EpollEvent → ℕ → List EpollEvent → Type 0

@@ -1,7 +1,7 @@
 //! Timers with a list of interests in them.
 
 ghost use Rattle.std.specs.Prelude.{◌≡◌, ◌==◌, ◌<◌, ◌≤◌, ◌^◌, [], ◌∷◌, ◌++◌, pos, is_some, find, length, slice_set, IfOk, IfErr, MatchOption, if◌then◌else◌};
-ghost use Rattle.vmm_sys.specs.Table.{ctl_of, wait_of, filled, entries_of, is_ready};
+ghost use Rattle.vmm_sys.specs.Table.{ctl_of, wait_of, filled, reported_entries, is_ready};
 ghost use Rattle.timerfd.specs.Dues.{IsFirstOf, dues};
 ghost use Rattle.timerfd.specs.Timer.{disarmed, armed};
 ghost use Rattle.timerfd.specs.Timers.{timer_at, with_timer, told, NoneIsDue, HasExpired};
@@ -161,7 +161,7 @@ impl TimerTable {
     /// Writes the entries of ready timers into the front of the buffer, as many as find room, and answers their number, as
     /// [`Table::wait`] does; 0, where there is no room.
     pub fn report(&mut self, buffer: &mut [EpollEvent]) -> usize
-        ensures count { result ≡ length (entries_of (wait_of (table_of self.old) (length buffer.old))) }
+        ensures count { result ≡ length (reported_entries (wait_of (table_of self.old) (length buffer.old))) }
         ensures entries { buffer.new ≡ filled (wait_of (table_of self.old) (length buffer.old)) buffer.old }
         ensures moved { self.new ≡ reported_by self.old (length buffer.old) }
     {

@@ -14,6 +14,9 @@ use event_manager::{
     ActionOn, Error, EventManager, EventPoller, Ledgers, NamedCounter, Result, SubscriberId,
     SubscriberOps, WithLedgers, with_ledgers,
 };
+use poller_records::record::RecordEntry;
+use poller_records::recording_poller::RecordingPoller;
+use poller_records::replay_poller::ReplayPoller;
 use std::alloc::Global;
 use std::sync::Wait;
 use std::sync::atomic::{AtomicU64, Ordering};
@@ -22,9 +25,6 @@ use stop::Stop;
 use timerfd::{TickClock, TimedPoller};
 use vmm_sys::epoll::Epoll;
 use vmm_sys::eventfd::EventFd;
-use vmm_sys::record::RecordEntry;
-use vmm_sys::recording_poller::RecordingPoller;
-use vmm_sys::replay_poller::ReplayPoller;
 
 /// The timers, by their numbers from 0.
 const TIMERS: [Plan; 5] = [

@@ -9,9 +9,6 @@ pub mod Picks
 pub mod Places
 pub mod Reachable
 pub mod Readiness
-pub mod RecordingLemmas
-pub mod ReplayLemmas
-pub mod Reruns
 pub mod Rows
 pub mod Service
 pub mod SlotMarks

@@ -15,7 +15,7 @@ use Rattle.vmm_sys.specs.declared.table.interests.Interest.{Interest}
 use Rattle.vmm_sys.specs.EventSet.{with_bits}
 use Rattle.vmm_sys.specs.Lists.{without_first}
 use Rattle.vmm_sys.specs.Table.{TableState, is_ready, is_of, place_of, chosen, has_mode, changed, ctl_at, opened, write_to, read_from, set_at, with_source, open_of, source_of, entry_of, Answers, ctl_of, moved_back}
-use Rattle.vmm_sys.specs.ServiceBound.{Step, Ctl, Wait, Write, Read, SetLine, AddCounter, AddLine, WithoutMemory, left_by, after, rooms, waits, Keeps, EachWaitHas, MovesForward, EachStepMovesForward, ReportedWithinRooms, ReportedWithinWaits}
+use Rattle.vmm_sys.specs.ServiceBound.{TableStep, Ctl, Wait, Write, Read, SetLine, AddCounter, AddLine, WithoutMemory, left_by, after, rooms, waits, Keeps, EachWaitHas, MovesForward, EachStepMovesForward, ReportedWithinRooms, ReportedWithinWaits}
 use Rattle.vmm_sys.proofs.Places.{At, At-from_position, position-from_At, At-append, At-set, At-remove, Here-from_find, without_first-At}
 
 -- a test that refuses leaves the interests, and so does what comes after it
@@ -173,7 +173,7 @@ reported_within_rooms n a t (s ∷ steps) e k lt =
     ]
 
 -- waits of one room add up to their number times the room
-rooms-each : (c : ℕ) (steps : List Step) → EachWaitHas c steps → rooms steps ≡ waits steps * c
+rooms-each : (c : ℕ) (steps : List TableStep) → EachWaitHas c steps → rooms steps ≡ waits steps * c
 rooms-each c [] h = omega (arith, zero-mul c)
 rooms-each c (Wait d ∷ steps) h = let r = rooms-each c steps h.1 in rw (h.0, r) (omega (arith, suc-mul (waits steps) c))
 rooms-each c (Ctl op fd event ∷ steps) h = let r = rooms-each c steps h in omega arith

@@ -6,7 +6,7 @@ use Rattle.vmm_sys.specs.declared.entries.EpollEvent.{EpollEvent}
 use Rattle.vmm_sys.specs.declared.entries.ControlOperation.{ControlOperation}
 use Rattle.vmm_sys.specs.declared.errno.Errno.{Errno}
 use Rattle.vmm_sys.specs.Codes.{errno_code}
-use Rattle.vmm_sys.specs.ScriptPoller.{Answer, Script, script_code, ctl_answer, after_ctl, next_answer, after_wait, entries_of, count_of}
+use Rattle.vmm_sys.specs.ScriptPoller.{Answer, Script, script_code, ctl_answer, after_ctl, next_answer, after_wait, answered_entries, answered_count}
 
 -- the script, the number of the call that is refused, with which error, and how many calls there were
 pub record Faulty : Type 0 where
@@ -50,4 +50,4 @@ MayCtl before op fd event answer after =
 -- the one answer of `wait` with its entries, and the one state after it
 abbrev pub MayWait : Gv → ℤ → ℕ → Result ℕ Errno → List EpollEvent → Gv → Type 0
 MayWait before ms room answer entries after =
-    (f : Faulty) × (before ≡ faulty_code.code f) × (answer ≡ count_of (answer_to_wait f room)) × (entries ≡ entries_of (answer_to_wait f room)) × (after ≡ faulty_code.code (faulty_after_wait f room))
+    (f : Faulty) × (before ≡ faulty_code.code f) × (answer ≡ answered_count (answer_to_wait f room)) × (entries ≡ answered_entries (answer_to_wait f room)) × (after ≡ faulty_code.code (faulty_after_wait f room))

@@ -7,10 +7,6 @@ pub mod Lists
 pub mod Codes
 pub mod ScriptPoller
 pub mod FaultPoller
-pub mod Record
-pub mod Recording
-pub mod Replay
-pub mod PollerRun
 pub mod ReadySet
 pub mod Row
 pub mod Table

@@ -31,9 +31,9 @@ abbrev pub with_refusal : Script → ControlOperation → ℤ → Errno → Scri
 with_refusal s op fd errno = record s { refusals = s.refusals ++ (record { op = op; fd = fd; errno = errno }) ∷ [] }
 
 -- an answer, as the code holds it
-abbrev pub answer_of : Result (Vec EpollEvent Global) Errno → Answer
-answer_of (Ok events) = Ok events.items
-answer_of (Err errno) = Err errno
+abbrev pub scripted_answer : Result (Vec EpollEvent Global) Errno → Answer
+scripted_answer (Ok events) = Ok events.items
+scripted_answer (Err errno) = Err errno
 
 abbrev pub same_operation : ControlOperation → ControlOperation → Bool
 same_operation Add Add = true
@@ -76,14 +76,14 @@ abbrev pub after_wait : Script → ℕ → Script
 after_wait s room = record s { answers = later_answers s.answers room }
 
 -- the entries of an answer
-abbrev pub entries_of : Answer → List EpollEvent
-entries_of (Ok events) = events
-entries_of (Err errno) = []
+abbrev pub answered_entries : Answer → List EpollEvent
+answered_entries (Ok events) = events
+answered_entries (Err errno) = []
 
 -- the number of the entries, as a wait answers it
-abbrev pub count_of : Answer → Result ℕ Errno
-count_of (Ok events) = Ok (length events)
-count_of (Err errno) = Err errno
+abbrev pub answered_count : Answer → Result ℕ Errno
+answered_count (Ok events) = Ok (length events)
+answered_count (Err errno) = Err errno
 
 abbrev refusal_code : Coded Refusal
 refusal_code = code_by (ControlOperation × (ℤ × Errno)) (coded× operation_code (coded× coded_ℤ errno_code)) (λ r. (r.op, (r.fd, r.errno))) (λ p. record { op = p.0; fd = p.1.0; errno = p.1.1 }) (λ _. refl)
@@ -101,4 +101,4 @@ MayCtl before op fd event answer after =
 -- the one answer of `wait` with its entries, and the one state after it
 abbrev pub MayWait : Gv → ℤ → ℕ → Result ℕ Errno → List EpollEvent → Gv → Type 0
 MayWait before ms room answer entries after =
-    (s : Script) × (before ≡ script_code.code s) × (answer ≡ count_of (next_answer s.answers room)) × (entries ≡ entries_of (next_answer s.answers room)) × (after ≡ script_code.code (after_wait s room))
+    (s : Script) × (before ≡ script_code.code s) × (answer ≡ answered_count (next_answer s.answers room)) × (entries ≡ answered_entries (next_answer s.answers room)) × (after ≡ script_code.code (after_wait s room))

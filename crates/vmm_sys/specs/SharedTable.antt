@@ -4,7 +4,7 @@ use base.Stored.{Gv}
 use Rattle.vmm_sys.specs.declared.entries.EpollEvent.{EpollEvent}
 use Rattle.vmm_sys.specs.declared.entries.ControlOperation.{ControlOperation}
 use Rattle.vmm_sys.specs.declared.errno.Errno.{Errno}
-use Rattle.vmm_sys.specs.Table.{TableState, IsReachable, Answers, AnswersWithMemory, ctl_of, wait_of, counted, entries_of}
+use Rattle.vmm_sys.specs.Table.{TableState, IsReachable, Answers, AnswersWithMemory, ctl_of, wait_of, counted, reported_entries}
 
 -- the answer that some table gives to a call
 abbrev pub AnswersOfSome : {A : Type 0} → (TableState → Result (A × TableState) Errno) → Result A Errno → Type 0
@@ -20,7 +20,7 @@ Changed op fd event answer = AnswersOfSome (λ t. ctl_of t op fd event) answer
 
 -- the answer of some table to a wait with this room, and the entries of its report
 abbrev pub Waited : ℕ → Result ℕ Errno → List EpollEvent → Type 0
-Waited room answer entries = (t u : TableState) × IsReachable t × Answers (counted (wait_of t room)) t answer u × (entries ≡ entries_of (wait_of t room))
+Waited room answer entries = (t u : TableState) × IsReachable t × Answers (counted (wait_of t room)) t answer u × (entries ≡ reported_entries (wait_of t room))
 
 abbrev pub MayCtl : Gv → ControlOperation → ℤ → EpollEvent → Result (Unit {0}) Errno → Gv → Type 0
 MayCtl before op fd event answer after = Changed op fd event answer

@@ -177,9 +177,9 @@ wait_of t c =
     else Ok (map (entry_of t.sources) (chosen t c), moved_back t c)
 
 -- the entries of a wait
-abbrev pub entries_of : Result (List EpollEvent × TableState) Errno → List EpollEvent
-entries_of (Ok (entries, after)) = entries
-entries_of (Err errno) = []
+abbrev pub reported_entries : Result (List EpollEvent × TableState) Errno → List EpollEvent
+reported_entries (Ok (entries, after)) = entries
+reported_entries (Err errno) = []
 
 -- the number of the entries in place of them
 abbrev pub counted : Result (List EpollEvent × TableState) Errno → Result (ℕ × TableState) Errno
@@ -188,7 +188,7 @@ counted (Err errno) = Err errno
 
 -- the buffer after a wait: its entries in front, and what stood behind them
 abbrev pub filled : Result (List EpollEvent × TableState) Errno → List EpollEvent → List EpollEvent
-filled r buffer = entries_of r ++ drop (length (entries_of r)) buffer
+filled r buffer = reported_entries r ++ drop (length (reported_entries r)) buffer
 
 -- What calls keep
 

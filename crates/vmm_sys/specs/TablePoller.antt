@@ -11,7 +11,7 @@ use Rattle.vmm_sys.specs.declared.table.Source.{Source}
 use Rattle.vmm_sys.specs.declared.table.Source.TheVariants.{Counter, Line}
 use Rattle.vmm_sys.specs.declared.table.interests.Interest.{Interest}
 use Rattle.vmm_sys.specs.Codes.{set_code, event_code}
-use Rattle.vmm_sys.specs.Table.{TableState, Answers, ctl_of, wait_of, counted, entries_of}
+use Rattle.vmm_sys.specs.Table.{TableState, Answers, ctl_of, wait_of, counted, reported_entries}
 
 abbrev interest_code : Coded Interest
 interest_code = code_by (ℕ × EpollEvent) (coded× coded_ℕ event_code) (λ i. (i.descriptor, i.event)) (λ p. record { descriptor = p.0; event = p.1 }) (λ _. refl)
@@ -46,4 +46,4 @@ MayCtl before op fd event answer after =
 -- the one answer of `wait` with its entries, and the one state after it
 abbrev pub MayWait : Gv → ℤ → ℕ → Result ℕ Errno → List EpollEvent → Gv → Type 0
 MayWait before ms room answer entries after =
-    (t u : TableState) × (before ≡ table_code.code t) × (after ≡ table_code.code u) × Answers (counted (wait_of t room)) t answer u × (entries ≡ entries_of (wait_of t room))
+    (t u : TableState) × (before ≡ table_code.code t) × (after ≡ table_code.code u) × Answers (counted (wait_of t room)) t answer u × (entries ≡ reported_entries (wait_of t room))

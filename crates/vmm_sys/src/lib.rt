@@ -3,8 +3,7 @@
 //!
 //! A [`poller::Poller`] keeps an interest list and reports events. [`script_poller::ScriptPoller`]
 //! answers what it was told to, and [`fault_poller::FaultPoller`] too, but for one call that it
-//! refuses. [`recording_poller::RecordingPoller`] is any poller with a record of its calls, and
-//! [`replay_poller::ReplayPoller`] answers from such a record. [`table::Table`] keeps counters and lines of its own and an interest list in them;
+//! refuses. [`table::Table`] keeps counters and lines of its own and an interest list in them;
 //! [`epoll::Epoll`] is such a table that threads share, with [`eventfd::EventFd`] and
 //! [`line::Line`] for its descriptors.
 #![tactic(auto)]
@@ -20,9 +19,6 @@ pub mod fault_poller;
 mod fd;
 pub mod line;
 pub mod poller;
-pub mod record;
-pub mod recording_poller;
-pub mod replay_poller;
 pub mod script_poller;
 mod shared_table;
 pub mod table;

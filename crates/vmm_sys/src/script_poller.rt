@@ -1,7 +1,7 @@
 //! A poller that follows a script.
 
 ghost use Rattle.std.specs.Prelude.{◌≡◌, ◌≤◌, ◌<◌, ◌++◌, [], length, take, drop, position, Ok, Err, OnOk, OnErr, IfSome, IsOkUnless};
-ghost use Rattle.vmm_sys.specs.ScriptPoller.{same_operation, refuses, with_answer, with_refusal, answer_of, ctl_answer, after_ctl, next_answer, after_wait, entries_of, count_of, script_code, MayCtl, MayWait};
+ghost use Rattle.vmm_sys.specs.ScriptPoller.{same_operation, refuses, with_answer, with_refusal, scripted_answer, ctl_answer, after_ctl, next_answer, after_wait, answered_entries, answered_count, script_code, MayCtl, MayWait};
 
 use crate::descriptors::RawFd;
 use crate::entries::{ControlOperation, EpollEvent};
@@ -33,11 +33,11 @@ pub struct ScriptPoller {
 
 impl Model for ScriptPoller {
     ghost use Rattle.std.specs.Prelude.{map};
-    ghost use Rattle.vmm_sys.specs.ScriptPoller.{Script, answer_of};
+    ghost use Rattle.vmm_sys.specs.ScriptPoller.{Script, scripted_answer};
 
     ghost Value = { Script };
 
-    ghost view = { λ s. record { answers = map answer_of s.answers.items; refusals = s.refusals.items } };
+    ghost view = { λ s. record { answers = map scripted_answer s.answers.items; refusals = s.refusals.items } };
 }
 
 impl ScriptPoller {
@@ -53,7 +53,7 @@ impl ScriptPoller {
 
     fn push(&mut self, answer: Result<Vec<EpollEvent>, Errno>) -> Result<(), Errno>
         ensures errors { IsOkUnless result Errno.ENOMEM }
-        ensures pushed { OnOk result (self.new ≡ with_answer self.old (answer_of answer)) }
+        ensures pushed { OnOk result (self.new ≡ with_answer self.old (scripted_answer answer)) }
         ensures unchanged { OnErr result (self.new ≡ self.old) }
     {
         match self.answers.push_back(answer) {
@@ -126,8 +126,8 @@ impl ScriptPoller {
 
     // Takes the next report or fault; what doesn't fit of a report stays the next one.
     pub(crate) fn take_answer(&mut self, buffer: &mut [EpollEvent]) -> Result<usize, Errno>
-        ensures answer { result ≡ count_of (next_answer self.old.answers (length buffer.old)) }
-        ensures entries { let events = entries_of (next_answer self.old.answers (length buffer.old)) in
+        ensures answer { result ≡ answered_count (next_answer self.old.answers (length buffer.old)) }
+        ensures entries { let events = answered_entries (next_answer self.old.answers (length buffer.old)) in
             buffer.new ≡ events ++ drop (length events) buffer.old }
         ensures after { self.new ≡ after_wait self.old (length buffer.old) }
     {

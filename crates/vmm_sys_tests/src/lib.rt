@@ -13,8 +13,6 @@ mod missed;
 #[cfg(test)]
 mod random_calls;
 #[cfg(test)]
-mod records;
-#[cfg(test)]
 mod shared_table;
 #[cfg(test)]
 mod table;

@@ -1,7 +1,7 @@
 //! What lies under the lock of the job queue.
 
 ghost use Rattle.std.specs.Prelude.{◌≡◌, ◌⊎◌, ◌+◌, ◌<◌, ◌≤◌, [], length, Err, None, IfOk, IfErr, false};
-ghost use Rattle.event_manager.specs.JobQueue.{new_queue, after_take, after_close, IsSend, TicketsFollow, answer_of};
+ghost use Rattle.event_manager.specs.JobQueue.{new_queue, after_take, after_close, IsSend, TicketsFollow, send_answer};
 ghost use Rattle.event_loop.specs.declared.error.Error.TheVariants.{TicketsUsedUp};
 
 use crate::Error;
@@ -70,7 +70,7 @@ impl<S: MutEventSubscriber, J: Job<S>, N: Naming> ChannelState<S, J, N> {
         bell: &B,
         rt: &R,
     ) -> std::result::Result<Ticket<N>, Refused<WaitingJob<S, J>, ()>>
-        ensures sent { IsSend (B.rings bell.now) self.old job None (answer_of result) self.new }
+        ensures sent { IsSend (B.rings bell.now) self.old job None (send_answer result) self.new }
         ensures handed_back { IfErr result (λ refused. refused.job ≡ job) }
     {
         match self.queue.offer(job, None, bell, rt) {
@@ -92,10 +92,10 @@ impl<S: MutEventSubscriber, J: Job<S>, N: Naming> ChannelState<S, J, N> {
         rt: &R,
     ) -> std::result::Result<Ticket<N>, Refused<WaitingJob<S, J>, ()>>
         ensures above { IfOk result (λ n. shown.now < n) }
-        ensures sent { shown.now ≤ self.old.issued → IsSend (B.rings bell.now) self.old job None (answer_of result) self.new }
-        ensures not_issued { self.old.issued < shown.now → (answer_of result ≡ Err TicketsUsedUp) × (self.new ≡ self.old) }
+        ensures sent { shown.now ≤ self.old.issued → IsSend (B.rings bell.now) self.old job None (send_answer result) self.new }
+        ensures not_issued { self.old.issued < shown.now → (send_answer result ≡ Err TicketsUsedUp) × (self.new ≡ self.old) }
         ensures handed_back { IfErr result (λ refused. refused.job ≡ job) }
-        ensures answers { (answer_of result ≡ Err TicketsUsedUp) ⊎ IsSend (B.rings bell.now) self.old job None (answer_of result) self.new }
+        ensures answers { (send_answer result ≡ Err TicketsUsedUp) ⊎ IsSend (B.rings bell.now) self.old job None (send_answer result) self.new }
     {
         if shown.number() > self.queue.issued() {
             return Err(Refused {

@@ -1,7 +1,7 @@
 //! What a job is.
 
 ghost use Rattle.std.specs.Prelude.{◌≡◌, List, []};
-ghost use Rattle.event_loop.specs.Registry.{Step};
+ghost use Rattle.event_loop.specs.Registry.{LoopStep};
 ghost use Rattle.event_loop.specs.LoopState.{HaveStepped};
 ghost use Rattle.event_loop.specs.Subscribers.{loop_state};
 
@@ -18,10 +18,10 @@ pub trait Job<S: MutEventSubscriber>: Drop {
     type Reply: Drop;
 
     ghost use Rattle.std.specs.Prelude.{List};
-    ghost use Rattle.event_loop.specs.Registry.{Step};
+    ghost use Rattle.event_loop.specs.Registry.{LoopStep};
 
     /// Which steps it may make, with their answers, and which reply it may then give.
-    ghost may: { Self → List (Step S) → Self.Reply → Type 0 };
+    ghost may: { Self → List (LoopStep S) → Self.Reply → Type 0 };
 
     /// What holds of each reply: what a caller knows who waits for one.
     ghost replies: { Self.Reply → Type 0 };
@@ -32,7 +32,7 @@ pub trait Job<S: MutEventSubscriber>: Drop {
         registry: &mut Registry<S, P>,
         rt: &R,
     ) -> Self::Reply
-        ensures stepped { (steps : List (Step S)) × may self steps result
+        ensures stepped { (steps : List (LoopStep S)) × may self steps result
             × HaveStepped S.begins P.controls P.waits (loop_state registry.old) steps (loop_state registry.new) }
         ensures fact { replies result };
 }

@@ -15,9 +15,9 @@ impl<S: MutEventSubscriber + Drop> Job<S> for AddSubscriber<S> {
 
     ghost use Rattle.std.specs.Prelude.{◌≡◌, [], ◌∷◌};
     ghost use Rattle.event_loop.specs.LoopState.{IsJoin};
-    ghost use Rattle.event_loop.specs.Registry.{Step};
+    ghost use Rattle.event_loop.specs.Registry.{LoopStep};
 
-    ghost may = { λ self steps reply. (step : Step S) × (steps ≡ step ∷ []) × IsJoin self.0 reply step };
+    ghost may = { λ self steps reply. (step : LoopStep S) × (steps ≡ step ∷ []) × IsJoin self.0 reply step };
 
     ghost replies = { λ reply. Unit {0} };
 
@@ -39,9 +39,9 @@ impl<S: MutEventSubscriber + Drop> Job<S> for RemoveSubscriber {
 
     ghost use Rattle.std.specs.Prelude.{◌≡◌, [], ◌∷◌};
     ghost use Rattle.event_loop.specs.LoopState.{IsLeave};
-    ghost use Rattle.event_loop.specs.Registry.{Step};
+    ghost use Rattle.event_loop.specs.Registry.{LoopStep};
 
-    ghost may = { λ self steps reply. (step : Step S) × (steps ≡ step ∷ []) × IsLeave self.0 reply step };
+    ghost may = { λ self steps reply. (step : LoopStep S) × (steps ≡ step ∷ []) × IsLeave self.0 reply step };
 
     ghost replies = { λ reply. Unit {0} };
 

@@ -1,7 +1,7 @@
 //! The queue of jobs, without locks.
 
 ghost use Rattle.std.specs.Prelude.{◌≡◌, ◌+◌, ◌≤◌, true, [], length, IfErr};
-ghost use Rattle.event_manager.specs.JobQueue.{new_queue, after_take, after_close, IsSend, TicketsFollow, answer_of};
+ghost use Rattle.event_manager.specs.JobQueue.{new_queue, after_take, after_close, IsSend, TicketsFollow, send_answer};
 
 use event_loop::{Error, Result};
 use job_tickets::tickets::MOST_TICKETS;
@@ -128,7 +128,7 @@ impl<J, Q> JobQueue<J, Q> {
         bell: &B,
         rt: &R,
     ) -> std::result::Result<u64, Refused<J, Q>>
-        ensures sent { IsSend (B.rings bell.now) self.old job slot (answer_of result) self.new }
+        ensures sent { IsSend (B.rings bell.now) self.old job slot (send_answer result) self.new }
         ensures handed_back { IfErr result (λ refused. (refused.job ≡ job) × (refused.slot ≡ slot)) }
     {
         let error = if self.closed {

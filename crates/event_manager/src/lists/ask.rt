@@ -3,7 +3,7 @@
 ghost use Rattle.std.specs.Prelude.{◌≡◌, ◌≤◌, List, [], length, vec_capacity};
 ghost use Rattle.event_loop.specs.Exchange.{Exchanges, requests_of, answers_of};
 ghost use Rattle.event_loop.specs.PollerCall.{PollerCall};
-ghost use Rattle.event_loop.specs.Registry.{Step};
+ghost use Rattle.event_loop.specs.Registry.{LoopStep};
 ghost use Rattle.event_loop.specs.Requests.{AreMadeThrough};
 ghost use Rattle.event_loop.specs.LoopState.{HasStepped};
 ghost use Rattle.event_manager.specs.SingleCall.{IsAsk, IsReplacement};
@@ -37,7 +37,7 @@ pub(crate) fn ask<M: SubscriberOps>(
 ) -> Result<Vec<Result<()>>>
     requires none { answers.items ≡ [] }
     requires room { length requests.now ≤ vec_capacity answers }
-    ensures { (step : Step M.Subscriber) × IsAsk id requests.now result step
+    ensures { (step : LoopStep M.Subscriber) × IsAsk id requests.now result step
         × HasStepped M.Subscriber.begins M.Poller.controls M.Poller.waits (M.seen manager.old) step (M.seen manager.new) }
 {
     let mut answers = answers;
@@ -58,7 +58,7 @@ pub(crate) fn replace<M: SubscriberOps>(
 ) -> Result<M::Subscriber>
 where
     M::Subscriber: Drop,
-    ensures { (step : Step M.Subscriber) × IsReplacement id subscriber result step
+    ensures { (step : LoopStep M.Subscriber) × IsReplacement id subscriber result step
         × HasStepped M.Subscriber.begins M.Poller.controls M.Poller.waits (M.seen manager.old) step (M.seen manager.new) }
 {
     match manager.subscriber_mut(id) {

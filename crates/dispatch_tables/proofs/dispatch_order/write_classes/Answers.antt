@@ -1,5 +1,5 @@
 use Rattle.std.proofs.Common.{◌≡◌, ◌++◌, sym, ap, ◌∙◌, arith, length, take, append_assoc}
-use Rattle.dispatch_tables.specs.Classes.{entries_of}
+use Rattle.dispatch_tables.specs.Classes.{entries_of_class}
 use Rattle.dispatch_tables.proofs.ClassEntries.{all_classes}
 use Rattle.dispatch_tables.proofs.dispatch_order.write_classes.Goals as goal
 
@@ -20,10 +20,10 @@ write_class-requires c =
 pub returns : goal.returns
 returns c =
     let classed = c.args.classed.now in
-    let highest = entries_of 3 classed in
-    let high = entries_of 2 classed in
-    let low = entries_of 1 classed in
-    let lowest = entries_of 0 classed in
+    let highest = entries_of_class 3 classed in
+    let high = entries_of_class 2 classed in
+    let low = entries_of_class 1 classed in
+    let lowest = entries_of_class 0 classed in
     let whole : c.write_class.result ≡ length classed = omega (arith, all_classes classed, c.write_class-at.ensures.place, c.write_class-at-2.ensures.place, c.write_class-at-3.ensures.place, c.write_class.ensures.place) in
     ap (λ n. take n c.write_class.new.buffer) (sym whole)
     ∙ c.write_class.ensures.written

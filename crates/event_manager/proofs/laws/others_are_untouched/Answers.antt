@@ -4,6 +4,6 @@ use Rattle.event_manager.proofs.laws.others_are_untouched.Goals as goal
 pub returns : goal.returns
 returns g c = record {
   steps = λ before step after h. isolated_step g.S.MutEventSubscriber.begins before step after h;
-  deliveries = λ before removed event outcome after h. isolated_delivery g.S.MutEventSubscriber.serves before removed event outcome after h;
+  deliveries = λ before removed event delivery after h. isolated_delivery g.S.MutEventSubscriber.serves before removed event delivery after h;
   leaving = λ before after i value calls h. left_frees g.S.MutEventSubscriber.begins before after i value calls h;
 }

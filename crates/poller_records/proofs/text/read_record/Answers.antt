@@ -1,6 +1,6 @@
 use Rattle.std.proofs.Common.{◌≡◌, ◌+◌, List, sym, ◌∙◌, rules, subst, MatchResult, IfErr, IfSome}
 use Rattle.std.proofs.lemmas.Result.{err_from_is_err_and}
-use Rattle.vmm_sys.specs.declared.record.RecordEntry.{RecordEntry}
+use Rattle.poller_records.specs.declared.record.RecordEntry.{RecordEntry}
 use Rattle.poller_records.specs.BadLine.{bad_line, IsFirstBad}
 use Rattle.poller_records.specs.declared.fault.RecordFault.TheVariants.{OutOfMemory}
 use Rattle.poller_records.specs.declared.fault.RecordFault.{RecordFault}

@@ -1,5 +1,5 @@
 use Rattle.std.proofs.Common.{sym, ap, ◌∙◌}
-use Rattle.vmm_sys.specs.Replay.{divergence_index}
+use Rattle.poller_records.specs.Replay.{divergence_index}
 use Rattle.event_manager.specs.EventLoop.{seen_of}
 use Rattle.recorder.proofs.SameRun.{replay_tells, not_diverged}
 use Rattle.recorder.proofs.recorded.replay.Goals as goal

@@ -5,21 +5,20 @@ ghost use Rattle.std.specs.List.{list_all};
 ghost use base.Stored.{Gv};
 ghost use Rattle.vmm_sys.specs.declared.entries.EpollEvent.{EpollEvent};
 ghost use Rattle.vmm_sys.specs.declared.errno.Errno.{Errno};
-ghost use Rattle.vmm_sys.specs.declared.record.RecordEntry.{RecordEntry};
-ghost use Rattle.vmm_sys.specs.declared.record.RecordEntry.TheVariants.{Reported};
+ghost use Rattle.poller_records.specs.declared.record.RecordEntry.{RecordEntry};
+ghost use Rattle.poller_records.specs.declared.record.RecordEntry.TheVariants.{Reported};
 ghost use Rattle.vmm_sys.specs.Poller.{reported};
-ghost use Rattle.vmm_sys.specs.PollerRun.{Call, question, entries_of, Runs};
-ghost use Rattle.vmm_sys.specs.Record.{entries_of_ctl, entries_of_wait, IsReport, is_reported};
-ghost use Rattle.vmm_sys.specs.Recording as recording;
-ghost use Rattle.vmm_sys.specs.Recording.{Recording, recording_code};
-ghost use Rattle.vmm_sys.specs.Replay.{start_of, divergence, divergence_index, replay_code, MayCtl, MayWait};
+ghost use Rattle.poller_records.specs.PollerRun.{Call, question, entries_of_calls, Runs};
+ghost use Rattle.poller_records.specs.Record.{entries_of_ctl, entries_of_wait, IsReport, is_reported};
+ghost use Rattle.poller_records.specs.Recording as recording;
+ghost use Rattle.poller_records.specs.Recording.{Recording, recording_code};
+ghost use Rattle.poller_records.specs.Replay.{start_of, divergence, divergence_index, replay_code, MayCtl, MayWait};
 
-use crate::descriptors::RawFd;
-use crate::entries::{ControlOperation, EpollEvent};
-use crate::errno::Errno;
-use crate::poller::Poller;
 use crate::record::RecordEntry;
 use std::marker::Model;
+use vmm_sys::epoll::{ControlOperation, EpollEvent, RawFd};
+use vmm_sys::errno::Errno;
+use vmm_sys::poller::Poller;
 
 /// A poller that answers each call as a record says, while the calls are those of the record, in its order; it is no poller
 /// of the system's.
@@ -36,7 +35,7 @@ pub struct ReplayPoller {
 
 impl Model for ReplayPoller {
     ghost use Rattle.std.specs.Prelude.{◌≤◌, drop, vec_len};
-    ghost use Rattle.vmm_sys.specs.Replay.{Replay};
+    ghost use Rattle.poller_records.specs.Replay.{Replay};
 
     ghost Value = { Replay };
 
@@ -146,11 +145,11 @@ impl Poller for ReplayPoller {
 pub fn recorded_runs_replay<P: Poller>()
     ensures recorded { (before after : Recording Gv) (calls : List Call) → after.complete ≡ true →
         Runs (recording.MayCtl P.may_ctl) (recording.MayWait P.may_wait) (recording_code.code before) calls (recording_code.code after) →
-        (after.entries ≡ before.entries ++ entries_of calls) × Runs P.may_ctl P.may_wait before.poller calls after.poller }
+        (after.entries ≡ before.entries ++ entries_of_calls calls) × Runs P.may_ctl P.may_wait before.poller calls after.poller }
     ensures replayed { (before after : Gv) (calls others : List Call) (later : List RecordEntry) (left : Gv) →
         Runs P.may_ctl P.may_wait before calls after → map question others ≡ map question calls →
-        Runs MayCtl MayWait (replay_code.code (start_of (entries_of calls ++ later))) others left →
-        (others ≡ calls) × (left ≡ replay_code.code (record { passed = length (entries_of calls); ahead = later; diverged = false })) }
+        Runs MayCtl MayWait (replay_code.code (start_of (entries_of_calls calls ++ later))) others left →
+        (others ≡ calls) × (left ≡ replay_code.code (record { passed = length (entries_of_calls calls); ahead = later; diverged = false })) }
 {}
 
 // What a `ctl` answered whose entry is the first.

@@ -1,7 +1,7 @@
 use Rattle.std.proofs.lemmas.Int.{to_z-of_z}
 use mir.Syntax.{w32}
-use Rattle.vmm_sys.proofs.RecordingLemmas.{ctl-recorded}
-use Rattle.vmm_sys.proofs.recording_poller.RecordingPollerPoller.ctl.Goals as goal
+use Rattle.poller_records.proofs.RecordingLemmas.{ctl-recorded}
+use Rattle.poller_records.proofs.recording_poller.RecordingPollerPoller.ctl.Goals as goal
 
 pub returns : goal.returns
 returns g c =

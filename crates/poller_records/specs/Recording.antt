@@ -3,9 +3,9 @@ use Rattle.std.specs.Prelude.{ℕ, Bool, ◌+◌, ◌≡◌, ◌&&◌, nat_le, i
 use Rattle.std.specs.Coded.{Coded, code_by, coded_ℕ, coded_bool, coded_list, coded×}
 use base.Stored.{Gv}
 use denote.Struct.Codes.{itself}
-use Rattle.vmm_sys.specs.declared.record.RecordEntry.{RecordEntry}
+use Rattle.poller_records.specs.declared.record.RecordEntry.{RecordEntry}
 use Rattle.vmm_sys.specs.Poller.{CtlRelation, WaitRelation}
-use Rattle.vmm_sys.specs.Record.{entries_of_ctl, entries_of_wait, entry_code}
+use Rattle.poller_records.specs.Record.{entries_of_ctl, entries_of_wait, entry_code}
 
 -- the poller, the entries of its calls, for how many there is room, and whether no call was left out
 pub record Recording (P : Type 0) : Type 0 where

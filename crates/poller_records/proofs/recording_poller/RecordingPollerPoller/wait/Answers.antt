@@ -1,7 +1,7 @@
 use Rattle.std.proofs.lemmas.Int.{to_z-of_z}
 use mir.Syntax.{w32}
-use Rattle.vmm_sys.proofs.RecordingLemmas.{wait-recorded}
-use Rattle.vmm_sys.proofs.recording_poller.RecordingPollerPoller.wait.Goals as goal
+use Rattle.poller_records.proofs.RecordingLemmas.{wait-recorded}
+use Rattle.poller_records.proofs.recording_poller.RecordingPollerPoller.wait.Goals as goal
 
 pub returns-clause-answer : goal.returns-clause-answer
 returns-clause-answer g c =

@@ -1,14 +1,14 @@
 //! Records of calls, and their replays.
 
 use crate::expecting::{expect_ok, expect_same};
+use poller_records::record::RecordEntry;
+use poller_records::recording_poller::RecordingPoller;
+use poller_records::replay_poller::ReplayPoller;
 use std::alloc::Global;
 use std::process::Abort;
 use vmm_sys::epoll::{ControlOperation, EpollEvent, EventSet, RawFd};
 use vmm_sys::errno::Errno;
 use vmm_sys::poller::Poller;
-use vmm_sys::record::RecordEntry;
-use vmm_sys::recording_poller::RecordingPoller;
-use vmm_sys::replay_poller::ReplayPoller;
 use vmm_sys::table::Table;
 
 const ADD: ControlOperation = ControlOperation::Add;

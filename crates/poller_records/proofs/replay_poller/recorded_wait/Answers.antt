@@ -1,8 +1,8 @@
 use Rattle.std.proofs.Common.{refl, ◌∙◌}
 use Rattle.std.proofs.lemmas.Int.{to_z-of_z}
 use mir.Syntax.{w32}
-use Rattle.vmm_sys.proofs.ReplayLemmas.{refused-found, report-found, report-missing}
-use Rattle.vmm_sys.proofs.replay_poller.recorded_wait.Goals as goal
+use Rattle.poller_records.proofs.ReplayLemmas.{refused-found, report-found, report-missing}
+use Rattle.poller_records.proofs.replay_poller.recorded_wait.Goals as goal
 
 pub returns-in_default-answer-clause-found : goal.returns-in_default-answer-clause-found
 returns-in_default-answer-clause-found c =

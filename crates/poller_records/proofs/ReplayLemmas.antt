@@ -9,10 +9,10 @@ use Rattle.std.proofs.lemmas.List.{take-append-drop, length-map, length-take-le}
 use Rattle.std.proofs.lemmas.Grind.{common_steps}
 use Rattle.vmm_sys.specs.declared.entries.EpollEvent.{EpollEvent}
 use Rattle.vmm_sys.specs.declared.errno.Errno.{Errno}
-use Rattle.vmm_sys.specs.declared.record.RecordEntry.{RecordEntry}
-use Rattle.vmm_sys.specs.declared.record.RecordEntry.TheVariants.{Wait, Reported}
+use Rattle.poller_records.specs.declared.record.RecordEntry.{RecordEntry}
+use Rattle.poller_records.specs.declared.record.RecordEntry.TheVariants.{Wait, Reported}
 use Rattle.vmm_sys.specs.Poller.{reported}
-use Rattle.vmm_sys.specs.Record.{entries_of_wait, IsReport, is_reported}
+use Rattle.poller_records.specs.Record.{entries_of_wait, IsReport, is_reported}
 
 -- where there is a first entry, the list begins with it
 pub first-entry : {A : Type 0} (l : List A) {x : A} → Some x ≡ slice_get l 0 → l ≡ x ∷ drop 1 l

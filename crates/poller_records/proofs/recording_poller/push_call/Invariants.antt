@@ -1,6 +1,6 @@
 use Rattle.std.proofs.Common.{◌≡◌, ◌+◌, ◌++◌, map, take, vec_len, vec_capacity}
-use Rattle.vmm_sys.specs.declared.record.RecordEntry.TheVariants.{Reported}
-use Rattle.vmm_sys.proofs.recording_poller.push_call.Given as goal
+use Rattle.poller_records.specs.declared.record.RecordEntry.TheVariants.{Reported}
+use Rattle.poller_records.proofs.recording_poller.push_call.Given as goal
 
 abbrev pub invariant-loop-event : goal.invariant-loop-event
 invariant-loop-event l = record {

@@ -1,18 +1,16 @@
 //! A poller with a record of its calls.
 
 ghost use Rattle.std.specs.Prelude.{◌≡◌, ◌+◌, ◌≤◌, true, [], ◌∷◌, ◌++◌, map, length, vec_len, vec_capacity, IfOk, IfSome, IsOkUnless};
-ghost use Rattle.vmm_sys.specs.declared.record.RecordEntry.TheVariants.{Reported};
+ghost use Rattle.poller_records.specs.declared.record.RecordEntry.TheVariants.{Reported};
 ghost use Rattle.vmm_sys.specs.Poller.{reported};
-ghost use Rattle.vmm_sys.specs.Recording.{recorded, with_poller, recording_code, MayCtl, MayWait};
+ghost use Rattle.poller_records.specs.Recording.{recorded, with_poller, recording_code, MayCtl, MayWait};
 
-use crate::descriptors::RawFd;
-use crate::entries::{ControlOperation, EpollEvent};
-use crate::errno::Errno;
-use crate::event_set::EventSet;
-use crate::poller::Poller;
 use crate::record::RecordEntry;
 use std::alloc::Global;
 use std::marker::Model;
+use vmm_sys::epoll::{ControlOperation, EpollEvent, EventSet, RawFd};
+use vmm_sys::errno::Errno;
+use vmm_sys::poller::Poller;
 
 /// A poller of any type, which answers as it does alone, with a record of its calls and answers.
 ///
@@ -29,7 +27,7 @@ pub struct RecordingPoller<P> {
 
 impl<P> Model for RecordingPoller<P> {
     ghost use Rattle.std.specs.Prelude.{vec_capacity};
-    ghost use Rattle.vmm_sys.specs.Recording.{Recording};
+    ghost use Rattle.poller_records.specs.Recording.{Recording};
 
     ghost Value = { Recording P };
 

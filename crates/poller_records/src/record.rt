@@ -1,8 +1,7 @@
 //! What a record of a poller's calls consists of.
 
-use crate::descriptors::RawFd;
-use crate::entries::{ControlOperation, EpollEvent};
-use crate::errno::Errno;
+use vmm_sys::epoll::{ControlOperation, EpollEvent, RawFd};
+use vmm_sys::errno::Errno;
 
 /// An entry of a record: a call of a poller with its answer, or an event that the wait before it reported.
 #[derive(Clone, Copy, PartialEq, Eq, Debug)]

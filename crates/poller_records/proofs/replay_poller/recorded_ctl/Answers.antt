@@ -3,9 +3,9 @@ use Rattle.std.proofs.lemmas.Int.{to_z-of_z}
 use denote.Enum.Bare.{same_true}
 use mir.Syntax.{w32}
 use Rattle.vmm_sys.specs.contracts.entries.ControlOperation.{the_type}
-use Rattle.vmm_sys.specs.declared.record.RecordEntry.TheVariants.{Control}
-use Rattle.vmm_sys.proofs.ReplayLemmas.{first-entry, same-event}
-use Rattle.vmm_sys.proofs.replay_poller.recorded_ctl.Goals as goal
+use Rattle.poller_records.specs.declared.record.RecordEntry.TheVariants.{Control}
+use Rattle.poller_records.proofs.ReplayLemmas.{first-entry, same-event}
+use Rattle.poller_records.proofs.replay_poller.recorded_ctl.Goals as goal
 
 pub returns-then-eq-2-clause-found : goal.returns-then-eq-2-clause-found
 returns-then-eq-2-clause-found c =

@@ -6,8 +6,8 @@ use Rattle.vmm_sys.specs.declared.entries.EpollEvent.{EpollEvent}
 use Rattle.vmm_sys.specs.declared.entries.ControlOperation.{ControlOperation}
 use Rattle.vmm_sys.specs.declared.errno.Errno.{Errno}
 use Rattle.vmm_sys.specs.Poller.{CtlRelation, WaitRelation}
-use Rattle.vmm_sys.specs.Record.{entries_of_ctl, entries_of_wait}
-use Rattle.vmm_sys.specs.Recording.{Recording, recorded, with_poller, recording_code, MayCtl, MayWait}
+use Rattle.poller_records.specs.Record.{entries_of_ctl, entries_of_wait}
+use Rattle.poller_records.specs.Recording.{Recording, recorded, with_poller, recording_code, MayCtl, MayWait}
 
 module _ {P : Type 0} (meaning : P → Gv) where
   -- what a recording poller means

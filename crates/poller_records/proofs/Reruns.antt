@@ -6,14 +6,14 @@ use base.Stored.{Gv}
 use Rattle.vmm_sys.specs.declared.entries.EpollEvent.{EpollEvent}
 use Rattle.vmm_sys.specs.declared.entries.ControlOperation.{ControlOperation}
 use Rattle.vmm_sys.specs.declared.errno.Errno.{Errno}
-use Rattle.vmm_sys.specs.declared.record.RecordEntry.{RecordEntry}
-use Rattle.vmm_sys.specs.declared.record.RecordEntry.TheVariants.{Reported}
+use Rattle.poller_records.specs.declared.record.RecordEntry.{RecordEntry}
+use Rattle.poller_records.specs.declared.record.RecordEntry.TheVariants.{Reported}
 use Rattle.vmm_sys.specs.Poller.{CtlRelation, WaitRelation}
-use Rattle.vmm_sys.specs.Record.{entries_of_ctl, entries_of_wait, IsReport}
-use Rattle.vmm_sys.specs.Recording as recording
-use Rattle.vmm_sys.specs.Recording.{Recording, recorded, is_recorded, with_poller, recording_code}
-use Rattle.vmm_sys.specs.Replay.{Replay, Passes, AnswersCtl, AnswersWait, replay_code, MayCtl, MayWait}
-use Rattle.vmm_sys.specs.PollerRun.{Call, Ctl, Wait, question, entries_of, Runs}
+use Rattle.poller_records.specs.Record.{entries_of_ctl, entries_of_wait, IsReport}
+use Rattle.poller_records.specs.Recording as recording
+use Rattle.poller_records.specs.Recording.{Recording, recorded, is_recorded, with_poller, recording_code}
+use Rattle.poller_records.specs.Replay.{Replay, Passes, AnswersCtl, AnswersWait, replay_code, MayCtl, MayWait}
+use Rattle.poller_records.specs.PollerRun.{Call, Ctl, Wait, question, entries_of_calls, Runs}
 
 -- of two tests that both hold the first does
 left-true : (a b : Bool) → (a && b) ≡ true → a ≡ true
@@ -28,7 +28,7 @@ kept r poller call full = (left-true r.complete _ full, ap (λ b. if b then r.en
 module _ (may_ctl : CtlRelation) (may_wait : WaitRelation) where
   -- from r, from which nothing was left out, these calls led to t and are recorded there
   abbrev IsRecorded : List Call → Recording Gv → Recording Gv → Type 0
-  IsRecorded calls t r = (r.complete ≡ true) × (t.entries ≡ r.entries ++ entries_of calls) × Runs may_ctl may_wait r.poller calls t.poller
+  IsRecorded calls t r = (r.complete ≡ true) × (t.entries ≡ r.entries ++ entries_of_calls calls) × Runs may_ctl may_wait r.poller calls t.poller
 
   -- a run that ends with a complete record is recorded
   pub recorded-run : (calls : List Call) (r t : Recording Gv) → t.complete ≡ true
@@ -41,16 +41,16 @@ module _ (may_ctl : CtlRelation) (may_wait : WaitRelation) where
       let later = recorded-run calls (recorded (with_poller s poller) call) t full
       (subst (λ v. Runs (recording.MayCtl may_ctl) (recording.MayWait may_wait) v calls (recording_code.code t)) left rest) in
       let first = kept s poller call later.0 in
-      let entries : t.entries ≡ s.entries ++ (call ++ entries_of calls) =
-      later.1 ∙ ap (λ l. l ++ entries_of calls) first.1 ∙ append_assoc s.entries call (entries_of calls) in
+      let entries : t.entries ≡ s.entries ++ (call ++ entries_of_calls calls) =
+      later.1 ∙ ap (λ l. l ++ entries_of_calls calls) first.1 ∙ append_assoc s.entries call (entries_of_calls calls) in
       subst (IsRecorded (Ctl op fd event answer ∷ calls) t) (sym (recording_code.inj r s is)) (first.0, entries, (poller, may, later.2))
   recorded-run (Wait ms room answer events ∷ calls) r t full (next, report, (s, poller, is, may, left), rest) =
       let call = entries_of_wait ms room answer events in
       let later = recorded-run calls (recorded (with_poller s poller) call) t full
       (subst (λ v. Runs (recording.MayCtl may_ctl) (recording.MayWait may_wait) v calls (recording_code.code t)) left rest) in
       let first = kept s poller call later.0 in
-      let entries : t.entries ≡ s.entries ++ (call ++ entries_of calls) =
-      later.1 ∙ ap (λ l. l ++ entries_of calls) first.1 ∙ append_assoc s.entries call (entries_of calls) in
+      let entries : t.entries ≡ s.entries ++ (call ++ entries_of_calls calls) =
+      later.1 ∙ ap (λ l. l ++ entries_of_calls calls) first.1 ∙ append_assoc s.entries call (entries_of_calls calls) in
       subst (IsRecorded (Wait ms room answer events ∷ calls) t) (sym (recording_code.inj r s is)) (first.0, entries, (poller, report, may, later.2))
 
 -- what is left where these entries were passed
@@ -112,20 +112,20 @@ wait-answered s t ms room answer other events found rest agreed report ahead (in
 module _ (may_ctl : CtlRelation) (may_wait : WaitRelation) (later : List RecordEntry) where
   -- the others are these calls, and the replay has passed their entries
   abbrev pub AreReplayed : Replay → Gv → List Call → List Call → Type 0
-  AreReplayed s end calls others = (others ≡ calls) × (end ≡ replay_code.code (passed_by s (entries_of calls) later))
+  AreReplayed s end calls others = (others ≡ calls) × (end ≡ replay_code.code (passed_by s (entries_of_calls calls) later))
 
   -- the same behind one more call
   one-more : (s : Replay) (call : List RecordEntry) (end : Gv) (c d : Call) (calls others : List Call) → d ≡ c
-      → entries_of (c ∷ calls) ≡ call ++ entries_of calls
-      → AreReplayed (passed_by s call (entries_of calls ++ later)) end calls others → AreReplayed s end (c ∷ calls) (d ∷ others)
+      → entries_of_calls (c ∷ calls) ≡ call ++ entries_of_calls calls
+      → AreReplayed (passed_by s call (entries_of_calls calls ++ later)) end calls others → AreReplayed s end (c ∷ calls) (d ∷ others)
   one-more s call end c d calls others same entries h =
-      let count : (s.passed + length call) + length (entries_of calls) ≡ s.passed + length (entries_of (c ∷ calls)) =
+      let count : (s.passed + length call) + length (entries_of_calls calls) ≡ s.passed + length (entries_of_calls (c ∷ calls)) =
       rw (entries, length-append) (omega arith) in
       (ap₂ (λ x l. x ∷ l) same h.0, h.1 ∙ ap (λ n. replay_code.code (record { passed = n; ahead = later; diverged = false })) count)
 
   -- a replay that is asked what these calls asked answers as they were answered
   pub replayed-run : (calls others : List Call) (before after : Gv) (s : Replay) (end : Gv) → Runs may_ctl may_wait before calls after
-      → map question others ≡ map question calls → s.diverged ≡ false → s.ahead ≡ entries_of calls ++ later
+      → map question others ≡ map question calls → s.diverged ≡ false → s.ahead ≡ entries_of_calls calls ++ later
       → Runs MayCtl MayWait (replay_code.code s) others end → AreReplayed s end calls others
   replayed-run [] [] before after s end run asked agreed ahead h =
       let same : s ≡ passed_by s [] later = λ i. record { passed = sym (add-zero s.passed) i; ahead = ahead i; diverged = agreed i } in
@@ -144,11 +144,11 @@ module _ (may_ctl : CtlRelation) (may_wait : WaitRelation) (later : List RecordE
       let state : u ≡ s = sym (replay_code.inj s u is) in
       let At : Replay × (ControlOperation × (ℤ × EpollEvent)) → Type 0 = λ x. AnswersCtl x.0 x.1.0 x.1.1.0 x.1.1.1 other t in
       let at : AnswersCtl s op fd event other t = subst At (λ i. (state i, (op_is i, (fd_is i, event_is i)))) answered in
-      let one = ctl-answered s t op fd event answer other (entries_of calls ++ later) agreed ahead at in
+      let one = ctl-answered s t op fd event answer other (entries_of_calls calls ++ later) agreed ahead at in
       let same : Ctl op' fd' event' other ≡ Ctl op fd event answer = λ i. Ctl (op_is i) (fd_is i) (event_is i) (one.0 i) in
       let others_run = subst (λ v. Runs MayCtl MayWait v others end) (left ∙ ap replay_code.code one.1) rest in
       one-more s call end _ _ calls others same refl
-      (replayed-run calls others middle after (passed_by s call (entries_of calls ++ later)) end run tails refl refl others_run)
+      (replayed-run calls others middle after (passed_by s call (entries_of_calls calls ++ later)) end run tails refl refl others_run)
   replayed-run (Wait ms room answer events ∷ calls) (Wait ms' room' other found ∷ others) before after s end
       (middle, report, _, run) asked agreed ahead (next, _, (u, t, is, left, answered), rest) =
       let call = entries_of_wait ms room answer events in
@@ -158,9 +158,9 @@ module _ (may_ctl : CtlRelation) (may_wait : WaitRelation) (later : List RecordE
       let state : u ≡ s = sym (replay_code.inj s u is) in
       let At : Replay × (ℤ × ℕ) → Type 0 = λ x. AnswersWait x.0 x.1.0 x.1.1 other found t in
       let at : AnswersWait s ms room other found t = subst At (λ i. (state i, (ms_is i, room_is i))) answered in
-      let next_is : s.ahead ≡ call ++ (entries_of calls ++ later) = ahead ∙ append_assoc call (entries_of calls) later in
-      let one = wait-answered s t ms room answer other events found (entries_of calls ++ later) agreed report next_is at in
+      let next_is : s.ahead ≡ call ++ (entries_of_calls calls ++ later) = ahead ∙ append_assoc call (entries_of_calls calls) later in
+      let one = wait-answered s t ms room answer other events found (entries_of_calls calls ++ later) agreed report next_is at in
       let same : Wait ms' room' other found ≡ Wait ms room answer events = λ i. Wait (ms_is i) (room_is i) (one.0 i) (one.1 i) in
       let others_run = subst (λ v. Runs MayCtl MayWait v others end) (left ∙ ap replay_code.code one.2) rest in
       one-more s call end _ _ calls others same refl
-      (replayed-run calls others middle after (passed_by s call (entries_of calls ++ later)) end run tails refl refl others_run)
+      (replayed-run calls others middle after (passed_by s call (entries_of_calls calls ++ later)) end run tails refl refl others_run)

@@ -4,9 +4,9 @@ use base.Stored.{Gv}
 use Rattle.vmm_sys.specs.declared.entries.EpollEvent.{EpollEvent}
 use Rattle.vmm_sys.specs.declared.entries.ControlOperation.{ControlOperation}
 use Rattle.vmm_sys.specs.declared.errno.Errno.{Errno}
-use Rattle.vmm_sys.specs.declared.record.RecordEntry.{RecordEntry}
+use Rattle.poller_records.specs.declared.record.RecordEntry.{RecordEntry}
 use Rattle.vmm_sys.specs.Poller.{CtlRelation, WaitRelation}
-use Rattle.vmm_sys.specs.Record.{entries_of_ctl, entries_of_wait, IsReport}
+use Rattle.poller_records.specs.Record.{entries_of_ctl, entries_of_wait, IsReport}
 
 -- a call with its answer; a wait's with its report too
 pub data Call : Type 0 where
@@ -19,10 +19,10 @@ question (Ctl op fd event answer) = Ctl op fd event (Ok tt)
 question (Wait ms room answer events) = Wait ms room (Ok 0) []
 
 -- the calls as a record says them
-abbrev pub entries_of : List Call → List RecordEntry
-entries_of [] = []
-entries_of (Ctl op fd event answer ∷ calls) = entries_of_ctl op fd event answer ++ entries_of calls
-entries_of (Wait ms room answer events ∷ calls) = entries_of_wait ms room answer events ++ entries_of calls
+abbrev pub entries_of_calls : List Call → List RecordEntry
+entries_of_calls [] = []
+entries_of_calls (Ctl op fd event answer ∷ calls) = entries_of_ctl op fd event answer ++ entries_of_calls calls
+entries_of_calls (Wait ms room answer events ∷ calls) = entries_of_wait ms room answer events ++ entries_of_calls calls
 
 -- by these relations of a poller the calls lead from one state to the other
 module _ (may_ctl : CtlRelation) (may_wait : WaitRelation) where
