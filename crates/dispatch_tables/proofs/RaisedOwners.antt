@@ -2,6 +2,7 @@
 use Rattle.std.proofs.Common.{◌≡◌, ℕ, ◌+◌, ◌-◌, ◌≤◌, nat_lt, refl, sym, ap, ◌∙◌, Bool, true, false, cond, Option, Some, None, is_some, arith, nat_cmp, inl, inr, true≢false}
 use Rattle.std.proofs.lemmas.Bool.{cases_lt, lt-ltb}
 use Rattle.std.specs.Ordering.{eq_by_cmp}
+use Rattle.std.specs.Int.{from_bool}
 use Rattle.std.specs.Cmp.{nat_cmp_total}
 use Rattle.std.specs.FinMap.{get, insert, remove, len, get-insert, get-remove, get-retain_keys, get-empty, same_map, empty_of_len, nat_cmp-IsAntisymmetric, empty, len-empty}
 use Rattle.dispatch_tables.specs.Priority.{number_of}
@@ -26,6 +27,10 @@ raised_cond false o p = refl
 same_where_free : (b : Bool) (o : Option Ownership) → (b ≡ true → o ≡ None) → cond b None (if_raised o) ≡ if_raised o
 same_where_free true o free = sym (ap if_raised (free refl))
 same_where_free false o free = refl
+
+pub from_bool_at_most : (b : Bool) → from_bool b ≤ 1
+from_bool_at_most true = omega arith
+from_bool_at_most false = omega arith
 
 raised_empty : raised_in empty ≡ empty
 raised_empty = same_map nat_cmp_total nat_cmp-IsAntisymmetric _ _ (λ q. get-raised_in empty q ∙ ap if_raised (get-empty nat_cmp q) ∙ sym (get-empty nat_cmp q))
@@ -55,27 +60,22 @@ module _ (owners : OwnerMap) (owned raised : ℕ) (counted : AreCounted owners o
       one_more : owned + 1 ≡ len (insert owners fd one)
       one_more = ap (λ n. n + 1) counted.0 ∙ sym (one_more_owner owners fd one free)
 
-      given : (o : Option Ownership) → if_raised (Some one) ≡ o → (q : ℕ) → get (raised_in (insert owners fd one)) q ≡ cond (eq_by_cmp nat_cmp q fd) o (if_raised (get owners q))
-      given o is q =
-          get-raised_in (insert owners fd one) q ∙ ap if_raised (get-insert nat_cmp_total owners fd one q) ∙ raised_cond (eq_by_cmp nat_cmp q fd) (Some one) (get owners q)
-          ∙ ap (λ p. cond (eq_by_cmp nat_cmp q fd) p (if_raised (get owners q))) is
+      given : (q : ℕ) → get (raised_in (insert owners fd one)) q ≡ cond (eq_by_cmp nat_cmp q fd) (if_raised (Some one)) (if_raised (get owners q))
+      given q = get-raised_in (insert owners fd one) q ∙ ap if_raised (get-insert nat_cmp_total owners fd one q) ∙ raised_cond (eq_by_cmp nat_cmp q fd) (Some one) (get owners q)
 
-      pub counted_raised : nat_lt 0 (number_of one.priority) ≡ true → AreCounted (insert owners fd one) (owned + 1) (raised + 1)
-      counted_raised e =
-          let is = same_map nat_cmp_total nat_cmp-IsAntisymmetric (raised_in (insert owners fd one)) (insert (raised_in owners) fd one) (λ q.
-          given (Some one) (ap (λ t. cond t (Some one) None) e) q
-          ∙ sym (get-insert nat_cmp_total (raised_in owners) fd one q ∙ ap (λ o. cond (eq_by_cmp nat_cmp q fd) (Some one) o) (get-raised_in owners q)))
-          in
-          (one_more, ap (λ n. n + 1) counted.1 ∙ sym (ap len is ∙ one_more_owner (raised_in owners) fd one (get-raised_in owners fd ∙ ap if_raised free)))
+      raised_more : (b : Bool) → ((q : ℕ) → get (raised_in (insert owners fd one)) q ≡ cond (eq_by_cmp nat_cmp q fd) (cond b (Some one) None) (if_raised (get owners q)))
+          → raised + from_bool b ≡ len (raised_in (insert owners fd one))
+      raised_more true is =
+          let same = same_map nat_cmp_total nat_cmp-IsAntisymmetric (raised_in (insert owners fd one)) (insert (raised_in owners) fd one) (λ q.
+          is q ∙ sym (get-insert nat_cmp_total (raised_in owners) fd one q ∙ ap (λ o. cond (eq_by_cmp nat_cmp q fd) (Some one) o) (get-raised_in owners q))) in
+          ap (λ n. n + 1) counted.1 ∙ sym (ap len same ∙ one_more_owner (raised_in owners) fd one (get-raised_in owners fd ∙ ap if_raised free))
+      raised_more false is =
+          let same = same_map nat_cmp_total nat_cmp-IsAntisymmetric (raised_in (insert owners fd one)) (raised_in owners) (λ q.
+          is q ∙ same_where_free (eq_by_cmp nat_cmp q fd) (get owners q) (λ t. ap (get owners) (nat_tied q fd t) ∙ free) ∙ sym (get-raised_in owners q)) in
+          omega (arith, counted.1, ap len same)
 
-      pub counted_lowest : nat_lt 0 (number_of one.priority) ≡ false → AreCounted (insert owners fd one) (owned + 1) raised
-      counted_lowest e =
-          let is = same_map nat_cmp_total nat_cmp-IsAntisymmetric (raised_in (insert owners fd one)) (raised_in owners) (λ q.
-          given None (ap (λ t. cond t (Some one) None) e) q
-          ∙ same_where_free (eq_by_cmp nat_cmp q fd) (get owners q) (λ t. ap (get owners) (nat_tied q fd t) ∙ free)
-          ∙ sym (get-raised_in owners q))
-          in
-          (one_more, counted.1 ∙ sym (ap len is))
+      pub counted_more : AreCounted (insert owners fd one) (owned + 1) (raised + from_bool (nat_lt 0 (number_of one.priority)))
+      counted_more = (one_more, raised_more (nat_lt 0 (number_of one.priority)) given)
 
     raised_without : raised_in (remove owners fd) ≡ remove (raised_in owners) fd
     raised_without = same_map nat_cmp_total nat_cmp-IsAntisymmetric _ _ (λ q.
@@ -98,18 +98,20 @@ module _ (owners : OwnerMap) (owned raised : ℕ) (counted : AreCounted owners o
       one_owner_fewer : owned - 1 ≡ len (remove owners fd)
       one_owner_fewer = ap (λ n. n - 1) counted.0 ∙ sym (one_fewer owners fd held)
 
-      module _ (e : nat_lt 0 (number_of one.priority) ≡ true) where
-        held_raised : is_some (get (raised_in owners) fd) ≡ true
-        held_raised = ap is_some (raised_there (Some one) has ∙ ap (λ t. cond t (Some one) None) e)
+      raised_fewer : (b : Bool) → get (raised_in owners) fd ≡ cond b (Some one) None → (from_bool b ≤ raised) × (raised - from_bool b ≡ len (remove (raised_in owners) fd))
+      raised_fewer true is =
+          let some = ap is_some is in
+          (omega (arith, counted.1, held_one (raised_in owners) fd some), ap (λ n. n - 1) counted.1 ∙ sym (one_fewer (raised_in owners) fd some))
+      raised_fewer false is = (omega arith, omega (arith, counted.1, none_fewer (raised_in owners) fd (ap is_some is)))
 
-        pub raised_some : 1 ≤ raised
-        raised_some = omega (arith, counted.1, held_one (raised_in owners) fd held_raised)
+      fewer : (from_bool (nat_lt 0 (number_of one.priority)) ≤ raised) × (raised - from_bool (nat_lt 0 (number_of one.priority)) ≡ len (remove (raised_in owners) fd))
+      fewer = raised_fewer (nat_lt 0 (number_of one.priority)) (raised_there (Some one) has)
 
-        pub lost_raised : AreCounted (remove owners fd) (owned - 1) (raised - 1)
-        lost_raised = (one_owner_fewer, ap (λ n. n - 1) counted.1 ∙ sym (ap len raised_without ∙ one_fewer (raised_in owners) fd held_raised))
+      pub raised_some : from_bool (nat_lt 0 (number_of one.priority)) ≤ raised
+      raised_some = fewer.0
 
-      pub lost_lowest : nat_lt 0 (number_of one.priority) ≡ false → AreCounted (remove owners fd) (owned - 1) raised
-      lost_lowest e = (one_owner_fewer, counted.1 ∙ sym (ap len raised_without ∙ none_fewer (raised_in owners) fd (ap is_some (raised_there (Some one) has ∙ ap (λ t. cond t (Some one) None) e))))
+      pub counted_fewer : AreCounted (remove owners fd) (owned - 1) (raised - from_bool (nat_lt 0 (number_of one.priority)))
+      counted_fewer = (one_owner_fewer, fewer.1 ∙ sym (ap len raised_without))
 
     pub lost_none : None ≡ get owners fd → AreCounted (remove owners fd) owned raised
     lost_none has = (counted.0 ∙ sym (none_fewer owners fd (ap is_some (sym has))), counted.1 ∙ sym (ap len raised_without ∙ none_fewer (raised_in owners) fd (ap is_some (raised_there None has))))

@@ -35,9 +35,7 @@ fn disown(owners: &mut Owners, owned: &mut usize, raised: &mut usize, fd: u32) -
 {
     let owner = owners.remove(fd)?;
     *owned -= 1;
-    if owner.priority.is_raised() {
-        *raised -= 1;
-    }
+    *raised -= usize::from(owner.priority.is_raised());
     Some(owner)
 }
 
@@ -170,9 +168,7 @@ impl Registrations {
         match self.owners.insert(fd, owner) {
             Ok(()) => {
                 self.owned += 1;
-                if priority.is_raised() {
-                    self.raised += 1;
-                }
+                self.raised += usize::from(priority.is_raised());
                 Ok(())
             }
             Err(_) => {

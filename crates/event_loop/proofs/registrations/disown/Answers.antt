@@ -1,6 +1,6 @@
-use Rattle.std.proofs.Common.{sym, subst, ◌∙◌, ◌-◌}
-use Rattle.dispatch_tables.specs.Owners.{ownership_of, IsOwnerAt, AreCounted}
-use Rattle.dispatch_tables.proofs.RaisedOwners.{owned_some, raised_some, lost_raised, lost_lowest, lost_none}
+use Rattle.std.proofs.Common.{subst}
+use Rattle.dispatch_tables.specs.Owners.{ownership_of, IsOwnerAt}
+use Rattle.dispatch_tables.proofs.RaisedOwners.{owned_some, raised_some, counted_fewer, lost_none}
 use Rattle.event_loop.proofs.registrations.disown.Goals as goal
 
 pub overflow_sub-owned : goal.overflow_sub-owned
@@ -11,19 +11,14 @@ overflow_sub-owned c =
 pub overflow_sub-raised : goal.overflow_sub-raised
 overflow_sub-raised c =
     let has = subst (λ o. IsOwnerAt c.args.owners.now c.args.fd o) c.in_ok-owner.was c.remove.ensures.value in
-    raised_some c.args.owners.now c.args.owned.now c.args.raised.now c.requires c.args.fd (ownership_of c.in_ok-owner.owner) has (sym c.is_raised.ensures ∙ c.if-is_raised.true)
+    rw (c.from.ensures, c.is_raised.ensures) (raised_some c.args.owners.now c.args.owned.now c.args.raised.now c.requires c.args.fd (ownership_of c.in_ok-owner.owner) has)
 
-pub returns-then-is_raised-clause-counted : goal.returns-then-is_raised-clause-counted
-returns-then-is_raised-clause-counted c =
+pub returns-clause-counted : goal.returns-clause-counted
+returns-clause-counted c =
     let has = subst (λ o. IsOwnerAt c.args.owners.now c.args.fd o) c.in_ok-owner.was c.remove.ensures.value in
-    subst (λ m. AreCounted m (c.args.owned.now - 1) (c.args.raised.now - 1)) (sym c.remove.ensures.removed) (lost_raised c.args.owners.now c.args.owned.now c.args.raised.now c.requires c.args.fd (ownership_of c.in_ok-owner.owner) has (sym c.is_raised.ensures ∙ c.if-is_raised.true))
-
-pub returns-else-is_raised-clause-counted : goal.returns-else-is_raised-clause-counted
-returns-else-is_raised-clause-counted c =
-    let has = subst (λ o. IsOwnerAt c.args.owners.now c.args.fd o) c.in_ok-owner.was c.remove.ensures.value in
-    subst (λ m. AreCounted m (c.args.owned.now - 1) c.args.raised.now) (sym c.remove.ensures.removed) (lost_lowest c.args.owners.now c.args.owned.now c.args.raised.now c.requires c.args.fd (ownership_of c.in_ok-owner.owner) has (sym c.is_raised.ensures ∙ c.if-is_raised.false))
+    rw (c.remove.ensures.removed, c.from.ensures, c.is_raised.ensures) (counted_fewer c.args.owners.now c.args.owned.now c.args.raised.now c.requires c.args.fd (ownership_of c.in_ok-owner.owner) has)
 
 pub returns-in_err-owner-clause-counted : goal.returns-in_err-owner-clause-counted
 returns-in_err-owner-clause-counted c =
     let has = subst (λ o. IsOwnerAt c.args.owners.now c.args.fd o) c.in_err-owner.was c.remove.ensures.value in
-    subst (λ m. AreCounted m c.args.owned.now c.args.raised.now) (sym c.remove.ensures.removed) (lost_none c.args.owners.now c.args.owned.now c.args.raised.now c.requires c.args.fd has)
+    rw c.remove.ensures.removed (lost_none c.args.owners.now c.args.owned.now c.args.raised.now c.requires c.args.fd has)
