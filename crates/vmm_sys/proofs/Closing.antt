@@ -1,11 +1,6 @@
 -- How the slots are closed up: what they hold comes to the front, one after the other.
-use Rattle.std.proofs.Common.{◌≡◌, ℕ, zero, suc, ◌+◌, ◌<◌, ◌≤◌, Bool, inl, inr, List, [], ◌∷◌, ◌++◌, length, set, map, take, replicate, refl, ap, ◌∙◌, sym, subst, arith, append_assoc, Option, Some, None}
-use Rattle.std.specs.Prelude.{IsSome, is_some}
-use Rattle.std.proofs.lemmas.Bool.{cases_lt}
-use Rattle.std.proofs.lemmas.List.{append-nil, map-append, length-map, length-append, length-replicate, get_or_at, set_at, take_at, replicate_more, nil_from_length}
+use Rattle.vmm_sys.proofs.Prelude.{◌≡◌, ℕ, zero, suc, ◌+◌, ◌<◌, ◌≤◌, Bool, inl, inr, List, [], ◌∷◌, ◌++◌, length, set, map, take, replicate, refl, ap, ◌∙◌, sym, subst, arith, append_assoc, Option, Some, None, IsSome, is_some, cases_lt, append-nil, map-append, length-map, length-append, length-replicate, get_or_at, set_at, take_at, replicate_more, nil_from_length, held, InterestsState, slot_at, AreMarked}
 use Rattle.vmm_sys.specs.declared.table.interests.Interest.{Interest}
-use Rattle.vmm_sys.specs.Lists.{held}
-use Rattle.vmm_sys.specs.Interests.{InterestsState, slot_at, AreMarked}
 use Rattle.vmm_sys.proofs.Held.{slot-cut}
 
 -- the slots below `slot` were looked at: what they held is now in those below `next`, and the ones from there up to `slot` are empty

@@ -1,13 +1,6 @@
 -- Whether an interest passes, by the first marked slot.
-use Rattle.std.proofs.Common.{◌≡◌, ℕ, zero, suc, ◌<◌, ◌≤◌, Bool, true, false, List, [], ◌∷◌, length, Option, Some, None, refl, ap, sym, ◌∙◌, arith, inl, inr, ltb}
-use Rattle.std.specs.Prelude.{find, is_some}
-use Rattle.std.proofs.lemmas.Bool.{cases_lt, false≢true, lt-ltb, le-ltb}
-use Rattle.std.proofs.lemmas.List.{get_or_past}
+use Rattle.vmm_sys.proofs.Prelude.{◌≡◌, ℕ, zero, suc, ◌<◌, ◌≤◌, Bool, true, false, List, [], ◌∷◌, length, Option, Some, None, refl, ap, sym, ◌∙◌, arith, inl, inr, ltb, find, is_some, cases_lt, false≢true, lt-ltb, le-ltb, get_or_past, held, InterestsState, slot_at, passes, AreMarked, NoneFrom, IsFirstFrom, get_or_from_slice_get}
 use Rattle.vmm_sys.specs.declared.table.interests.Interest.{Interest}
-use Rattle.vmm_sys.specs.Lists.{held}
-use Rattle.vmm_sys.specs.Interests.{InterestsState, slot_at, passes, AreMarked}
-use Rattle.vmm_sys.specs.ReadySet.{NoneFrom, IsFirstFrom}
-use Rattle.std.proofs.lemmas.Option.{get_or_from_slice_get}
 use Rattle.vmm_sys.proofs.Walked.{NoneIn, none_find, bare_fails}
 
 found_by : (b : Bool) (p : Interest → Bool) (i : Interest) (slots : List (Option Interest)) → p i ≡ b → is_some (find p (held slots)) ≡ true → is_some (find p (held (Some i ∷ slots))) ≡ true

@@ -1,10 +1,7 @@
 -- The first element that passes a test: where `position` finds it, `find` gives it and `without_first` leaves it out.
-use Rattle.std.proofs.Common.{◌≡◌, ℕ, suc, ◌<◌, ◌≤◌, Bool, true, false, cond, List, [], ◌∷◌, length, get_or, refl, ap, arith, Some, None, ltb}
+use Rattle.vmm_sys.proofs.Prelude.{◌≡◌, ℕ, suc, ◌<◌, ◌≤◌, Bool, true, false, cond, List, [], ◌∷◌, length, get_or, refl, ap, arith, Some, None, ltb, find, remove, position, ltb-true, ltb-false, without_first}
 use Rattle.std.proofs.Math.Numerals.{one-add}
-use Rattle.std.specs.Prelude.{find, remove, position}
 use Rattle.std.specs.List.{position_or_len}
-use Rattle.std.proofs.lemmas.Bool.{ltb-true, ltb-false}
-use Rattle.vmm_sys.specs.Lists.{without_first}
 
 module _ {A : Type 0} (p : A → Bool) where
   -- the first one that passes is at k

@@ -1,10 +1,5 @@
 -- What a row of slots holds.
-use Rattle.std.proofs.Common.{◌≡◌, ℕ, zero, suc, ◌+◌, ◌<◌, ◌≤◌, inl, inr, List, [], ◌∷◌, ◌++◌, length, get_or, set, take, map, replicate, refl, ap, ◌∙◌, sym, arith, Option, Some, None}
-use Rattle.std.specs.Prelude.{IsSome, is_some}
-use Rattle.std.proofs.lemmas.Bool.{cases_lt, false≢true}
-use Rattle.std.proofs.lemmas.List.{get_or_past, set_at, set-append_left, length-set}
-use Rattle.std.proofs.lemmas.Option.{none-some}
-use Rattle.vmm_sys.specs.Lists.{held}
+use Rattle.vmm_sys.proofs.Prelude.{◌≡◌, ℕ, zero, suc, ◌+◌, ◌<◌, ◌≤◌, inl, inr, List, [], ◌∷◌, ◌++◌, length, get_or, set, take, map, replicate, refl, ap, ◌∙◌, sym, arith, Option, Some, None, IsSome, is_some, cases_lt, false≢true, get_or_past, set_at, set-append_left, length-set, none-some, held}
 
 module _ {A : Type 0} where
   pub held-append : (xs ys : List (Option A)) → held (xs ++ ys) ≡ held xs ++ held ys

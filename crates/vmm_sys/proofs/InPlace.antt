@@ -1,15 +1,8 @@
 -- A report of the interests that are ready and stand last: it leaves them where they are.
-use Rattle.std.proofs.Common.{◌≡◌, ℕ, zero, suc, ◌+◌, ◌-◌, ◌<◌, ◌≤◌, Bool, true, false, inl, inr, List, [], ◌∷◌, ◌++◌, length, take, drop, set, map, filter, get_or, refl, ap, ◌∙◌, sym, subst, arith, append_assoc, Option, Some, None}
-use Rattle.std.specs.Prelude.{IsSome}
-use Rattle.std.proofs.lemmas.Bool.{cases_lt, false≢true}
-use Rattle.std.proofs.lemmas.List.{append-nil, get_or_past, get_or-drop, get_or-take, length-drop, length-map, length-take, take-append-drop, take_more, drop_more, set_at, map-append}
+use Rattle.vmm_sys.proofs.Prelude.{◌≡◌, ℕ, zero, suc, ◌+◌, ◌-◌, ◌<◌, ◌≤◌, Bool, true, false, inl, inr, List, [], ◌∷◌, ◌++◌, length, take, drop, set, map, filter, get_or, refl, ap, ◌∙◌, sym, subst, arith, append_assoc, Option, Some, None, IsSome, cases_lt, false≢true, append-nil, get_or_past, get_or-drop, get_or-take, length-drop, length-map, length-take, take-append-drop, take_more, drop_more, set_at, map-append, get_or_from_slice_get, none-some, same_Some, held, InterestsState, slot_at, passes, AreMarked, IsMarked, IsFirstFrom}
 use Rattle.std.proofs.lemmas.List.Elements.{filter-append}
-use Rattle.std.proofs.lemmas.Option.{get_or_from_slice_get, none-some, same_Some}
 use Rattle.vmm_sys.specs.declared.entries.EpollEvent.{EpollEvent}
 use Rattle.vmm_sys.specs.declared.table.interests.Interest.{Interest}
-use Rattle.vmm_sys.specs.Lists.{held}
-use Rattle.vmm_sys.specs.Interests.{InterestsState, slot_at, passes, AreMarked}
-use Rattle.vmm_sys.specs.ReadySet.{IsMarked, IsFirstFrom}
 use Rattle.vmm_sys.proofs.Held.{held-append, slot-within}
 use Rattle.vmm_sys.proofs.Picks.{Picked, fails, IsDone, done_by_none}
 use Rattle.vmm_sys.proofs.Walked.{NoneIn, none_filter, bare_fails}

@@ -1,12 +1,7 @@
 -- Rows of marks, and rows that mark the words of others.
-use Rattle.std.proofs.Common.{◌≡◌, ◌≢◌, ℕ, zero, suc, ◌+◌, ◌*◌, ◌/◌, ◌<◌, ◌≤◌, Bool, true, false, List, [], ◌∷◌, ◌++◌, length, set, replicate, min, max, Option, Some, None, refl, sym, ap, ◌∙◌, subst, inl, inr, arith, length-set}
-use Rattle.std.specs.Prelude.{◌⊎◌, ◌↔◌, MatchOption, Result, Ok, Err, OnOk, OnErr, slice_get}
-use Rattle.std.proofs.lemmas.Bool.{cases_lt, cases_eq, iff_false}
+use Rattle.vmm_sys.proofs.Prelude.{◌≡◌, ◌≢◌, ℕ, zero, suc, ◌+◌, ◌*◌, ◌/◌, ◌<◌, ◌≤◌, Bool, true, false, List, [], ◌∷◌, ◌++◌, length, set, replicate, min, max, Option, Some, None, refl, sym, ap, ◌∙◌, subst, inl, inr, arith, length-set, ◌⊎◌, ◌↔◌, MatchOption, Result, Ok, Err, OnOk, OnErr, slice_get, cases_lt, cases_eq, iff_false, get_or-set_same, length-append, length-replicate, append-nil, slice_get-get_or, IsMarked, IsFirstFrom, NoneFrom, NoneBelow, NoneInWordFrom, IsEmptyWord, MarksWords}
 use Rattle.std.proofs.Math.Nat.{min-le_left, min-le_right, le-max_left, max-le}
 use Rattle.std.specs.Option.{unwrap_or}
-use Rattle.std.proofs.lemmas.List.{get_or-set_same, length-append, length-replicate, append-nil}
-use Rattle.std.proofs.lemmas.Option.{slice_get-get_or}
-use Rattle.vmm_sys.specs.ReadySet.{IsMarked, IsFirstFrom, NoneFrom, NoneBelow, NoneInWordFrom, IsEmptyWord, MarksWords}
 
 -- a position that isn't marked stays so
 pub bare_set : (marks : List Bool) (n : ℕ) → ¬ IsMarked marks n → marks ≡ set marks n false

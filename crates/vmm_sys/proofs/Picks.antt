@@ -1,10 +1,7 @@
 -- A walk over a list that moves the first elements that pass a test to the back, and writes what f gives of them into another.
-use Rattle.std.proofs.Common.{◌≡◌, ℕ, zero, suc, ◌+◌, ◌-◌, ◌<◌, ◌≤◌, Bool, true, false, not, cond, List, [], ◌∷◌, ◌++◌, length, take, drop, set, map, filter, get_or, refl, sym, ap, ◌∙◌, arith, append_assoc, Option, Some, None}
-use Rattle.std.specs.Prelude.{slice_get, find}
+use Rattle.vmm_sys.proofs.Prelude.{◌≡◌, ℕ, zero, suc, ◌+◌, ◌-◌, ◌<◌, ◌≤◌, Bool, true, false, not, cond, List, [], ◌∷◌, ◌++◌, length, take, drop, set, map, filter, get_or, refl, sym, ap, ◌∙◌, arith, append_assoc, Option, Some, None, slice_get, find, append-nil, drop_more, set_at, length_push, map-append, length-map, without_first}
 use Rattle.std.proofs.Math.Seq.{take-append-add, take-nil}
-use Rattle.std.proofs.lemmas.List.{append-nil, drop_more, set_at, length_push, map-append, length-map}
 use Rattle.std.proofs.lemmas.List.Elements.{filter-append}
-use Rattle.vmm_sys.specs.Lists.{without_first}
 
 -- the lists xs and ys when the walk began, zs and ws now that n elements were moved: those of `looked` were looked at, and `next` is the first of the rest
 pub record Picked {A B : Type 0} (p : A → Bool) (f : A → B) (xs : List A) (ys : List B) (zs : List A) (ws : List B) (n : ℕ) (next : Option A) : Type 0 where

@@ -1,10 +1,7 @@
 -- The place of the first element that passes, and what the changes of a list do to it.
-use Rattle.std.proofs.Common.{◌≡◌, ℕ, zero, suc, ◌+◌, ◌<◌, ◌≤◌, Bool, true, false, cond, ◌⊎◌, inl, inr, List, [], ◌∷◌, ◌++◌, length, get_or, take, set, filter, refl, sym, ap, ◌∙◌, arith, Some, None, ltb}
+use Rattle.vmm_sys.proofs.Prelude.{◌≡◌, ℕ, zero, suc, ◌+◌, ◌<◌, ◌≤◌, Bool, true, false, cond, ◌⊎◌, inl, inr, List, [], ◌∷◌, ◌++◌, length, get_or, take, set, filter, refl, sym, ap, ◌∙◌, arith, Some, None, ltb, find, remove, position, Any, ltb-true, lt-ltb, false≢true, without_first}
 use Rattle.std.proofs.Math.Numerals.{one-add}
-use Rattle.std.specs.Prelude.{find, remove, position, Any}
 use Rattle.std.specs.List.{position_or_len}
-use Rattle.std.proofs.lemmas.Bool.{ltb-true, lt-ltb, false≢true}
-use Rattle.vmm_sys.specs.Lists.{without_first}
 
 module _ {A : Type 0} (p : A → Bool) where
   -- the first element that passes is the one at place a

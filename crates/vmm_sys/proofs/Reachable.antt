@@ -1,18 +1,13 @@
 -- What calls of a table keep: allowed values, and interests of open descriptors, one of each at most, without modes.
-use Rattle.std.proofs.Common.{◌≡◌, ℕ, zero, suc, ◌+◌, ◌<◌, ◌≤◌, Bool, true, false, cond, eqb, List, [], ◌∷◌, ◌++◌, length, take, set, filter, get_or, length-set, refl, sym, ap, ◌∙◌, subst, arith, Some, None}
-use Rattle.std.specs.Prelude.{remove, if◌then◌else◌}
+use Rattle.vmm_sys.proofs.Prelude.{◌≡◌, ℕ, zero, suc, ◌+◌, ◌<◌, ◌≤◌, Bool, true, false, cond, eqb, List, [], ◌∷◌, ◌++◌, length, take, set, filter, get_or, length-set, refl, sym, ap, ◌∙◌, subst, arith, Some, None, remove, if◌then◌else◌, eqb-true, none-some, length_push, append-nil, get_or_default, without_first}
 use Rattle.std.specs.List.{All, count_by}
 use Rattle.std.specs.List.Sorted.{IsPermutation}
-use Rattle.std.proofs.lemmas.Bool.{eqb-true}
-use Rattle.std.proofs.lemmas.Option.{none-some}
-use Rattle.std.proofs.lemmas.List.{length_push, append-nil, get_or_default}
 use Rattle.std.proofs.lemmas.List.Elements.{All-push, All-set, All-weaker, All-tail}
 use Rattle.std.proofs.lemmas.List.Sorted.{IsPermutation-refl, IsPermutation-sym, IsPermutation-cons, IsPermutation-trans, IsPermutation-middle, IsPermutation-remove, All-permutation, sum_by-IsPermutation}
 use Rattle.std.proofs.lemmas.List.Sums.{sum_by-cons, sum_by-append, sum_by-set, sum_by-remove}
 use Rattle.vmm_sys.specs.declared.entries.ControlOperation.TheVariants.{Add}
 use Rattle.vmm_sys.specs.declared.table.Source.{Source}
 use Rattle.vmm_sys.specs.declared.table.interests.Interest.{Interest}
-use Rattle.vmm_sys.specs.Lists.{without_first}
 use Rattle.vmm_sys.specs.Table.{TableState, IsReachable, HasAllowedValue, is_of, is_ready, has_mode, place_of, moved_back}
 use Rattle.vmm_sys.proofs.Places.{At, At-from_position, position-from_At}
 

@@ -1,13 +1,10 @@
 -- Whether an interest is ready depends on the state of its descriptor alone.
-use Rattle.std.proofs.Common.{◌≡◌, ◌≢◌, ℕ, zero, suc, List, [], ◌∷◌, ◌++◌, length, set, inl, inr, refl, ap, ◌∙◌, sym, Some}
-use Rattle.std.specs.Prelude.{slice_get, not, ◌==◌}
+use Rattle.vmm_sys.proofs.Prelude.{◌≡◌, ◌≢◌, ℕ, zero, suc, List, [], ◌∷◌, ◌++◌, length, set, inl, inr, refl, ap, ◌∙◌, sym, Some, slice_get, not, ◌==◌, cases_eq, AgreeBut}
 use Rattle.std.specs.Int.RustNames.{bit_and, bit_or}
-use Rattle.std.proofs.lemmas.Bool.{cases_eq}
 use Rattle.vmm_sys.specs.declared.table.Source.{Source}
 use Rattle.vmm_sys.specs.declared.table.interests.Interest.{Interest}
 use Rattle.vmm_sys.specs.EventSet.{bits_of}
 use Rattle.vmm_sys.specs.EpollEvent.{set_of}
-use Rattle.vmm_sys.specs.Interests.{AgreeBut}
 use Rattle.vmm_sys.specs.Table.{state_of, state_at, is_ready}
 
 by_state : (xs ys : List Source) (i : Interest) → state_at (slice_get xs i.descriptor) ≡ state_at (slice_get ys i.descriptor) → is_ready xs i ≡ is_ready ys i

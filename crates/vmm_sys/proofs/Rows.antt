@@ -1,15 +1,10 @@
 -- Marks held as bits: what a word's bits say of its marks.
-use Rattle.std.proofs.Common.{◌≡◌, ◌≢◌, ℕ, ◌+◌, ◌-◌, ◌*◌, ◌/◌, ◌%◌, ◌^◌, ◌<◌, ◌≤◌, Bool, true, false, List, ◌++◌, length, get_or, set, replicate, eqb, Some, Result, Ok, Err, take, refl, sym, ap, ◌∙◌, subst, inl, inr, arith, w64, lit<, length-set, length-append}
-use Rattle.std.specs.Prelude.{◌↔◌, if◌then◌else◌, is_ok, OnOk, bit_and, bit_or}
+use Rattle.vmm_sys.proofs.Prelude.{◌≡◌, ◌≢◌, ℕ, ◌+◌, ◌-◌, ◌*◌, ◌/◌, ◌%◌, ◌^◌, ◌<◌, ◌≤◌, Bool, true, false, List, ◌++◌, length, get_or, set, replicate, eqb, Some, Result, Ok, Err, take, refl, sym, ap, ◌∙◌, subst, inl, inr, arith, w64, lit<, length-set, length-append, ◌↔◌, if◌then◌else◌, is_ok, OnOk, bit_and, bit_or, cases_lt, cases_eq, eq-eqb, eqb-true, length-replicate, take_all, same_lists, get_or-set_same, get_or-set_other, get_or_past, get_or-replicate, get_or_append_left, get_or-append_right, slice_get-get_or, slice_get_within, get_or_from_slice_get, IsMarked, IsEmptyWord, NoneInWordFrom, IsFirstFrom}
 use Rattle.std.specs.Int.{bit_at, bit_not, trailing_zeros}
-use Rattle.std.proofs.lemmas.Bool.{cases_lt, cases_eq, eq-eqb, eqb-true}
-use Rattle.std.proofs.lemmas.List.{length-replicate, take_all, same_lists, get_or-set_same, get_or-set_other, get_or_past, get_or-replicate, get_or_append_left, get_or-append_right}
 use Rattle.std.proofs.lemmas.List.FromFn.{length-map-range_with_len, get_or-map-range_with_len}
 use Rattle.std.proofs.Math.Nat.{div-le_self, div-one}
 use Rattle.std.proofs.lemmas.Nat.{div-mul-add, mod-mul-add, shr-shr}
 use Rattle.std.proofs.lemmas.Nat.Bits.{bit_at-lt, bit_at-zero, bit_at_above, bit_at-trailing_zeros, same_from_bits_below, shr_and_one, bit_at_set_same, bit_at_set_other, bit_at_clear_same, bit_at_clear_other}
-use Rattle.std.proofs.lemmas.Option.{slice_get-get_or, slice_get_within, get_or_from_slice_get}
-use Rattle.vmm_sys.specs.ReadySet.{IsMarked, IsEmptyWord, NoneInWordFrom, IsFirstFrom}
 use Rattle.vmm_sys.specs.Row.{mark_at, marks_of}
 
 -- bit n of the words

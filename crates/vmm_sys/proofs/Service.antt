@@ -1,7 +1,5 @@
 -- No step of a table moves an interest back, and a wait moves a ready one forward or reports it.
-use Rattle.std.proofs.Common.{◌≡◌, ◌≢◌, ℕ, ℤ, pos, negsuc, zero, suc, ◌+◌, ◌*◌, ◌/◌, ◌<◌, ◌≤◌, Bool, true, false, inl, inr, List, [], ◌∷◌, ◌++◌, length, get_or, eqb, refl, sym, ap, ◌∙◌, subst, arith, Option, Some, None, Result, Ok, Err}
-use Rattle.std.specs.Prelude.{position, if◌then◌else◌, ◌==◌, nat_lt, nat_le, map}
-use Rattle.std.proofs.lemmas.Bool.{eqb-true, false≢true}
+use Rattle.vmm_sys.proofs.Prelude.{◌≡◌, ◌≢◌, ℕ, ℤ, pos, negsuc, zero, suc, ◌+◌, ◌*◌, ◌/◌, ◌<◌, ◌≤◌, Bool, true, false, inl, inr, List, [], ◌∷◌, ◌++◌, length, get_or, eqb, refl, sym, ap, ◌∙◌, subst, arith, Option, Some, None, Result, Ok, Err, position, if◌then◌else◌, ◌==◌, nat_lt, nat_le, map, eqb-true, false≢true, without_first}
 use Rattle.std.proofs.Math.Nat.{lt-mul-div-succ, mul-le-mul_right, mul_comm, zero-mul, suc-mul}
 use Rattle.vmm_sys.specs.declared.errno.TheConstants.Errno.{EINVAL, EAGAIN, EMFILE}
 use Rattle.vmm_sys.specs.declared.entries.EpollEvent.{EpollEvent}
@@ -13,7 +11,6 @@ use Rattle.vmm_sys.specs.declared.table.Source.{Source}
 use Rattle.vmm_sys.specs.declared.table.Source.TheVariants.{Counter, Line}
 use Rattle.vmm_sys.specs.declared.table.interests.Interest.{Interest}
 use Rattle.vmm_sys.specs.EventSet.{with_bits}
-use Rattle.vmm_sys.specs.Lists.{without_first}
 use Rattle.vmm_sys.specs.Table.{TableState, is_ready, is_of, place_of, chosen, has_mode, changed, ctl_at, opened, write_to, read_from, set_at, with_source, open_of, source_of, entry_of, Answers, ctl_of, moved_back}
 use Rattle.vmm_sys.specs.ServiceBound.{TableStep, Ctl, Wait, Write, Read, SetLine, AddCounter, AddLine, WithoutMemory, left_by, after, rooms, waits, Keeps, EachWaitHas, MovesForward, EachStepMovesForward, ReportedWithinRooms, ReportedWithinWaits}
 use Rattle.vmm_sys.proofs.Places.{At, At-from_position, position-from_At, At-append, At-set, At-remove, Here-from_find, without_first-At}

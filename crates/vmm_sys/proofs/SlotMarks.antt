@@ -1,10 +1,6 @@
 -- Marks at slots: which tests they stand for, and what a change keeps of that.
-use Rattle.std.proofs.Common.{◌≡◌, ◌≢◌, ℕ, ◌+◌, ◌<◌, ◌≤◌, Bool, true, false, inl, inr, List, [], ◌∷◌, ◌++◌, length, get_or, set, refl, ap, ◌∙◌, sym, subst, arith, Option, Some, None}
-use Rattle.std.proofs.lemmas.Bool.{cases_eq, cases_Bool}
-use Rattle.std.proofs.lemmas.List.{get_or-set_same, get_or-set_other, length-set, length_push, set_at}
-use Rattle.std.proofs.lemmas.Option.{none-some}
+use Rattle.vmm_sys.proofs.Prelude.{◌≡◌, ◌≢◌, ℕ, ◌+◌, ◌<◌, ◌≤◌, Bool, true, false, inl, inr, List, [], ◌∷◌, ◌++◌, length, get_or, set, refl, ap, ◌∙◌, sym, subst, arith, Option, Some, None, cases_eq, cases_Bool, get_or-set_same, get_or-set_other, length-set, length_push, set_at, none-some, slot_at, NoneHolds, AloneHolds, passes, AgreeBut}
 use Rattle.vmm_sys.specs.declared.table.interests.Interest.{Interest}
-use Rattle.vmm_sys.specs.Interests.{slot_at, NoneHolds, AloneHolds, passes, AgreeBut}
 use Rattle.vmm_sys.proofs.Held.{slot-within, slot-grown}
 use Rattle.vmm_sys.proofs.Slots.{holds-by}
 

@@ -1,13 +1,7 @@
 -- The slots of interests: which descriptor's is where, what is marked, and what a change of a slot does.
-use Rattle.std.proofs.Common.{◌≡◌, ℕ, zero, suc, ◌+◌, ◌-◌, ◌<◌, ◌≤◌, inl, inr, List, [], ◌∷◌, ◌++◌, length, set, map, refl, ap, ◌∙◌, sym, subst, arith, Option, Some, None}
-use Rattle.std.specs.Prelude.{position, remove, MatchOption}
-use Rattle.std.proofs.lemmas.Bool.{cases_eq, eq-eqb, ne_eqb, eqb-true}
-use Rattle.std.proofs.lemmas.List.{get_or-set_same, get_or-set_other, get_or_past, get_or_append_left, length-map, length-set, length_push, set_at, set-set}
+use Rattle.vmm_sys.proofs.Prelude.{◌≡◌, ℕ, zero, suc, ◌+◌, ◌-◌, ◌<◌, ◌≤◌, inl, inr, List, [], ◌∷◌, ◌++◌, length, set, map, refl, ap, ◌∙◌, sym, subst, arith, Option, Some, None, position, remove, MatchOption, cases_eq, eq-eqb, ne_eqb, eqb-true, get_or-set_same, get_or-set_other, get_or_past, get_or_append_left, length-map, length-set, length_push, set_at, set-set, none-some, same_Some, held, slot_at, place_at, Holds, NoneHolds, AloneHolds, AreInSlots}
 use Rattle.std.proofs.lemmas.List.Edits.{remove-append_right}
-use Rattle.std.proofs.lemmas.Option.{none-some, same_Some}
 use Rattle.vmm_sys.specs.declared.table.interests.Interest.{Interest}
-use Rattle.vmm_sys.specs.Lists.{held}
-use Rattle.vmm_sys.specs.Interests.{slot_at, place_at, Holds, NoneHolds, AloneHolds, AreInSlots}
 use Rattle.vmm_sys.specs.Table.{is_of}
 use Rattle.vmm_sys.proofs.Held.{held-append, slot-within, slot-grown, split-at}
 use Rattle.vmm_sys.proofs.Numbers.{NotIn, AreDifferent, AreBelow, length-distinct}

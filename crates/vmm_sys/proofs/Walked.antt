@@ -1,15 +1,8 @@
 -- A wait's walk from ready slot to ready slot: what was looked at, what is left, and what came to the back.
-use Rattle.std.proofs.Common.{◌≡◌, ℕ, zero, suc, ◌+◌, ◌-◌, ◌<◌, ◌≤◌, Bool, true, false, not, cond, inl, inr, List, [], ◌∷◌, ◌++◌, length, drop, set, map, filter, get_or, refl, ap, ◌∙◌, sym, arith, append_assoc, Option, Some, None}
-use Rattle.std.specs.Prelude.{slice_get, find}
-use Rattle.std.proofs.lemmas.Bool.{cases_lt, cases_Bool, false≢true}
-use Rattle.std.proofs.lemmas.List.{get_or_past, get_or_append_left, get_or-append_right, set_at, append-nil, map-append, length-append, length-map, length_push, drop_more, nil_from_length}
+use Rattle.vmm_sys.proofs.Prelude.{◌≡◌, ℕ, zero, suc, ◌+◌, ◌-◌, ◌<◌, ◌≤◌, Bool, true, false, not, cond, inl, inr, List, [], ◌∷◌, ◌++◌, length, drop, set, map, filter, get_or, refl, ap, ◌∙◌, sym, arith, append_assoc, Option, Some, None, slice_get, find, cases_lt, cases_Bool, false≢true, get_or_past, get_or_append_left, get_or-append_right, set_at, append-nil, map-append, length-append, length-map, length_push, drop_more, nil_from_length, get_or_from_slice_get, held, InterestsState, slot_at, passes, AreMarked, IsMarked, IsFirstFrom}
 use Rattle.std.proofs.lemmas.List.Elements.{filter-append}
-use Rattle.std.proofs.lemmas.Option.{get_or_from_slice_get}
 use Rattle.vmm_sys.specs.declared.entries.EpollEvent.{EpollEvent}
 use Rattle.vmm_sys.specs.declared.table.interests.Interest.{Interest}
-use Rattle.vmm_sys.specs.Lists.{held}
-use Rattle.vmm_sys.specs.Interests.{InterestsState, slot_at, passes, AreMarked}
-use Rattle.vmm_sys.specs.ReadySet.{IsMarked, IsFirstFrom}
 use Rattle.vmm_sys.proofs.Held.{held-append, held-full, slot-within, split-at}
 use Rattle.vmm_sys.proofs.Picks.{Picked, fails, IsDone, done_by_none}
 

@@ -1,6 +1,5 @@
-use Rattle.std.proofs.Common.{◌≡◌, ◌∙◌, sym, Some}
+use Rattle.vmm_sys.proofs.Prelude.{◌≡◌, ◌∙◌, sym, Some, slot_at}
 use Rattle.vmm_sys.specs.Table.{is_ready}
-use Rattle.vmm_sys.specs.Interests.{slot_at}
 use Rattle.vmm_sys.proofs.SlotMarks.{fit-renew, fit-none}
 use Rattle.vmm_sys.proofs.table.renew.Goals as goal
 

@@ -1,8 +1,5 @@
-use Rattle.std.proofs.Common.{◌≡◌, ℕ, ◌<◌, ◌≤◌, ◌+◌, ◌-◌, ◌∙◌, ◌++◌, ap, sym, subst, refl, length, drop, map}
+use Rattle.vmm_sys.proofs.Prelude.{◌≡◌, ℕ, ◌<◌, ◌≤◌, ◌+◌, ◌-◌, ◌∙◌, ◌++◌, ap, sym, subst, refl, length, drop, map, held, InterestsState, IsMarked}
 use Rattle.vmm_sys.specs.Table.{is_ready, entry_of, first_ready}
-use Rattle.vmm_sys.specs.Lists.{held}
-use Rattle.vmm_sys.specs.Interests.{InterestsState}
-use Rattle.vmm_sys.specs.ReadySet.{IsMarked}
 use Rattle.vmm_sys.proofs.InPlace.{StandLast, done_in_place}
 use Rattle.vmm_sys.proofs.table.report.Goals as goal
 

@@ -1,9 +1,5 @@
-use Rattle.std.proofs.Common.{◌≡◌, ◌∙◌, ◌++◌, ap, sym, subst, arith, length, drop, map, set, inl, inr, true, false, Some}
-use Rattle.std.proofs.lemmas.Bool.{cases_lt, false≢true}
-use Rattle.std.proofs.lemmas.Option.{get_or_from_slice_get}
+use Rattle.vmm_sys.proofs.Prelude.{◌≡◌, ◌∙◌, ◌++◌, ap, sym, subst, arith, length, drop, map, set, inl, inr, true, false, Some, cases_lt, false≢true, get_or_from_slice_get, held, slot_at, passes}
 use Rattle.vmm_sys.specs.Table.{is_ready, entry_of, first_ready, first_ready_last}
-use Rattle.vmm_sys.specs.Lists.{held}
-use Rattle.vmm_sys.specs.Interests.{slot_at, passes}
 use Rattle.vmm_sys.proofs.Picks.{IsDone, done_by_room}
 use Rattle.vmm_sys.proofs.Walked.{Walked-start, Walked-more, picked, stays_in_use, done_by_marks, done_by_all}
 use Rattle.vmm_sys.proofs.table.report_and_move.Goals as goal

@@ -1,7 +1,5 @@
-use Rattle.std.proofs.Common.{◌∙◌, ap, sym, arith, drop, set, map, ◌++◌}
-use Rattle.std.proofs.lemmas.List.{take_all}
+use Rattle.vmm_sys.proofs.Prelude.{◌∙◌, ap, sym, arith, drop, set, map, ◌++◌, take_all, held}
 use Rattle.vmm_sys.specs.Table.{entry_of}
-use Rattle.vmm_sys.specs.Lists.{held}
 use Rattle.vmm_sys.proofs.InPlace.{written, length_last}
 use Rattle.vmm_sys.proofs.table.report_from.Goals as goal
 

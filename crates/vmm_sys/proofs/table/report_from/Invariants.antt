@@ -1,5 +1,4 @@
-use Rattle.std.specs.Prelude.{◌≡◌, ◌++◌, take, drop, map}
-use Rattle.vmm_sys.specs.Lists.{held}
+use Rattle.vmm_sys.proofs.Prelude.{◌≡◌, ◌++◌, take, drop, map, held}
 use Rattle.vmm_sys.specs.Table.{entry_of}
 use Rattle.vmm_sys.proofs.table.report_from.Given as goal
 

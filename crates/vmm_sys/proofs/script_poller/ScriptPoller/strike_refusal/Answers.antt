@@ -1,5 +1,4 @@
-use Rattle.std.proofs.Common.{◌≡◌, Some, None, get_or, refl, sym, ap, subst}
-use Rattle.std.specs.Prelude.{position}
+use Rattle.vmm_sys.proofs.Prelude.{◌≡◌, Some, None, get_or, refl, sym, ap, subst, position}
 use Rattle.std.proofs.lemmas.Int.{to_z-of_z}
 use mir.Syntax.{w32}
 use Rattle.vmm_sys.specs.ScriptPoller.{Script, refuses, error_of}

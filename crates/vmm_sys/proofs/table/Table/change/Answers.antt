@@ -1,6 +1,5 @@
-use Rattle.std.proofs.Common.{◌≡◌, ◌<◌, false, length, refl, rules, subst, sym}
+use Rattle.vmm_sys.proofs.Prelude.{◌≡◌, ◌<◌, false, length, refl, rules, subst, sym, held}
 use Rattle.vmm_sys.specs.declared.entries.ControlOperation.TheVariants.{Add}
-use Rattle.vmm_sys.specs.Lists.{held}
 use Rattle.vmm_sys.specs.Table.{TableState, has_mode}
 use Rattle.vmm_sys.proofs.Reachable.{reachable-add, reachable-modify, reachable-delete}
 use Rattle.vmm_sys.proofs.Slots.{stands, no-place}

@@ -1,5 +1,4 @@
-use Rattle.std.proofs.Common.{◌≡◌, ◌∙◌, ap, sym, subst, false, length, ltb}
-use Rattle.std.specs.Prelude.{find, is_some}
+use Rattle.vmm_sys.proofs.Prelude.{◌≡◌, ◌∙◌, ap, sym, subst, false, length, ltb, find, is_some}
 use Rattle.vmm_sys.specs.Table.{TableState, is_ready}
 use Rattle.vmm_sys.proofs.FirstReady.{passes_by, none_passes}
 use Rattle.vmm_sys.proofs.table.Table.has_ready.Goals as goal

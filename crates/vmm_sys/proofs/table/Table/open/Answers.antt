@@ -1,8 +1,5 @@
-use Rattle.std.proofs.Common.{◌≡◌, ◌+◌, arith, rules, length, ◌++◌, ◌∷◌, []}
-use Rattle.std.proofs.lemmas.List.{length_push}
-use Rattle.vmm_sys.specs.Lists.{held}
+use Rattle.vmm_sys.proofs.Prelude.{◌≡◌, ◌+◌, arith, rules, length, ◌++◌, ◌∷◌, [], length_push, held, NoneHolds}
 use Rattle.vmm_sys.specs.Table.{is_ready}
-use Rattle.vmm_sys.specs.Interests.{NoneHolds}
 use Rattle.vmm_sys.proofs.Reachable.{reachable-open}
 use Rattle.vmm_sys.proofs.Readiness.{agree-push}
 use Rattle.vmm_sys.proofs.SlotMarks.{fit-none, fit-marks}

@@ -1,5 +1,4 @@
-use Rattle.std.proofs.Common.{length}
-use Rattle.vmm_sys.specs.Lists.{held}
+use Rattle.vmm_sys.proofs.Prelude.{length, held}
 use Rattle.vmm_sys.proofs.Reachable.{reachable-moved}
 use Rattle.vmm_sys.proofs.table.Table.report_ready.Goals as goal
 

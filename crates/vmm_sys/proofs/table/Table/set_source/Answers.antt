@@ -1,7 +1,4 @@
-use Rattle.std.proofs.Common.{◌≡◌, ◌<◌, sym, subst, set, length, length-set, rules, refl, Some}
-use Rattle.std.specs.Prelude.{slice_get}
-use Rattle.std.proofs.lemmas.Option.{slice_get_read}
-use Rattle.vmm_sys.specs.Lists.{held}
+use Rattle.vmm_sys.proofs.Prelude.{◌≡◌, ◌<◌, sym, subst, set, length, length-set, rules, refl, Some, slice_get, slice_get_read, held}
 use Rattle.vmm_sys.specs.Table.{TableState, is_ready, state_of}
 use Rattle.vmm_sys.proofs.Reachable.{reachable-set}
 use Rattle.vmm_sys.proofs.Readiness.{agree-set, same-state}

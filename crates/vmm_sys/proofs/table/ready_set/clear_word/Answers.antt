@@ -1,5 +1,4 @@
-use Rattle.std.proofs.Common.{◌/◌}
-use Rattle.std.proofs.lemmas.Bool.{iff_false}
+use Rattle.vmm_sys.proofs.Prelude.{◌/◌, iff_false}
 use Rattle.vmm_sys.proofs.Marks.{clear_last, clear_further}
 use Rattle.vmm_sys.proofs.table.ready_set.clear_word.Goals as goal
 

@@ -1,5 +1,4 @@
-use Rattle.std.proofs.Common.{◌/◌, arith}
-use Rattle.std.proofs.lemmas.Bool.{iff_false}
+use Rattle.vmm_sys.proofs.Prelude.{◌/◌, arith, iff_false}
 use Rattle.vmm_sys.proofs.Marks.{set_first, set_further}
 use Rattle.vmm_sys.proofs.table.ready_set.mark_word.Goals as goal
 

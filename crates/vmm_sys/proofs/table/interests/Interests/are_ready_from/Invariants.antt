@@ -1,5 +1,4 @@
-use Rattle.std.specs.Prelude.{ℕ, ◌<◌, ◌≤◌}
-use Rattle.vmm_sys.specs.ReadySet.{IsMarked}
+use Rattle.vmm_sys.proofs.Prelude.{ℕ, ◌<◌, ◌≤◌, IsMarked}
 use Rattle.vmm_sys.proofs.table.interests.Interests.are_ready_from.Given as goal
 
 abbrev pub invariant-loop-s : goal.invariant-loop-s

@@ -1,5 +1,4 @@
-use Rattle.std.proofs.Common.{◌<◌, ◌≤◌, ◌*◌, ◌+◌, sym, subst, arith, length, rules}
-use Rattle.vmm_sys.specs.Interests.{InterestsState}
+use Rattle.vmm_sys.proofs.Prelude.{◌<◌, ◌≤◌, ◌*◌, ◌+◌, sym, subst, arith, length, rules, InterestsState}
 use Rattle.vmm_sys.proofs.table.interests.Interests.close_slot.Goals as goal
 
 pub overflow_add-after : goal.overflow_add-after

@@ -1,6 +1,4 @@
-use Rattle.std.proofs.Common.{◌≡◌, ℕ, ◌≤◌, ◌∙◌, ap, sym, subst, arith, length, take}
-use Rattle.std.proofs.lemmas.List.{length-take}
-use Rattle.vmm_sys.specs.Interests.{InterestsState, AreMarked, slot_at}
+use Rattle.vmm_sys.proofs.Prelude.{◌≡◌, ℕ, ◌≤◌, ◌∙◌, ap, sym, subst, arith, length, take, length-take, InterestsState, AreMarked, slot_at}
 use Rattle.vmm_sys.proofs.Closing.{Closing-start, Closing-step, closed_same}
 use Rattle.vmm_sys.proofs.Slots.{in-slots-same}
 use Rattle.vmm_sys.proofs.SlotMarks.{fit-same}

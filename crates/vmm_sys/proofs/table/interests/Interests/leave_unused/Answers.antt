@@ -1,7 +1,4 @@
-use Rattle.std.proofs.Common.{◌≤◌, ◌∙◌, ap, subst, arith, length, Some}
-use Rattle.std.proofs.lemmas.List.{length-map}
-use Rattle.vmm_sys.specs.Lists.{held}
-use Rattle.vmm_sys.specs.Interests.{InterestsState}
+use Rattle.vmm_sys.proofs.Prelude.{◌≤◌, ◌∙◌, ap, subst, arith, length, Some, length-map, held, InterestsState}
 use Rattle.vmm_sys.proofs.Held.{held-full}
 use Rattle.vmm_sys.proofs.Slots.{held-enough}
 use Rattle.vmm_sys.proofs.table.interests.Interests.leave_unused.Goals as goal

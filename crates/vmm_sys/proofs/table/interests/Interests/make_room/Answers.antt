@@ -1,6 +1,4 @@
-use Rattle.std.proofs.Common.{◌≡◌, ◌<◌, ◌++◌, sym, subst, arith, None, ◌∷◌, [], ℕ}
-use Rattle.std.proofs.lemmas.List.{length_push}
-use Rattle.vmm_sys.specs.Interests.{InterestsState, Holds}
+use Rattle.vmm_sys.proofs.Prelude.{◌≡◌, ◌<◌, ◌++◌, sym, subst, arith, None, ◌∷◌, [], ℕ, length_push, InterestsState, Holds}
 use Rattle.vmm_sys.proofs.Slots.{in-slots-grown, holds-below}
 use Rattle.vmm_sys.proofs.Held.{slot-grown}
 use Rattle.vmm_sys.proofs.table.interests.Interests.make_room.Goals as goal

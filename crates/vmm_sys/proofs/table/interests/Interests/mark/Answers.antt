@@ -1,5 +1,4 @@
-use Rattle.std.proofs.Common.{◌≡◌, refl, rules, set, subst}
-use Rattle.vmm_sys.specs.Interests.{InterestsState}
+use Rattle.vmm_sys.proofs.Prelude.{◌≡◌, refl, rules, set, subst, InterestsState}
 use Rattle.vmm_sys.proofs.Marks.{same_set}
 use Rattle.vmm_sys.proofs.table.interests.Interests.mark.Goals as goal
 

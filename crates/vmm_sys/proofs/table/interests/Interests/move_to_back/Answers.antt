@@ -1,7 +1,4 @@
-use Rattle.std.proofs.Common.{◌≡◌, ◌<◌, ◌*◌, ◌∙◌, sym, subst, arith, length, None}
-use Rattle.std.specs.Prelude.{IsSome}
-use Rattle.std.proofs.lemmas.List.{length_push}
-use Rattle.vmm_sys.specs.Interests.{InterestsState, slot_at, AreMarked}
+use Rattle.vmm_sys.proofs.Prelude.{◌≡◌, ◌<◌, ◌*◌, ◌∙◌, sym, subst, arith, length, None, IsSome, length_push, InterestsState, slot_at, AreMarked}
 use Rattle.vmm_sys.proofs.Held.{slot-moved, slot-grown}
 use Rattle.vmm_sys.proofs.Slots.{in-slots-same}
 use Rattle.vmm_sys.proofs.SlotMarks.{fit-grown}

@@ -1,5 +1,4 @@
-use Rattle.std.proofs.Common.{◌≡◌, ◌<◌, ◌∙◌, ◌++◌, ◌∷◌, [], ap, arith, length, Some, rules}
-use Rattle.vmm_sys.specs.Interests.{InterestsState}
+use Rattle.vmm_sys.proofs.Prelude.{◌≡◌, ◌<◌, ◌∙◌, ◌++◌, ◌∷◌, [], ap, arith, length, Some, rules, InterestsState}
 use Rattle.vmm_sys.proofs.Held.{held-append}
 use Rattle.vmm_sys.proofs.Slots.{none-kept}
 use Rattle.vmm_sys.proofs.SlotMarks.{fit-push}

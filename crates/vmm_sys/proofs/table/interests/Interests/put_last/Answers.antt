@@ -1,6 +1,4 @@
-use Rattle.std.proofs.Common.{◌<◌, ◌*◌, sym, subst, arith, length, length-set, Some}
-use Rattle.std.proofs.lemmas.List.{length_push}
-use Rattle.vmm_sys.specs.Interests.{InterestsState, NoneHolds}
+use Rattle.vmm_sys.proofs.Prelude.{◌<◌, ◌*◌, sym, subst, arith, length, length-set, Some, length_push, InterestsState, NoneHolds}
 use Rattle.vmm_sys.proofs.Slots.{in-slots-push}
 use Rattle.vmm_sys.proofs.table.interests.Interests.put_last.Goals as goal
 

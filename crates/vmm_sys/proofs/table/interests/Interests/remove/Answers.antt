@@ -1,7 +1,4 @@
-use Rattle.std.proofs.Common.{◌≡◌, ◌+◌, ◌≤◌, ◌∙◌, ap, arith, length, take, None}
-use Rattle.std.proofs.lemmas.List.{get_or-set_same, length-take}
-use Rattle.vmm_sys.specs.Lists.{held}
-use Rattle.vmm_sys.specs.Interests.{InterestsState, slot_at}
+use Rattle.vmm_sys.proofs.Prelude.{◌≡◌, ◌+◌, ◌≤◌, ◌∙◌, ap, arith, length, take, None, get_or-set_same, length-take, held, InterestsState, slot_at}
 use Rattle.vmm_sys.proofs.Held.{slot-last, held-cut}
 use Rattle.vmm_sys.proofs.Slots.{holds-within, in-slots-same}
 use Rattle.vmm_sys.proofs.table.interests.Interests.remove.Goals as goal

@@ -1,5 +1,4 @@
-use Rattle.std.proofs.Common.{sym, subst, length-set}
-use Rattle.vmm_sys.specs.Interests.{InterestsState, Holds}
+use Rattle.vmm_sys.proofs.Prelude.{sym, subst, length-set, InterestsState, Holds}
 use Rattle.vmm_sys.proofs.Slots.{in-slots-replace}
 use Rattle.vmm_sys.proofs.table.interests.Interests.replace.Goals as goal
 

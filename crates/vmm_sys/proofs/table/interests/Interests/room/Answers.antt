@@ -1,6 +1,4 @@
-use Rattle.std.proofs.Common.{◌≤◌, length, subst}
-use Rattle.vmm_sys.specs.Interests.{InterestsState}
-use Rattle.vmm_sys.specs.Lists.{held}
+use Rattle.vmm_sys.proofs.Prelude.{◌≤◌, length, subst, InterestsState, held}
 use Rattle.vmm_sys.proofs.Slots.{held-enough}
 use Rattle.vmm_sys.proofs.table.interests.Interests.room.Goals as goal
 

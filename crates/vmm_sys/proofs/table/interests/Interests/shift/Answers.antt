@@ -1,7 +1,4 @@
-use Rattle.std.proofs.Common.{◌≡◌, ◌<◌, ◌∙◌, ap, sym, subst, refl, arith, length, length-set, get_or, Some, None}
-use Rattle.vmm_sys.specs.Interests.{InterestsState, slot_at, AreMarkedBut}
-use Rattle.std.specs.Prelude.{IsSome}
-use Rattle.std.proofs.lemmas.List.{get_or_read}
+use Rattle.vmm_sys.proofs.Prelude.{◌≡◌, ◌<◌, ◌∙◌, ap, sym, subst, refl, arith, length, length-set, get_or, Some, None, InterestsState, slot_at, AreMarkedBut, IsSome, get_or_read}
 use Rattle.vmm_sys.proofs.Held.{slot-within, some-within}
 use Rattle.vmm_sys.proofs.Slots.{in-slots-shift, holds-below, holds-by}
 use Rattle.vmm_sys.proofs.SlotMarks.{fit-shift}

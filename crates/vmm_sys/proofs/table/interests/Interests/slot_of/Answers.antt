@@ -1,7 +1,4 @@
-use Rattle.std.proofs.Common.{◌<◌, length, sym, subst, None}
-use Rattle.std.specs.Prelude.{MatchOption}
-use Rattle.std.proofs.lemmas.List.{get_or_read}
-use Rattle.vmm_sys.specs.Interests.{InterestsState, NoneHolds, AloneHolds}
+use Rattle.vmm_sys.proofs.Prelude.{◌<◌, length, sym, subst, None, MatchOption, get_or_read, InterestsState, NoneHolds, AloneHolds}
 use Rattle.vmm_sys.proofs.Slots.{slot-of}
 use Rattle.vmm_sys.proofs.table.interests.Interests.slot_of.Goals as goal
 

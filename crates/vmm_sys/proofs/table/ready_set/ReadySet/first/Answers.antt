@@ -1,6 +1,4 @@
-use Rattle.std.proofs.Common.{sym, subst}
-use Rattle.std.specs.Prelude.{MatchOption}
-use Rattle.vmm_sys.specs.ReadySet.{IsFirstFrom, NoneFrom}
+use Rattle.vmm_sys.proofs.Prelude.{sym, subst, MatchOption, IsFirstFrom, NoneFrom}
 use Rattle.vmm_sys.proofs.Marks.{below-first}
 use Rattle.vmm_sys.proofs.table.ready_set.ReadySet.first.Goals as goal
 

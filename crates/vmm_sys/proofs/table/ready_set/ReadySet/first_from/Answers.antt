@@ -1,6 +1,4 @@
-use Rattle.std.proofs.Common.{sym, subst, max}
-use Rattle.std.specs.Prelude.{MatchOption}
-use Rattle.vmm_sys.specs.ReadySet.{IsFirstFrom, NoneFrom}
+use Rattle.vmm_sys.proofs.Prelude.{sym, subst, max, MatchOption, IsFirstFrom, NoneFrom}
 use Rattle.vmm_sys.proofs.Marks.{first_from-lowest}
 use Rattle.vmm_sys.proofs.table.ready_set.ReadySet.first_from.Goals as goal
 

@@ -1,5 +1,4 @@
-use Rattle.std.proofs.Common.{◌<◌, Bool, List, length, sym, subst, arith}
-use Rattle.std.proofs.lemmas.Bool.{iff_false}
+use Rattle.vmm_sys.proofs.Prelude.{◌<◌, Bool, List, length, sym, subst, arith, iff_false}
 use Rattle.vmm_sys.proofs.Marks.{below-set, set_first, set_further}
 use Rattle.vmm_sys.proofs.table.ready_set.ReadySet.insert.Goals as goal
 

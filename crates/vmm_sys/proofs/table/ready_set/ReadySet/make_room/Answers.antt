@@ -1,5 +1,4 @@
-use Rattle.std.proofs.Common.{◌≤◌, ◌*◌, ◌∙◌, length, ap, sym, arith}
-use Rattle.std.proofs.lemmas.List.{append-nil}
+use Rattle.vmm_sys.proofs.Prelude.{◌≤◌, ◌*◌, ◌∙◌, length, ap, sym, arith, append-nil}
 use Rattle.vmm_sys.proofs.Marks.{below-grown, grown, length-longer, longer_or_same}
 use Rattle.vmm_sys.proofs.table.ready_set.ReadySet.make_room.Goals as goal
 

@@ -1,6 +1,4 @@
-use Rattle.std.proofs.Common.{subst}
-use Rattle.std.specs.Prelude.{MatchOption}
-use Rattle.vmm_sys.specs.ReadySet.{IsFirstFrom, NoneFrom}
+use Rattle.vmm_sys.proofs.Prelude.{subst, MatchOption, IsFirstFrom, NoneFrom}
 use Rattle.vmm_sys.proofs.Marks.{found}
 use Rattle.vmm_sys.proofs.table.ready_set.ReadySet.search.Goals as goal
 

@@ -1,7 +1,5 @@
-use Rattle.std.proofs.Common.{◌*◌, ◌/◌, ◌%◌, ◌<◌, ◌≤◌, ◌^◌, ◌∙◌, ℕ, Bool, false, List, length, set, ap, sym, arith, w64}
-use Rattle.std.specs.Prelude.{bit_and}
+use Rattle.vmm_sys.proofs.Prelude.{◌*◌, ◌/◌, ◌%◌, ◌<◌, ◌≤◌, ◌^◌, ◌∙◌, ℕ, Bool, false, List, length, set, ap, sym, arith, w64, bit_and, get_or_read, get_or-set_same}
 use Rattle.std.specs.Int.{bit_not}
-use Rattle.std.proofs.lemmas.List.{get_or_read, get_or-set_same}
 use Rattle.std.proofs.lemmas.Nat.{and_le_l}
 use Rattle.vmm_sys.proofs.Rows.{length-marks_of, tests_empty, clear_bit}
 use Rattle.vmm_sys.proofs.table.ready_set.row.Row.clear.Goals as goal

@@ -1,7 +1,4 @@
-use Rattle.std.proofs.Common.{◌≡◌, ◌/◌, ◌%◌, ◌<◌, ◌^◌, true, length, eqb, ap, subst, arith}
-use Rattle.std.specs.Prelude.{◌↔◌, bit_and}
-use Rattle.std.proofs.lemmas.List.{get_or_read}
-use Rattle.vmm_sys.specs.ReadySet.{IsMarked}
+use Rattle.vmm_sys.proofs.Prelude.{◌≡◌, ◌/◌, ◌%◌, ◌<◌, ◌^◌, true, length, eqb, ap, subst, arith, ◌↔◌, bit_and, get_or_read, IsMarked}
 use Rattle.vmm_sys.proofs.Rows.{length-marks_of, tests_mark}
 use Rattle.vmm_sys.proofs.table.ready_set.row.Row.contains.Goals as goal
 

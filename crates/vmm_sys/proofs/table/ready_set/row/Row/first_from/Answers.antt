@@ -1,6 +1,4 @@
-use Rattle.std.proofs.Common.{true, inl, inr, arith}
-use Rattle.std.proofs.lemmas.Bool.{cases_lt}
-use Rattle.std.proofs.lemmas.Option.{slice_get_within}
+use Rattle.vmm_sys.proofs.Prelude.{true, inl, inr, arith, cases_lt, slice_get_within}
 use Rattle.vmm_sys.proofs.table.ready_set.row.Row.first_from.Goals as goal
 
 pub returns : goal.returns

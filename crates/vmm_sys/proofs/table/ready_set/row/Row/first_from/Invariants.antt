@@ -1,5 +1,4 @@
-use Rattle.std.proofs.Common.{ℕ, ◌<◌, ◌≤◌, ◌-◌, length}
-use Rattle.vmm_sys.specs.ReadySet.{IsMarked}
+use Rattle.vmm_sys.proofs.Prelude.{ℕ, ◌<◌, ◌≤◌, ◌-◌, length, IsMarked}
 use Rattle.vmm_sys.proofs.table.ready_set.row.Row.first_from.Given as goal
 
 abbrev pub invariant-loop-from : goal.invariant-loop-from

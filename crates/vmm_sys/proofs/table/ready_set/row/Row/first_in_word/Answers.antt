@@ -1,6 +1,5 @@
-use Rattle.std.proofs.Common.{◌+◌, ◌*◌, ◌<◌, ◌≤◌, ◌^◌, ◌∙◌, w64, length, get_or, ap, subst, sym, arith}
+use Rattle.vmm_sys.proofs.Prelude.{◌+◌, ◌*◌, ◌<◌, ◌≤◌, ◌^◌, ◌∙◌, w64, length, get_or, ap, subst, sym, arith, IsEmptyWord, IsFirstFrom}
 use Rattle.std.specs.Int.{trailing_zeros}
-use Rattle.vmm_sys.specs.ReadySet.{IsEmptyWord, IsFirstFrom}
 use Rattle.vmm_sys.proofs.Rows.{empty_from_zero, empty_past, first_of_word}
 use Rattle.vmm_sys.proofs.table.ready_set.row.Row.first_in_word.Goals as goal
 

@@ -1,6 +1,5 @@
-use Rattle.std.proofs.Common.{◌+◌, ◌<◌, ◌≤◌, ◌/◌, ◌%◌, ◌^◌, ◌∙◌, w64, length, get_or, refl, ap, subst, arith}
+use Rattle.vmm_sys.proofs.Prelude.{◌+◌, ◌<◌, ◌≤◌, ◌/◌, ◌%◌, ◌^◌, ◌∙◌, w64, length, get_or, refl, ap, subst, arith, IsFirstFrom, NoneInWordFrom}
 use Rattle.std.specs.Int.{trailing_zeros}
-use Rattle.vmm_sys.specs.ReadySet.{IsFirstFrom, NoneInWordFrom}
 use Rattle.vmm_sys.proofs.Rows.{none_in_word, first_in_word, none_past}
 use Rattle.vmm_sys.proofs.table.ready_set.row.Row.first_in_word_from.Goals as goal
 

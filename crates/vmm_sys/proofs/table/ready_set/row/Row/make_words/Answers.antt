@@ -1,7 +1,5 @@
-use Rattle.std.proofs.Common.{◌≡◌, ◌≤◌, ◌*◌, ◌-◌, ◌++◌, ◌∙◌, length, replicate, ap, sym, subst, arith, false}
-use Rattle.std.proofs.lemmas.List.{append-nil}
+use Rattle.vmm_sys.proofs.Prelude.{◌≡◌, ◌≤◌, ◌*◌, ◌-◌, ◌++◌, ◌∙◌, length, replicate, ap, sym, subst, arith, false, append-nil, OnOk}
 use Rattle.vmm_sys.proofs.Rows.{length-marks_of, resized}
-use Rattle.std.specs.Prelude.{OnOk}
 use Rattle.vmm_sys.specs.Row.{marks_of}
 use Rattle.vmm_sys.proofs.table.ready_set.row.Row.make_words.Goals as goal
 

@@ -1,7 +1,4 @@
-use Rattle.std.proofs.Common.{◌≡◌, ◌*◌, ◌/◌, ◌<◌, ◌^◌, ◌∙◌, Bool, true, List, length, set, eqb, ap, subst, arith}
-use Rattle.std.specs.Prelude.{◌↔◌}
-use Rattle.std.proofs.lemmas.List.{get_or_read}
-use Rattle.vmm_sys.specs.ReadySet.{IsEmptyWord}
+use Rattle.vmm_sys.proofs.Prelude.{◌≡◌, ◌*◌, ◌/◌, ◌<◌, ◌^◌, ◌∙◌, Bool, true, List, length, set, eqb, ap, subst, arith, ◌↔◌, get_or_read, IsEmptyWord}
 use Rattle.vmm_sys.proofs.Rows.{length-marks_of, tests_empty, set_bit}
 use Rattle.vmm_sys.proofs.table.ready_set.row.Row.set.Goals as goal
 
