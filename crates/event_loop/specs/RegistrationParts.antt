@@ -21,7 +21,9 @@ pub record BatchState : Type 0 where
   pub room : ℕ
 
 abbrev pub batch_state_code : Coded BatchState
-batch_state_code = code_by (ℕ × (List (Event × Bool) × ℕ)) (coded× coded_ℕ (coded× (coded_list (coded× event_code coded_bool)) coded_ℕ)) (λ b. (b.capacity, (b.ready, b.room))) (λ p. record { capacity = p.0; ready = p.1.0; room = p.1.1 }) (λ _. refl)
+batch_state_code =
+    code_by (ℕ × (List (Event × Bool) × ℕ)) (coded× coded_ℕ (coded× (coded_list (coded× event_code coded_bool)) coded_ℕ))
+    (λ b. (b.capacity, (b.ready, b.room))) (λ p. record { capacity = p.0; ready = p.1.0; room = p.1.1 }) (λ _. refl)
 
 -- the registrations where no batch is under way
 abbrev pub between_batches : OwnerState → Registrations

@@ -16,7 +16,9 @@ pub record RegistrationState : Type 0 where
   pub ready : List (Event × Bool)
 
 abbrev pub registration_state_code : Coded RegistrationState
-registration_state_code = code_by (OwnerMap × (ℕ × (ℕ × List (Event × Bool)))) (coded× owner_map_code (coded× coded_ℕ (coded× coded_ℕ (coded_list (coded× event_code coded_bool))))) (λ b. (b.owners, (b.endpoint, (b.capacity, b.ready)))) (λ p. record { owners = p.0; endpoint = p.1.0; capacity = p.1.1.0; ready = p.1.1.1 }) (λ _. refl)
+registration_state_code =
+    code_by (OwnerMap × (ℕ × (ℕ × List (Event × Bool)))) (coded× owner_map_code (coded× coded_ℕ (coded× coded_ℕ (coded_list (coded× event_code coded_bool)))))
+    (λ b. (b.owners, (b.endpoint, (b.capacity, b.ready)))) (λ p. record { owners = p.0; endpoint = p.1.0; capacity = p.1.1.0; ready = p.1.1.1 }) (λ _. refl)
 
 -- the events that aren't cancelled
 abbrev pub not_cancelled : List (Event × Bool) → List Event

@@ -40,7 +40,8 @@ faulty_after_wait f room = if is_refused f then counted f else record (counted f
 -- its state as a tree of numbers: different states have different codes
 abbrev pub faulty_code : Coded Faulty
 faulty_code =
-    code_by (Script × (ℕ × (Errno × ℕ))) (coded× script_code (coded× coded_ℕ (coded× errno_code coded_ℕ))) (λ f. (f.script, (f.at, (f.errno, f.calls)))) (λ p. record { script = p.0; at = p.1.0; errno = p.1.1.0; calls = p.1.1.1 }) (λ _. refl)
+    code_by (Script × (ℕ × (Errno × ℕ))) (coded× script_code (coded× coded_ℕ (coded× errno_code coded_ℕ)))
+    (λ f. (f.script, (f.at, (f.errno, f.calls)))) (λ p. record { script = p.0; at = p.1.0; errno = p.1.1.0; calls = p.1.1.1 }) (λ _. refl)
 
 -- the one answer of `ctl`, and the one state after it
 abbrev pub MayCtl : Gv → ControlOperation → ℤ → EpollEvent → Result (Unit {0}) Errno → Gv → Type 0
@@ -50,4 +51,5 @@ MayCtl before op fd event answer after =
 -- the one answer of `wait` with its entries, and the one state after it
 abbrev pub MayWait : Gv → ℤ → ℕ → Result ℕ Errno → List EpollEvent → Gv → Type 0
 MayWait before ms room answer entries after =
-    (f : Faulty) × (before ≡ faulty_code.code f) × (answer ≡ answered_count (answer_to_wait f room)) × (entries ≡ answered_entries (answer_to_wait f room)) × (after ≡ faulty_code.code (faulty_after_wait f room))
+    (f : Faulty) × (before ≡ faulty_code.code f) × (answer ≡ answered_count (answer_to_wait f room))
+    × (entries ≡ answered_entries (answer_to_wait f room)) × (after ≡ faulty_code.code (faulty_after_wait f room))

@@ -86,12 +86,15 @@ answered_count (Ok events) = Ok (length events)
 answered_count (Err errno) = Err errno
 
 abbrev refusal_code : Coded Refusal
-refusal_code = code_by (ControlOperation × (ℤ × Errno)) (coded× operation_code (coded× coded_ℤ errno_code)) (λ r. (r.op, (r.fd, r.errno))) (λ p. record { op = p.0; fd = p.1.0; errno = p.1.1 }) (λ _. refl)
+refusal_code =
+    code_by (ControlOperation × (ℤ × Errno)) (coded× operation_code (coded× coded_ℤ errno_code))
+    (λ r. (r.op, (r.fd, r.errno))) (λ p. record { op = p.0; fd = p.1.0; errno = p.1.1 }) (λ _. refl)
 
 -- a script as a tree of numbers: different scripts have different codes
 abbrev pub script_code : Coded Script
 script_code =
-    code_by (List Answer × List Refusal) (coded× (coded_list (coded_result (coded_list event_code) errno_code)) (coded_list refusal_code)) (λ s. (s.answers, s.refusals)) (λ p. record { answers = p.0; refusals = p.1 }) (λ _. refl)
+    code_by (List Answer × List Refusal) (coded× (coded_list (coded_result (coded_list event_code) errno_code)) (coded_list refusal_code))
+    (λ s. (s.answers, s.refusals)) (λ p. record { answers = p.0; refusals = p.1 }) (λ _. refl)
 
 -- the one answer of `ctl`, and the one state after it
 abbrev pub MayCtl : Gv → ControlOperation → ℤ → EpollEvent → Result (Unit {0}) Errno → Gv → Type 0
@@ -101,4 +104,5 @@ MayCtl before op fd event answer after =
 -- the one answer of `wait` with its entries, and the one state after it
 abbrev pub MayWait : Gv → ℤ → ℕ → Result ℕ Errno → List EpollEvent → Gv → Type 0
 MayWait before ms room answer entries after =
-    (s : Script) × (before ≡ script_code.code s) × (answer ≡ answered_count (next_answer s.answers room)) × (entries ≡ answered_entries (next_answer s.answers room)) × (after ≡ script_code.code (after_wait s room))
+    (s : Script) × (before ≡ script_code.code s) × (answer ≡ answered_count (next_answer s.answers room))
+    × (entries ≡ answered_entries (next_answer s.answers room)) × (after ≡ script_code.code (after_wait s room))

@@ -36,7 +36,8 @@ source_code = code_by (ℕ ⊎ EventSet) (coded⊎ coded_ℕ set_code) split joi
 -- a table as a tree of numbers: different tables have different codes
 abbrev pub table_code : Coded TableState
 table_code =
-    code_by (List Source × (List Interest × ℕ)) (coded× (coded_list source_code) (coded× (coded_list interest_code) coded_ℕ)) (λ t. (t.sources, (t.interests, t.limit))) (λ p. record { sources = p.0; interests = p.1.0; limit = p.1.1 }) (λ _. refl)
+    code_by (List Source × (List Interest × ℕ)) (coded× (coded_list source_code) (coded× (coded_list interest_code) coded_ℕ))
+    (λ t. (t.sources, (t.interests, t.limit))) (λ p. record { sources = p.0; interests = p.1.0; limit = p.1.1 }) (λ _. refl)
 
 -- the one answer of `ctl`, and the one state after it
 abbrev pub MayCtl : Gv → ControlOperation → ℤ → EpollEvent → Result (Unit {0}) Errno → Gv → Type 0
