@@ -4,7 +4,7 @@ use Rattle.std.proofs.lemmas.Bool.Decides.{eqb_tells}
 use Rattle.std.proofs.lemmas.Grind.{get_or-set_at}
 use Rattle.std.proofs.lemmas.List.{get_or_default, get_or-set_other, length-set}
 use Rattle.std.proofs.lemmas.List.Sums.{sum_by-cons, sum_by-set}
-use Rattle.dispatch_tables.specs.WatchLists.{times_in, times_among, AreApart, AreUpTo, IsListOf, LacksList}
+use Rattle.dispatch_tables.specs.WatchLists.{times_in, times_among, AreApart, IsListOf, LacksList}
 use Rattle.dispatch_tables.specs.declared.watch_lists.WatchList.{WatchList}
 use Rattle.dispatch_tables.proofs.TimesListed.{flipped}
 

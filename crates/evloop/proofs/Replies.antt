@@ -6,7 +6,7 @@ use Rattle.event_manager.specs.declared.calls.Call.TheVariants.{Remove, Set, Ask
 use Rattle.event_manager.specs.declared.calls.Reply.{Reply}
 use Rattle.event_manager.specs.Error.TheVariants.{InvalidId}
 use Rattle.event_manager.specs.Driven.{IsDriven}
-use Rattle.event_manager.specs.Prelude.{Event, Exchanges, ManagerState, run_answer, LoopState, manager_state, Controls, Waits, LoopStep, Joined, NotJoined, Left, Replaced, Requested, Refused, Begins, Serves, May}
+use Rattle.event_manager.specs.Prelude.{ManagerState, run_answer, LoopState, manager_state, Controls, Waits, Joined, NotJoined, Left, Replaced, Requested, Refused, Begins, Serves, May}
 use Rattle.event_manager.specs.Trace.{Effect, Stepped, Iterated, TraceEntry, Matches, IsTrace}
 use Rattle.evloop.specs.Replies.{IsReplyTo}
 
