@@ -1,3 +1,4 @@
+pub mod Prelude
 pub mod Buffer
 pub mod Consistent
 pub mod OwnersBelow
@@ -8,5 +9,6 @@ pub mod Releasing
 pub mod RequestsSoFar
 pub mod StepExchangeLemmas
 pub mod Watching
+pub mod SameWrapper
 pub mod WithoutJobs
 pub mod WithoutOwner

@@ -62,10 +62,7 @@ impl<P: EventPoller> EventOps<P> {
             Ok(()) => {}
             Err(e) => return Err(e),
         }
-        match epoll
-            .registrations
-            .register(events, self.id, self.place, priority)
-        {
+        match epoll.register(events, self.id, self.place, priority) {
             Ok(()) => {}
             Err(e) => return Err(e),
         }
@@ -109,7 +106,7 @@ impl<P: EventPoller> EventOps<P> {
         }
         match epoll.ctl(ControlOperation::Delete, events) {
             Ok(()) => {
-                epoll.registrations.remove(events, self.id);
+                epoll.remove(events, self.id);
                 Ok(())
             }
             Err(e) => Err(Error::Epoll(e)),

@@ -1,3 +1,4 @@
+pub mod Prelude
 pub mod ExampleHolds
 pub mod FiniteMaps
 pub mod HeldIds

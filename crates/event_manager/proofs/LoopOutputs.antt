@@ -1,6 +1,5 @@
 -- What loops gave, in their order.
-use Rattle.std.proofs.Common.{List, [], ◌∷◌, ◌++◌, map}
-use Rattle.std.specs.List.{AllZip}
+use Rattle.event_manager.proofs.Prelude.{List, [], ◌∷◌, ◌++◌, map, AllZip}
 
 pub one_more : {A B C : Type 0} (R : B → C → Type 0) (xs : List A) (f : A → B) (ys : List C) (x : A) (y : C) → AllZip R (map f xs) ys → R (f x) y → AllZip R (map f (xs ++ x ∷ [])) (ys ++ y ∷ [])
 one_more R [] f [] a b are is = (is, tt)

@@ -1,5 +1,4 @@
-use Rattle.std.proofs.Common.{map}
-use Rattle.std.specs.List.{AllZip}
+use Rattle.event_manager.proofs.Prelude.{map, AllZip}
 use Rattle.event_manager.proofs.loops.join_all.Given as goal
 
 abbrev pub invariant-loop-thread : goal.invariant-loop-thread
