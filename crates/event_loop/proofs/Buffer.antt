@@ -1,10 +1,12 @@
 -- The positions of a buffer.
-use Rattle.event_loop.proofs.Prelude.{◌≡◌, ℕ, suc, ◌+◌, ◌<◌, ◌≤◌, ◌==◌, ◌||◌, refl, sym, ap, subst, ◌∙◌, List, [], ◌∷◌, Bool, false, length, get_or, take, drop, add-one, arith, length-take, get_or-take, drop-cons, map, ℤ, Ok, length-take-le, all_pending, cancel_on}
+use Rattle.std.proofs.Common.{◌≡◌, ℕ, suc, ◌+◌, ◌<◌, ◌≤◌, ◌==◌, ◌||◌, refl, sym, ap, subst, ◌∙◌, List, [], ◌∷◌, Bool, false, length, get_or, take, drop, add-one, arith, length-take, get_or-take, drop-cons, map, ℤ, Ok}
+use Rattle.std.proofs.lemmas.List.{length-take-le}
 use Rattle.dispatch_tables.specs.Event.{Event, event_of_entry}
 use Rattle.dispatch_tables.specs.Cancelled.{HasEntered}
 use base.Stored.{Gv}
 use Rattle.vmm_sys.specs.declared.poller.Poller.{Ghosts}
 use Rattle.event_loop.specs.PollerRelations.{waits}
+use Rattle.event_loop.specs.RegistrationState.{all_pending, cancel_on}
 use Rattle.vmm_sys.specs.declared.entries.EpollEvent.{EpollEvent}
 use Rattle.event_loop.specs.ReadyList.{is_cancelled, ready_of}
 

@@ -1,11 +1,15 @@
 -- What keeps owners and watch lists consistent.
-use Rattle.event_loop.proofs.Prelude.{◌≡◌, ℕ, ◌<◌, ◌^◌, sym, ap, subst, ◌∙◌, Option, Some, None, is_some, IsSome, arith, nat_cmp, cond, true, List, false≢true, get, insert, remove, empty, len, get-empty, is_id, Ownership, OwnerMap, owner_of, owned_is_some, owner_id}
+use Rattle.std.proofs.Common.{◌≡◌, ℕ, ◌<◌, ◌^◌, sym, ap, subst, ◌∙◌, Option, Some, None, is_some, IsSome, arith, nat_cmp, cond, true, List}
+use Rattle.std.proofs.lemmas.Bool.{false≢true}
+use Rattle.std.specs.FinMap.{get, insert, remove, empty, len, get-empty}
 use Rattle.event_loop.specs.Consistency.{AreConsistent, AreWatched, AreDescriptors}
+use Rattle.event_loop.specs.Prelude.{is_id, Ownership, OwnerMap, owner_of}
 use Rattle.event_loop.specs.Releasing.{AreWithout}
 use Rattle.dispatch_tables.specs.Owners.{AreCounted}
 use Rattle.dispatch_tables.specs.WatchLists.{times_in, times_watched, AreDistinct, HasOneMore, HasNone}
 use Rattle.dispatch_tables.specs.declared.watch_lists.WatchLists.{WatchLists}
 use Rattle.dispatch_tables.proofs.Counting.{held_one, one_fewer}
+use Rattle.dispatch_tables.proofs.Owning.{owned_is_some, owner_id}
 use Rattle.dispatch_tables.proofs.RaisedOwners.{none_counted}
 use Rattle.event_loop.proofs.Watching.{watched_pushed, watched_removed, watched_taken, descriptors_pushed, descriptors_removed, descriptors_taken}
 

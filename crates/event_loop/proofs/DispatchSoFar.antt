@@ -1,5 +1,6 @@
 -- A batch that is dispatched from the front: one more position.
-use Rattle.event_loop.proofs.Prelude.{◌≡◌, refl, sym, ap, subst, List, [], ◌∷◌, ◌++◌, append_assoc, append-nil, Event, Serves, Registry, Position, Delivery, is_removed, still_pending, with_pending, IsDelivery, AreDispatched, events_of}
+use Rattle.std.proofs.Common.{◌≡◌, refl, sym, ap, subst, List, [], ◌∷◌, ◌++◌, append_assoc, append-nil}
+use Rattle.event_loop.specs.Prelude.{Event, Serves, Registry, Position, Delivery, is_removed, still_pending, with_pending, IsDelivery, AreDispatched, events_of}
 
 module _ {V : Type 0} (serves : Serves V) where
   -- the positions so far lead from the start to now: whatever completes them there completes them from the start

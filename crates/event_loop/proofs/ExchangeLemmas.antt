@@ -1,11 +1,14 @@
 -- Lists of exchanges, put together.
-use Rattle.event_loop.proofs.Prelude.{◌≡◌, ℕ, List, [], ◌∷◌, ◌++◌, refl, sym, ap, subst, ◌∙◌, append_assoc, inl, inr, arith, Ok, Err, Bool, true, false, ◌||◌, ◌==◌, not, cond, map, filter, append-nil, Event, PollerCall, Control, Wait, Exchanges, ExchangesFit, Fits, Answer, by_manager, by_poller, by_agreement, removes, is_removal, Registrations, Controls, Waits, Leads, AreMade, AreMadeThrough, IsSameBatch, not_cancelled, registrations_of, cancel_on, cancel_removed}
+use Rattle.std.proofs.Common.{◌≡◌, ℕ, List, [], ◌∷◌, ◌++◌, refl, sym, ap, subst, ◌∙◌, append_assoc, inl, inr, arith, Ok, Err, Bool, true, false, ◌||◌, ◌==◌, not, cond, map, filter}
+use Rattle.std.proofs.lemmas.List.{append-nil}
 use Rattle.std.proofs.lemmas.List.Folds.{list_any-append}
 use Rattle.std.proofs.lemmas.Bool.Decides.{nat_tests}
+use Rattle.event_loop.specs.Prelude.{Event, PollerCall, Control, Wait, Exchanges, ExchangesFit, Fits, Answer, by_manager, by_poller, by_agreement, removes, is_removal, Registrations, Controls, Waits, Leads, AreMade, AreMadeThrough}
 use Rattle.event_loop.specs.declared.error.Error.{Error}
 use Rattle.event_loop.specs.declared.events.Request.{Request}
 use Rattle.event_loop.specs.declared.events.Request.TheVariants.{Add, AddWithPriority, Modify, Remove}
 use Rattle.event_loop.specs.Exchange.{IsVacant, IsAdditionRefused}
+use Rattle.event_loop.specs.RegistrationState.{RegistrationState, not_cancelled, registrations_of, cancel_on, cancel_removed}
 use Rattle.dispatch_tables.specs.declared.priority.Priority.TheVariants.{Lowest}
 use Rattle.event_loop.specs.declared.epoll.EpollWrapper.{EpollWrapper}
 use Rattle.event_loop.specs.declared.ops.EventOps.{EventOps}
@@ -68,24 +71,22 @@ not_cancelled_cancel_on fd ((x, false) ∷ ready) = not_cancelled_more fd x read
 
 module _ {P : Type 0} {controls : Controls P} {waits : Waits P} where
   pub one_made : {b a : EpollWrapper P} {i : ℕ} {request : Request} {answer : Answer} {calls : List PollerCall}
-      → Fits i (registrations_of b) request answer calls (registrations_of a) → a.ready_list.ready ≡ cancel_removed ((request, answer) ∷ []) b.ready_list.ready → Leads controls waits b.poller calls a.poller → a.ready_list.capacity ≡ b.ready_list.capacity → AreMade controls waits b a i ((request, answer) ∷ []) calls
-  one_made {a = a} {calls = calls} fit ready led same = record { fits = (calls, [], registrations_of a, sym (append-nil calls), fit, (refl, refl)); ready = ready; led = led; same_capacity = same }
+      → Fits i (registrations_of b.registrations) request answer calls (registrations_of a.registrations) → a.registrations.ready ≡ cancel_removed ((request, answer) ∷ []) b.registrations.ready → Leads controls waits b.poller calls a.poller → a.registrations.capacity ≡ b.registrations.capacity → AreMade controls waits b a i ((request, answer) ∷ []) calls
+  one_made {a = a} {calls = calls} fit ready led same = record { fits = (calls, [], registrations_of a.registrations, sym (append-nil calls), fit, (refl, refl)); ready = ready; led = led; same_capacity = same }
 
   pub one_made_through : {b a : EventOps P} {request : Request} {answer : Answer} {calls : List PollerCall}
-      → a.id ≡ b.id → Fits b.id (registrations_of b.epoll) request answer calls (registrations_of a.epoll) → a.epoll.ready_list.ready ≡ cancel_removed ((request, answer) ∷ []) b.epoll.ready_list.ready → Leads controls waits b.epoll.poller calls a.epoll.poller → a.epoll.ready_list.capacity ≡ b.epoll.ready_list.capacity
+      → a.id ≡ b.id → Fits b.id (registrations_of b.epoll.registrations) request answer calls (registrations_of a.epoll.registrations) → a.epoll.registrations.ready ≡ cancel_removed ((request, answer) ∷ []) b.epoll.registrations.ready → Leads controls waits b.epoll.poller calls a.epoll.poller → a.epoll.registrations.capacity ≡ b.epoll.registrations.capacity
       → AreMadeThrough controls waits b a ((request, answer) ∷ []) calls
   one_made_through same_id fit ready led same = record { same_id = same_id; made = one_made fit ready led same }
 
   -- one request that left the registrations as they were, and removed nothing
   pub kept : {b a : EventOps P} {request : Request} {answer : Answer} {calls : List PollerCall}
-      → a.id ≡ b.id → a.epoll.registrations ≡ b.epoll.registrations
-      → IsSameBatch b.epoll.ready_list a.epoll.ready_list → ((fd : ℕ) → is_removal fd request answer ≡ false)
-      → Fits b.id (registrations_of b.epoll) request answer calls (registrations_of b.epoll) → Leads controls waits b.epoll.poller calls a.epoll.poller
+      → a.id ≡ b.id → a.epoll.registrations ≡ b.epoll.registrations → ((fd : ℕ) → is_removal fd request answer ≡ false)
+      → Fits b.id (registrations_of b.epoll.registrations) request answer calls (registrations_of b.epoll.registrations) → Leads controls waits b.epoll.poller calls a.epoll.poller
       → AreMadeThrough controls waits b a ((request, answer) ∷ []) calls
-  kept {b} {a} {request} {answer} {calls} same_id same batch none fit led =
-      let found : registrations_of b.epoll ≡ registrations_of a.epoll = sym (λ k. record { owners = (same k).owners; endpoint = (same k).endpoint; pending = not_cancelled (batch.0 k) }) in
-      one_made_through same_id (subst (λ r. Fits b.id (registrations_of b.epoll) request answer calls r) found fit)
-      (batch.0 ∙ cancel_removed_other request answer none b.epoll.ready_list.ready) led batch.1
+  kept {b} {a} {request} {answer} {calls} same_id same none fit led =
+      one_made_through same_id (subst (λ r. Fits b.id (registrations_of b.epoll.registrations) request answer calls (registrations_of r)) (sym same) fit)
+      (ap (λ (r : RegistrationState). r.ready) same ∙ cancel_removed_other request answer none b.epoll.registrations.ready) led (ap (λ (r : RegistrationState). r.capacity) same)
 
 pub refused_by_manager : (registrations : Registrations) (e : Event) (x : Error) → IsVacant registrations e (Err x) → IsAdditionRefused registrations e (Err x)
 refused_by_manager registrations e x (inl h) = inl (h.0, ap Err h.1)
@@ -104,7 +105,7 @@ lowest_made before after e answer calls h =
     record {
       same_id = h.same_id;
       made = record {
-        fits = (first, rest, mid, joined, lowest_fits before.id (registrations_of before.epoll) e answer first mid fit, over);
+        fits = (first, rest, mid, joined, lowest_fits before.id (registrations_of before.epoll.registrations) e answer first mid fit, over);
         ready = h.made.ready;
         led = h.made.led;
         same_capacity = h.made.same_capacity;
@@ -123,7 +124,7 @@ module _ {P : Type 0} (controls : Controls P) (waits : Waits P) where
   leads_join b m a (Wait ms capacity r ∷ xs) ys f g = (f.0, f.1, f.2, leads_join f.0 m a xs ys f.3 g)
 
   pub made_join : (i : ℕ) (b m a : EpollWrapper P) (t u : Exchanges) (xs ys : List PollerCall) → AreMade controls waits b m i t xs → AreMade controls waits m a i u ys → AreMade controls waits b a i (t ++ u) (xs ++ ys)
-  made_join i b m a t u xs ys f g = record { fits = fits_join i (registrations_of b) (registrations_of m) (registrations_of a) t u xs ys f.fits g.fits; ready = g.ready ∙ ap (cancel_removed u) f.ready ∙ sym (cancel_removed_join t u b.ready_list.ready); led = leads_join b.poller m.poller a.poller xs ys f.led g.led; same_capacity = g.same_capacity ∙ f.same_capacity }
+  made_join i b m a t u xs ys f g = record { fits = fits_join i (registrations_of b.registrations) (registrations_of m.registrations) (registrations_of a.registrations) t u xs ys f.fits g.fits; ready = g.ready ∙ ap (cancel_removed u) f.ready ∙ sym (cancel_removed_join t u b.registrations.ready); led = leads_join b.poller m.poller a.poller xs ys f.led g.led; same_capacity = g.same_capacity ∙ f.same_capacity }
 
 module _ {P : Type 0} {controls : Controls P} {waits : Waits P} where
   -- two lists of exchanges in a row are one

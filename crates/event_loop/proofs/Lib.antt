@@ -1,4 +1,3 @@
-pub mod Prelude
 pub mod Buffer
 pub mod Consistent
 pub mod OwnersBelow
@@ -9,6 +8,5 @@ pub mod Releasing
 pub mod RequestsSoFar
 pub mod StepExchangeLemmas
 pub mod Watching
-pub mod SameWrapper
 pub mod WithoutJobs
 pub mod WithoutOwner

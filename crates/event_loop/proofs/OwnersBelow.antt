@@ -1,7 +1,9 @@
 -- There are at most as many owners as descriptors.
-use Rattle.event_loop.proofs.Prelude.{◌≡◌, ℕ, zero, suc, ◌-◌, ◌<◌, ◌≤◌, ◌^◌, refl, sym, ap, subst, ◌∙◌, Bool, true, false, Option, Some, None, IsSome, arith, cond, inl, inr, false≢true, cases_lt, get, remove, len, empty, contains_key, get-remove, get-empty, len-remove, len-empty, same_map, nat_cmp-IsAntisymmetric}
+use Rattle.std.proofs.Common.{◌≡◌, ℕ, zero, suc, ◌-◌, ◌<◌, ◌≤◌, ◌^◌, refl, sym, ap, subst, ◌∙◌, Bool, true, false, Option, Some, None, IsSome, arith, cond, inl, inr}
+use Rattle.std.proofs.lemmas.Bool.{false≢true, cases_lt}
 use Rattle.std.specs.Ordering.{eq_by_cmp, nat_cmp}
 use Rattle.std.specs.Cmp.{nat_cmp_total}
+use Rattle.std.specs.FinMap.{get, remove, len, empty, contains_key, get-remove, get-empty, len-remove, len-empty, same_map, nat_cmp-IsAntisymmetric}
 use Rattle.dispatch_tables.specs.Ownership.{Ownership, OwnerMap}
 use Rattle.dispatch_tables.proofs.NumberTests.{same_tests}
 use Rattle.event_loop.specs.Consistency.{AreDescriptors}

@@ -1,32 +1,35 @@
 -- One position of a batch, and the batch.
-use Rattle.event_loop.proofs.Prelude.{◌≡◌, ℕ, refl, sym, ap, subst, ◌∙◌, List, [], ◌∷◌, ◌++◌, Bool, true, false, ◌⊎◌, Some, None, Option, option_map, ⊎_elim, not, cond, ◌||◌, ◌==◌, map, length, Result, Ok, Err, ℤ, append-nil, map-append, get, Event, Registrations, Owns, owner_of, class_in, IsDispatchOrder, PollerCall, Wait, Exchanges, ExchangesFit, removes, Serves, HasId, Nobody, To, Position, exchanges_of, is_removed, still_pending, events_of, with_pending, IsDelivery, AreDispatched, calls_of_delivery, calls_of_positions, is_reported, AreMade, Controls, Waits, Leads, OwnerState, BatchState, not_cancelled, registrations_of, cancel_removed, all_pending, HasWaited, owner_id}
+use Rattle.std.proofs.Common.{◌≡◌, ℕ, refl, sym, ap, subst, ◌∙◌, List, [], ◌∷◌, ◌++◌, Bool, true, false, ◌⊎◌, Some, None, Option, option_map, ⊎_elim, not, cond, ◌||◌, ◌==◌, map, length, Result, Ok, Err, ℤ}
 use Rattle.vmm_sys.specs.declared.errno.Errno.{Errno}
 use Rattle.event_loop.specs.Registry as model
+use Rattle.std.proofs.lemmas.List.{append-nil, map-append}
 use Rattle.std.proofs.lemmas.List.Concat.{flat_map-append}
 use Rattle.std.proofs.lemmas.List.Folds.{list_any-append}
 use Rattle.std.proofs.lemmas.List.Sorted.{list_any-IsPermutation}
+use Rattle.std.specs.FinMap.{get}
 use Rattle.dispatch_tables.specs.Members.{with_member}
+use Rattle.event_loop.specs.Prelude.{Event, Registrations, Owns, owner_of, class_in, IsDispatchOrder, PollerCall, Wait, Exchanges, ExchangesFit, removes, Serves, HasId, Nobody, To, Position, exchanges_of, is_removed, still_pending, events_of, with_pending, IsDelivery, AreDispatched, calls_of_delivery, calls_of_positions, is_reported, AreMade, Controls, Waits, Leads}
 use Rattle.dispatch_tables.specs.Owners.{ownership_of}
 use Rattle.dispatch_tables.specs.declared.owners.Owner.{Owner}
 use Rattle.dispatch_tables.proofs.DispatchOrders.{nil_cons, head_is, tail_is, ordered_permutation}
-use Rattle.event_loop.specs.declared.epoll.EpollWrapper.{EpollWrapper}
+use Rattle.event_loop.specs.RegistrationState.{RegistrationState, not_cancelled, registrations_of, cancel_removed, all_pending, HasWaited}
 use Rattle.event_loop.proofs.DispatchSoFar.{AreDispatchedSoFar, so_far_none, so_far_more, so_far_all}
 use Rattle.event_loop.specs.Subscribers.{registry_of, loop_state, TakesPosition, IsDispatched, IsBatch}
 use Rattle.event_loop.specs.declared.registry.Registry.{Registry}
 use Rattle.event_loop.proofs.ExchangeLemmas.{or_false, cancel_removed_marks, marked, leads_join, exchanges_keep_endpoint}
+use Rattle.dispatch_tables.proofs.Owning.{owner_id}
 
 true_false : (b : Bool) → b ≡ true → b ≡ false → ⊥
 true_false b e f = cc
 
 module _ {S P : Type 0} {controls : Controls P} {waits : Waits P} (serves : Serves S) where
-  pub nobody_position : (before after : Registry S P) (event : Event) (cancelled is_endpoint : Bool) (rest : List (Event × Bool)) (room : ℕ)
-      → before.ops.epoll.ready_list.ready ≡ (event, cancelled) ∷ rest → after.ops.epoll.ready_list ≡ record before.ops.epoll.ready_list { ready = rest; room = room }
-      → after.ops.epoll.registrations ≡ before.ops.epoll.registrations → after.subscribers ≡ before.subscribers
-      → ((cancelled ≡ true) ⊎ ((i : ℕ) (value : S) → ¬ (Owns i (registrations_of before.ops.epoll) event.fd × HasId (registry_of before) i value)))
+  pub nobody_position : (before after : Registry S P) (event : Event) (cancelled is_endpoint : Bool) (rest : List (Event × Bool))
+      → before.ops.epoll.registrations.ready ≡ (event, cancelled) ∷ rest → after.ops.epoll.registrations ≡ record before.ops.epoll.registrations { ready = rest } → after.subscribers ≡ before.subscribers
+      → ((cancelled ≡ true) ⊎ ((i : ℕ) (value : S) → ¬ (Owns i (registrations_of before.ops.epoll.registrations) event.fd × HasId (registry_of before) i value)))
       → Leads controls waits before.ops.epoll.poller [] after.ops.epoll.poller
       → is_endpoint ≡ (event.fd == before.ops.epoll.registrations.endpoint)
       → TakesPosition serves controls waits before is_endpoint after
-  nobody_position before after event cancelled is_endpoint rest room was next same subs why led noticed = record {
+  nobody_position before after event cancelled is_endpoint rest was registrations subs why led noticed = record {
     event = event;
     cancelled = cancelled;
     later = rest;
@@ -34,51 +37,42 @@ module _ {S P : Type 0} {controls : Controls P} {waits : Waits P} (serves : Serv
     was = was;
     had = (
       (λ i value is. ⊎_elim (λ e. true_false _ e is.1) (λ none. none i value (is.0, is.2)) why),
-      λ k. record {
-        values = (subs k).by_id;
-        next = (subs k).next;
-        registrations = record { owners = (same k).owners; endpoint = (same k).endpoint; pending = not_cancelled (next k).ready };
-      },
+      λ k. record { values = (subs k).by_id; next = (subs k).next; registrations = registrations_of (registrations k) },
     );
-    ready = ap (λ (b : BatchState). b.ready) next;
+    ready = ap (λ (b : RegistrationState). b.ready) registrations;
     led = led;
-    same_capacity = ap (λ (b : BatchState). b.capacity) next;
-    same_endpoint = ap (λ (s : OwnerState). s.endpoint) same;
+    same_capacity = ap (λ (b : RegistrationState). b.capacity) registrations;
+    same_endpoint = ap (λ (b : RegistrationState). b.endpoint) registrations;
     noticed = noticed;
   }
 
-  pub served_position : (before after : Registry S P) (event : Event) (is_endpoint : Bool) (rest : List (Event × Bool)) (mid : EpollWrapper P) (room : ℕ)
+  pub served_position : (before after : Registry S P) (event : Event) (is_endpoint : Bool) (rest : List (Event × Bool)) (mid : RegistrationState)
       (id : ℕ) (value held : S) (exchanges : Exchanges) (calls : List PollerCall)
-      → before.ops.epoll.ready_list.ready ≡ (event, false) ∷ rest → mid.ready_list ≡ record before.ops.epoll.ready_list { ready = rest; room = room }
-      → mid.registrations ≡ before.ops.epoll.registrations → mid.poller ≡ before.ops.epoll.poller
-      → owner_of before.ops.epoll.registrations.owners event.fd ≡ Some id → HasId (registry_of before) id value → serves value event exchanges held
-      → AreMade controls waits mid after.ops.epoll id exchanges calls
+      → before.ops.epoll.registrations.ready ≡ (event, false) ∷ rest → mid ≡ record before.ops.epoll.registrations { ready = rest } → owner_of mid.owners event.fd ≡ Some id → HasId (registry_of before) id value → serves value event exchanges held
+      → AreMade controls waits (record { registrations = mid; poller = before.ops.epoll.poller }) after.ops.epoll id exchanges calls
       → after.subscribers ≡ with_member before.subscribers id held
       → is_endpoint ≡ (event.fd == before.ops.epoll.registrations.endpoint)
       → TakesPosition serves controls waits before is_endpoint after
-  served_position before after event is_endpoint rest mid room id value held exchanges calls was next same poller owns has served made members noticed =
-      let found : registrations_of mid ≡ record (registrations_of before.ops.epoll) { pending = not_cancelled rest } =
-      λ k. record { owners = (same k).owners; endpoint = (same k).endpoint; pending = not_cancelled (next k).ready } in
-      record {
-        event = event;
-        cancelled = false;
-        later = rest;
-        delivery = To id exchanges calls held;
-        was = was;
-        had = (
-          value,
-          registrations_of after.ops.epoll,
-          (owns, refl, has),
-          served,
-          subst (λ r. ExchangesFit id r exchanges calls (registrations_of after.ops.epoll)) found made.fits,
-          λ k. record { values = (members k).by_id; next = (members k).next; registrations = registrations_of after.ops.epoll },
-        );
-        ready = made.ready ∙ ap (λ (b : BatchState). cancel_removed exchanges b.ready) next;
-        led = subst (λ p. Leads controls waits p calls after.ops.epoll.poller) poller made.led;
-        same_capacity = made.same_capacity ∙ ap (λ (b : BatchState). b.capacity) next;
-        same_endpoint = exchanges_keep_endpoint id (registrations_of mid) exchanges calls (registrations_of after.ops.epoll) made.fits ∙ ap (λ (s : OwnerState). s.endpoint) same;
-        noticed = noticed;
-      }
+  served_position before after event is_endpoint rest mid id value held exchanges calls was registrations owns has served made members noticed = record {
+    event = event;
+    cancelled = false;
+    later = rest;
+    delivery = To id exchanges calls held;
+    was = was;
+    had = (
+      value,
+      registrations_of after.ops.epoll.registrations,
+      (subst (λ (b : RegistrationState). owner_of b.owners event.fd ≡ Some id) registrations owns, refl, has),
+      served,
+      subst (λ (b : RegistrationState). ExchangesFit id (registrations_of b) exchanges calls (registrations_of after.ops.epoll.registrations)) registrations made.fits,
+      λ k. record { values = (members k).by_id; next = (members k).next; registrations = registrations_of after.ops.epoll.registrations },
+    );
+    ready = made.ready ∙ ap (λ (b : RegistrationState). cancel_removed exchanges b.ready) registrations;
+    led = made.led;
+    same_capacity = made.same_capacity ∙ ap (λ (b : RegistrationState). b.capacity) registrations;
+    same_endpoint = exchanges_keep_endpoint id (registrations_of mid) exchanges calls (registrations_of after.ops.epoll.registrations) made.fits ∙ ap (λ (b : RegistrationState). b.endpoint) registrations;
+    noticed = noticed;
+  }
 
 taken : {A : Type 0} (x : A) → None ≡ Some x → ⊥
 taken x e = cc
@@ -90,13 +84,14 @@ same_some o x y e f = cc
 abbrev pub found_id : Option Owner → Option ℕ
 found_id found = owner_id (option_map ownership_of found)
 
-module _ {S P : Type 0} (before : Registry S P) (fd : ℕ) where
-  pub not_owned : owner_of before.ops.epoll.registrations.owners fd ≡ None → (i : ℕ) (value : S) → ¬ (Owns i (registrations_of before.ops.epoll) fd × HasId (registry_of before) i value)
-  not_owned none i value h = taken i (sym none ∙ h.0)
+module _ {S P : Type 0} (before : Registry S P) (mid : RegistrationState) (fd : ℕ) (rest : List (Event × Bool)) where
+  pub not_owned : mid ≡ record before.ops.epoll.registrations { ready = rest } → owner_of mid.owners fd ≡ None → (i : ℕ) (value : S) → ¬ (Owns i (registrations_of before.ops.epoll.registrations) fd × HasId (registry_of before) i value)
+  not_owned registrations none i value h = taken i (sym (subst (λ (b : RegistrationState). owner_of b.owners fd ≡ None) registrations none) ∙ h.0)
 
-  pub not_there : (id : ℕ) → owner_of before.ops.epoll.registrations.owners fd ≡ Some id → get before.subscribers.by_id id ≡ None
-      → (i : ℕ) (value : S) → ¬ (Owns i (registrations_of before.ops.epoll) fd × HasId (registry_of before) i value)
-  not_there id owns none i value h = taken value (sym (subst (λ j. get before.subscribers.by_id j ≡ None) (same_some _ id i owns h.0) none) ∙ h.1)
+  pub not_there : (id : ℕ) → mid ≡ record before.ops.epoll.registrations { ready = rest } → owner_of mid.owners fd ≡ Some id → get before.subscribers.by_id id ≡ None → (i : ℕ) (value : S) → ¬ (Owns i (registrations_of before.ops.epoll.registrations) fd × HasId (registry_of before) i value)
+  not_there id registrations owns none i value h =
+      let same = same_some _ id i (subst (λ (b : RegistrationState). owner_of b.owners fd ≡ Some id) registrations owns) h.0 in
+      taken value (sym (subst (λ j. get before.subscribers.by_id j ≡ None) same none) ∙ h.1)
 
 -- with a mark where one of these positions removed the descriptor
 abbrev pub cancelled_by : {V : Type 0} → List (Position V) → List Event → List (Event × Bool)
@@ -149,19 +144,19 @@ module _ {S P : Type 0} (serves : Serves S) where
       pub positions : List (Position S)
       pub later : List Event
       pub events : events_of positions ++ later ≡ report
-      pub ready : now.ops.epoll.ready_list.ready ≡ cancelled_by positions later
+      pub ready : now.ops.epoll.registrations.ready ≡ cancelled_by positions later
       pub dispatched : AreDispatchedSoFar serves (registry_of start) positions later (registry_of now)
       pub led : Leads controls waits start.ops.epoll.poller (calls_of_positions positions) now.ops.epoll.poller
-      pub same_capacity : now.ops.epoll.ready_list.capacity ≡ start.ops.epoll.ready_list.capacity
+      pub same_capacity : now.ops.epoll.registrations.capacity ≡ start.ops.epoll.registrations.capacity
       pub same_endpoint : now.ops.epoll.registrations.endpoint ≡ start.ops.epoll.registrations.endpoint
       pub noticed : endpoint_ready ≡ is_reported start.ops.epoll.registrations.endpoint (events_of positions)
 
-    pub so_far_start : (start : Registry S P) (report : List Event) → start.ops.epoll.ready_list.ready ≡ all_pending report → DispatchedSoFar start start report false
+    pub so_far_start : (start : Registry S P) (report : List Event) → start.ops.epoll.registrations.ready ≡ all_pending report → DispatchedSoFar start start report false
     so_far_start start report h = record { positions = []; later = report; events = refl; ready = h; dispatched = so_far_none serves (registry_of start) report; led = refl; same_capacity = refl; same_endpoint = refl; noticed = refl }
 
-    next_one : (start now next : Registry S P) (report : List Event) (endpoint_ready is_endpoint : Bool) (positions : List (Position S)) (later : List Event) → events_of positions ++ later ≡ report → now.ops.epoll.ready_list.ready ≡ cancelled_by positions later
+    next_one : (start now next : Registry S P) (report : List Event) (endpoint_ready is_endpoint : Bool) (positions : List (Position S)) (later : List Event) → events_of positions ++ later ≡ report → now.ops.epoll.registrations.ready ≡ cancelled_by positions later
         → AreDispatchedSoFar serves (registry_of start) positions later (registry_of now) → Leads controls waits start.ops.epoll.poller (calls_of_positions positions) now.ops.epoll.poller
-        → now.ops.epoll.ready_list.capacity ≡ start.ops.epoll.ready_list.capacity → now.ops.epoll.registrations.endpoint ≡ start.ops.epoll.registrations.endpoint
+        → now.ops.epoll.registrations.capacity ≡ start.ops.epoll.registrations.capacity → now.ops.epoll.registrations.endpoint ≡ start.ops.epoll.registrations.endpoint
         → endpoint_ready ≡ is_reported start.ops.epoll.registrations.endpoint (events_of positions) → TakesPosition serves controls waits now is_endpoint next → DispatchedSoFar start next report (endpoint_ready || is_endpoint)
     next_one start now next report endpoint_ready is_endpoint positions [] events ready dispatched led same same_endpoint noticed step = absurd (nil_cons _ _ (sym ready ∙ step.was))
     next_one start now next report endpoint_ready is_endpoint positions (e ∷ es) events ready dispatched led same same_endpoint noticed step =
@@ -190,7 +185,7 @@ module _ {S P : Type 0} (serves : Serves S) where
     so_far_position start now next report endpoint_ready is_endpoint so_far step =
         next_one start now next report endpoint_ready is_endpoint so_far.positions so_far.later so_far.events so_far.ready so_far.dispatched so_far.led so_far.same_capacity so_far.same_endpoint so_far.noticed step
 
-    pub so_far_end : (start now : Registry S P) (report : List Event) (endpoint_ready : Bool) → DispatchedSoFar start now report endpoint_ready → now.ops.epoll.ready_list.ready ≡ [] → IsDispatched serves controls waits start now report endpoint_ready
+    pub so_far_end : (start now : Registry S P) (report : List Event) (endpoint_ready : Bool) → DispatchedSoFar start now report endpoint_ready → now.ops.epoll.registrations.ready ≡ [] → IsDispatched serves controls waits start now report endpoint_ready
     so_far_end start now report endpoint_ready so_far none =
         let over = no_events so_far.positions so_far.later (sym so_far.ready ∙ none) in
         let whole = sym (append-nil (events_of so_far.positions)) ∙ ap (λ l. events_of so_far.positions ++ l) (sym over) ∙ so_far.events in
@@ -215,10 +210,11 @@ ok_err r x e h k = cc
 ok_same : {A E : Type 0} (r : Result A E) (x y : A) → r ≡ Ok x → r ≡ Ok y → x ≡ y
 ok_same r x y h k = cc
 
-pub waited_all_pending : (owners : OwnerState) (s t : BatchState) (answer : Result (List Event) Errno) (result : Result ℕ Errno) (n : ℕ) → HasWaited owners s answer result t → result ≡ Ok n
-    → t.ready ≡ all_pending (map (λ (p : Event × Bool). p.0) t.ready)
-waited_all_pending owners s t (Ok report) result n (ordered, order, counted, came, same) is = came ∙ ap all_pending (sym (ap (map (λ (p : Event × Bool). p.0)) came ∙ fst_all_pending ordered))
-waited_all_pending owners s t (Err e) result n h is = absurd (ok_err result n e is h.0)
+pub waited_all_pending : (s t : RegistrationState) (answer : Result (List Event) Errno) (result : Result ℕ Errno) (n : ℕ) → HasWaited s answer result t → result ≡ Ok n → t.ready ≡ all_pending (map (λ (p : Event × Bool). p.0) t.ready)
+waited_all_pending s t (Ok report) result n h is =
+    let came = ap (λ (b : RegistrationState). b.ready) h.3 in
+    came ∙ ap all_pending (sym (ap (map (λ (p : Event × Bool). p.0)) came ∙ fst_all_pending h.0))
+waited_all_pending s t (Err e) result n h is = absurd (ok_err result n e is h.0)
 
 module _ {V : Type 0} (serves : Serves V) where
   from_any_pending : (b : model.Registry V) (x : List Event) (positions : List (Position V)) (a : model.Registry V) → AreDispatched serves (with_pending x b) [] positions a → AreDispatched serves b [] positions a
@@ -226,20 +222,15 @@ module _ {V : Type 0} (serves : Serves V) where
   from_any_pending b x (position ∷ positions) a h = h
 
 module _ {S P : Type 0} (serves : Serves S) (controls : Controls P) (waits : Waits P) where
-  pub batch_ok : (start mid after : Registry S P) (ms : ℤ) (answer : Result (List Event) Errno) (result : Result ℕ Errno) (n : ℕ) (endpoint_ready : Bool)
-      → Leads controls waits start.ops.epoll.poller (Wait ms start.ops.epoll.ready_list.capacity answer ∷ []) mid.ops.epoll.poller
-      → HasWaited start.ops.epoll.registrations start.ops.epoll.ready_list answer result mid.ops.epoll.ready_list → result ≡ Ok n
-      → IsDispatched serves controls waits mid after (map (λ (p : Event × Bool). p.0) mid.ops.epoll.ready_list.ready) endpoint_ready
-      → mid.ops.epoll.registrations ≡ start.ops.epoll.registrations → mid.subscribers ≡ start.subscribers
+  pub batch_ok : (start after : Registry S P) (registrations : RegistrationState) (poller : P) (ms : ℤ) (answer : Result (List Event) Errno) (result : Result ℕ Errno) (n : ℕ) (endpoint_ready : Bool)
+      → Leads controls waits start.ops.epoll.poller (Wait ms start.ops.epoll.registrations.capacity answer ∷ []) poller → HasWaited start.ops.epoll.registrations answer result registrations → result ≡ Ok n
+      → IsDispatched serves controls waits (record { subscribers = start.subscribers; ops = record { epoll = record { registrations = registrations; poller = poller }; id = start.ops.id; place = start.ops.place } }) after (map (λ (p : Event × Bool). p.0) registrations.ready) endpoint_ready
       → IsBatch serves controls waits (loop_state start) ms (Ok (record { count = n; endpoint_ready = endpoint_ready })) (loop_state after)
-  batch_ok start mid after ms (Ok report) result n endpoint_ready led (ordered, order, counted, came, capacity) is dispatched same subs =
+  batch_ok start after registrations poller ms (Ok report) result n endpoint_ready led waited is dispatched =
+      let (ordered, order, counted, after_wait) = waited in
+      let came = ap (λ (b : RegistrationState). b.ready) after_wait in
       let ready = ap (map (λ (p : Event × Bool). p.0)) came ∙ fst_all_pending ordered in
-      let begun : registry_of mid ≡ with_pending (not_cancelled (all_pending ordered)) (registry_of start) = λ k. record {
-        values = (subs k).by_id;
-        next = (subs k).next;
-        registrations = record { owners = (same k).owners; endpoint = (same k).endpoint; pending = not_cancelled (came k) };
-      } in
-      let from = subst (λ r. AreDispatched serves r [] dispatched.positions (registry_of after)) begun dispatched.dispatched in
+      let from = subst (λ (b : RegistrationState). AreDispatched serves (record { values = start.subscribers.by_id; next = start.subscribers.next; registrations = registrations_of b }) [] dispatched.positions (registry_of after)) after_wait dispatched.dispatched in
       let onto = subst (λ l. AreDispatched serves (with_pending [] (registry_of start)) [] dispatched.positions (with_pending (not_cancelled l) (registry_of after))) dispatched.over
       (from_any_pending serves (with_pending [] (registry_of start)) (not_cancelled (all_pending ordered)) dispatched.positions (registry_of after) from) in
       record {
@@ -247,10 +238,10 @@ module _ {S P : Type 0} (serves : Serves S) (controls : Controls P) (waits : Wai
         positions = dispatched.positions;
         answer = ap Ok (ok_same result n (length report) is counted);
         noticed =
-            dispatched.noticed ∙ ap (λ l. is_reported mid.ops.epoll.registrations.endpoint l) ready ∙ ap (λ (s : OwnerState). is_reported s.endpoint ordered) same
-            ∙ reported_in_order (registrations_of start.ops.epoll) start.ops.epoll.registrations.endpoint report ordered order;
-        dispatched = (subst (λ es. IsDispatchOrder (registrations_of start.ops.epoll) report es) (sym (dispatched.events ∙ ready)) order, onto);
-        led = leads_join controls waits start.ops.epoll.poller mid.ops.epoll.poller after.ops.epoll.poller (Wait ms start.ops.epoll.ready_list.capacity (Ok report) ∷ []) (calls_of_positions dispatched.positions) led dispatched.led;
-        same_capacity = dispatched.same_capacity ∙ capacity;
+            dispatched.noticed ∙ ap (λ l. is_reported registrations.endpoint l) ready ∙ ap (λ (b : RegistrationState). is_reported b.endpoint ordered) after_wait
+            ∙ reported_in_order (registrations_of start.ops.epoll.registrations) start.ops.epoll.registrations.endpoint report ordered order;
+        dispatched = (subst (λ es. IsDispatchOrder (registrations_of start.ops.epoll.registrations) report es) (sym (dispatched.events ∙ ready)) order, onto);
+        led = leads_join controls waits start.ops.epoll.poller poller after.ops.epoll.poller (Wait ms start.ops.epoll.registrations.capacity (Ok report) ∷ []) (calls_of_positions dispatched.positions) led dispatched.led;
+        same_capacity = dispatched.same_capacity ∙ ap (λ (b : RegistrationState). b.capacity) after_wait;
       }
-  batch_ok start mid after ms (Err e) result n endpoint_ready led waited is dispatched same subs = absurd (ok_err result n e is waited.0)
+  batch_ok start after registrations poller ms (Err e) result n endpoint_ready led waited is dispatched = absurd (ok_err result n e is waited.0)

@@ -1,7 +1,10 @@
 -- One Delete after another.
-use Rattle.event_loop.proofs.Prelude.{◌≡◌, ℕ, ◌+◌, ◌<◌, ◌≤◌, refl, sym, subst, List, [], ◌∷◌, ◌++◌, Result, length, get_or, take, take_more, take_all, PollerCall, Control, Controls, Waits, Leads, without_owner, AreDeletes, AreOwnedBy, Event, IsSameBatch, registrations_of}
+use Rattle.std.proofs.Common.{◌≡◌, ℕ, ◌+◌, ◌<◌, ◌≤◌, refl, sym, subst, ◌∙◌, List, [], ◌∷◌, ◌++◌, Result, length, get_or, take}
+use Rattle.std.proofs.lemmas.List.{take_more, take_all}
 use Rattle.vmm_sys.specs.declared.errno.Errno.{Errno}
 use Rattle.vmm_sys.specs.declared.entries.ControlOperation.TheVariants as operation
+use Rattle.event_loop.specs.Prelude.{PollerCall, Control, Controls, Waits, Leads, AreDeletes, AreOwnedBy, Event}
+use Rattle.event_loop.specs.RegistrationState.{registrations_of, left_in}
 use Rattle.event_loop.specs.Releasing.{HasReleased}
 use Rattle.event_loop.specs.declared.epoll.EpollWrapper.{EpollWrapper}
 use Rattle.event_loop.proofs.ExchangeLemmas.{leads_join}
@@ -40,15 +43,13 @@ module _ {P : Type 0} (controls : Controls P) (waits : Waits P) (fds : List ℕ)
       }
 
   -- the descriptors were freed, and then one Delete was asked for each
-  pub released : (i k : ℕ) (before after : EpollWrapper P) → AreOwnedBy i (registrations_of before) fds
-      → after.registrations ≡ record before.registrations { owners = without_owner i before.registrations.owners } → IsSameBatch before.ready_list after.ready_list
+  pub released : (i k : ℕ) (before now after : EpollWrapper P) → AreOwnedBy i (registrations_of before.registrations) fds → now.registrations ≡ left_in i before.registrations → after.registrations ≡ now.registrations
       → length fds ≤ k → DeletedSoFar controls waits fds k before.poller after.poller → HasReleased controls waits before after i
-  released i k before after owned freed same all so_far = record {
+  released i k before now after owned freed same all so_far = record {
     fds = fds;
     calls = so_far.calls;
     owned = owned;
     deletes = subst (λ l. AreDeletes l so_far.calls) (take_all k fds all) so_far.deletes;
     led = so_far.led;
-    freed = freed;
-    same_batch = same;
+    freed = same ∙ freed;
   }

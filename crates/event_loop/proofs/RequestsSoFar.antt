@@ -1,6 +1,8 @@
 -- A loop that makes requests one after another, and keeps their answers, or the first that is a refusal.
-use Rattle.event_loop.proofs.Prelude.{◌≡◌, ℕ, ◌+◌, ◌<◌, ◌≤◌, List, [], ◌∷◌, ◌++◌, length, take, get_or, set, refl, sym, ap, subst, ◌∙◌, arith, Ok, Err, map-append, take_more, take_more_set, take_all, Exchanges, Answer, requests_of, answers_of, PollerCall, Controls, Waits, AreMadeThrough}
+use Rattle.std.proofs.Common.{◌≡◌, ℕ, ◌+◌, ◌<◌, ◌≤◌, List, [], ◌∷◌, ◌++◌, length, take, get_or, set, refl, sym, ap, subst, ◌∙◌, arith, Ok, Err}
 use Rattle.std.specs.Result.{result_and}
+use Rattle.std.proofs.lemmas.List.{map-append, take_more, take_more_set, take_all}
+use Rattle.event_loop.specs.Prelude.{Exchanges, Answer, requests_of, answers_of, PollerCall, Controls, Waits, AreMadeThrough}
 use Rattle.event_loop.specs.declared.events.Request.{Request}
 use Rattle.event_loop.specs.Exchange.{answered_at, first_refusal_from}
 use Rattle.event_loop.specs.declared.ops.EventOps.{EventOps}

@@ -1,7 +1,8 @@
 -- Exchanges of a subscriber in a box.
-use Rattle.event_loop.proofs.Prelude.{◌≡◌, List, [], ◌∷◌, ◌++◌, Option, Some, subst, Exchanges, Answer as RequestAnswer, PollerCall, AreMadeThrough, Controls, Waits}
+use Rattle.std.proofs.Common.{◌≡◌, List, [], ◌∷◌, ◌++◌, Option, Some, subst}
 use Rattle.std.specs.declared.alloc.Global.{Global}
 use Rattle.std.specs.declared.dyn_box.DynBox.{DynBox}
+use Rattle.event_loop.specs.Prelude.{Exchanges, Answer as RequestAnswer, PollerCall, AreMadeThrough, Controls, Waits}
 use Rattle.event_loop.specs.declared.events.Request.{Request}
 use Rattle.event_loop.specs.StepExchanges.{HoldsNow, Reaches}
 use Rattle.event_loop.specs.declared.boxed_subscriber.StepSubscriber.{Ghosts}

@@ -1,11 +1,15 @@
 -- Watch lists beside the owners: how often a descriptor stands in a list.
-use Rattle.event_loop.proofs.Prelude.{◌≡◌, ℕ, ◌+◌, ◌==◌, ◌<◌, ◌≤◌, refl, sym, ap, subst, ◌∙◌, List, Bool, true, false, not, cond, Option, Some, None, inl, inr, arith, length, get_or, take, Contains, nat_cmp, nat_lt, IsSome, All, AllPairs, ◌≢◌, ◌^◌, false≢true, get, insert, remove, get-insert, get-remove, same_map, nat_cmp-IsAntisymmetric, Ownership, OwnerMap, owner_of, Registrations, is_id, without_owner, AreOwnedBy, owner_id-cond, owner_of-insert, owner_of-remove, owned_is_some, owner_id}
+use Rattle.std.proofs.Common.{◌≡◌, ℕ, ◌+◌, ◌==◌, ◌<◌, ◌≤◌, refl, sym, ap, subst, ◌∙◌, List, Bool, true, false, not, cond, Option, Some, None, inl, inr, arith, length, get_or, take, Contains, nat_cmp, nat_lt, IsSome, All, AllPairs, ◌≢◌, ◌^◌}
+use Rattle.std.proofs.lemmas.Bool.{false≢true}
 use Rattle.std.proofs.lemmas.Bool.Decides.{nat_tests, eqb_tells}
 use Rattle.std.specs.List.Sorted.{IsNonDecreasing}
 use Rattle.std.proofs.lemmas.List.Elements.{Contains-get_or}
 use Rattle.std.proofs.lemmas.List.Sums.{sum_by_more}
 use Rattle.std.specs.Ordering.{eq_by_cmp}
 use Rattle.std.specs.Cmp.{nat_cmp_total}
+use Rattle.std.specs.FinMap.{get, insert, remove, get-insert, get-remove, same_map, nat_cmp-IsAntisymmetric}
+use Rattle.event_loop.specs.Prelude.{Ownership, OwnerMap, owner_of, Registrations, is_id, without_owner, AreOwnedBy}
+use Rattle.dispatch_tables.proofs.Owning.{owner_id-cond, owner_of-insert, owner_of-remove, owned_is_some, owner_id}
 use Rattle.dispatch_tables.proofs.TimesListed.{flipped, counted, contained, distinct}
 use Rattle.dispatch_tables.specs.WatchLists.{times_in, times_watched, HasOneMore, HasNone}
 use Rattle.event_loop.specs.Consistency.{AreWatched, AreDescriptors}

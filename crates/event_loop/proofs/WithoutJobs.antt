@@ -1,6 +1,8 @@
 -- A batch after which no job ran, as an iteration of the loop.
-use Rattle.event_loop.proofs.Prelude.{ℕ, ℤ, List, [], ◌∷◌, refl, sym, ap, subst, Result, Ok, Err, append-nil, Event, Wait, Controls, Waits, Leads, Begins, Serves, Registry, May, Position, IsIteration, calls_of_positions, LoopState, IsDispatchedAfter, IsLoopIteration}
+use Rattle.std.proofs.Common.{ℕ, ℤ, List, [], ◌∷◌, refl, sym, ap, subst, Result, Ok, Err}
+use Rattle.std.proofs.lemmas.List.{append-nil}
 use Rattle.vmm_sys.specs.declared.errno.Errno.{Errno}
+use Rattle.event_loop.specs.Prelude.{Event, Wait, Controls, Waits, Leads, Begins, Serves, Registry, May, Position, IsIteration, calls_of_positions, LoopState, IsDispatchedAfter, IsLoopIteration}
 use Rattle.event_loop.specs.declared.error.Error.{Error}
 use Rattle.event_loop.specs.Subscribers.{IsBatch, batch_count}
 use Rattle.event_loop.specs.declared.registry.Batch.{Batch}

@@ -17,7 +17,7 @@ pub mod Subscribers
 pub mod EventLoop
 pub mod PollerCall
 pub mod ReadyList
-pub mod EpollState
+pub mod RegistrationState
 pub mod Registrations
 pub mod RegistrationParts
 pub mod Registry

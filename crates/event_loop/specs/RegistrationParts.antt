@@ -1,9 +1,10 @@
--- What the code keeps beside the poller: who owns what, and the batch.
-use Rattle.std.specs.Prelude.{◌≡◌, ℕ, Bool, List, [], refl}
+-- The two parts of what the code keeps: who owns what, and the batch.
+use Rattle.std.specs.Prelude.{ℕ, Bool, List, [], refl}
 use Rattle.std.specs.Coded.{Coded, code_by, coded×, coded_ℕ, coded_bool, coded_list}
 use Rattle.dispatch_tables.specs.Event.{Event, event_code}
 use Rattle.dispatch_tables.specs.Ownership.{OwnerMap, owner_map_code}
 use Rattle.event_loop.specs.Registrations.{Registrations}
+use Rattle.event_loop.specs.RegistrationState.{RegistrationState}
 
 -- the owners, and the endpoint's descriptor
 pub record OwnerState : Type 0 where
@@ -24,10 +25,10 @@ batch_state_code =
     code_by (ℕ × (List (Event × Bool) × ℕ)) (coded× coded_ℕ (coded× (coded_list (coded× event_code coded_bool)) coded_ℕ))
     (λ b. (b.capacity, (b.ready, b.room))) (λ p. record { capacity = p.0; ready = p.1.0; room = p.1.1 }) (λ _. refl)
 
--- the same positions are still to come, of a batch of the same capacity
-abbrev pub IsSameBatch : BatchState → BatchState → Type 0
-IsSameBatch before after = (after.ready ≡ before.ready) × (after.capacity ≡ before.capacity)
-
 -- the registrations where no batch is under way
 abbrev pub between_batches : OwnerState → Registrations
 between_batches s = record { owners = s.owners; endpoint = s.endpoint; pending = [] }
+
+-- the two parts as one
+abbrev pub joined : OwnerState → BatchState → RegistrationState
+joined s b = record { owners = s.owners; endpoint = s.endpoint; capacity = b.capacity; ready = b.ready }

@@ -2,9 +2,8 @@
 use Rattle.std.specs.Prelude.{◌≡◌, ℕ, cond, List, None, nat_lt}
 use Rattle.std.specs.FinMap as map
 use Rattle.event_loop.specs.PollerCall.{PollerCall, Controls, Waits, Leads}
-use Rattle.event_loop.specs.Registry.{AreOwnedBy, AreDeletes, without_owner}
-use Rattle.event_loop.specs.RegistrationParts.{IsSameBatch}
-use Rattle.event_loop.specs.EpollState.{registrations_of}
+use Rattle.event_loop.specs.Registry.{AreOwnedBy, AreDeletes}
+use Rattle.event_loop.specs.RegistrationState.{registrations_of, left_in}
 use Rattle.dispatch_tables.specs.WatchLists.{times_in}
 use Rattle.dispatch_tables.specs.Ownership.{OwnerMap}
 use Rattle.event_loop.specs.declared.epoll.EpollWrapper.{EpollWrapper}
@@ -18,8 +17,7 @@ module _ {P : Type 0} (controls : Controls P) (waits : Waits P) where
   pub record HasReleased (before after : EpollWrapper P) (i : ℕ) : Type 0 where
     pub fds : List ℕ
     pub calls : List PollerCall
-    pub owned : AreOwnedBy i (registrations_of before) fds
+    pub owned : AreOwnedBy i (registrations_of before.registrations) fds
     pub deletes : AreDeletes fds calls
     pub led : Leads controls waits before.poller calls after.poller
-    pub freed : after.registrations ≡ record before.registrations { owners = without_owner i before.registrations.owners }
-    pub same_batch : IsSameBatch before.ready_list after.ready_list
+    pub freed : after.registrations ≡ left_in i before.registrations

@@ -4,7 +4,7 @@ use Rattle.dispatch_tables.specs.Event.{Event}
 use Rattle.event_loop.specs.PollerCall.{Wait, Controls, Waits, Leads}
 use Rattle.event_loop.specs.Exchange.{Serves}
 use Rattle.event_loop.specs.Registry as model
-use Rattle.event_loop.specs.EpollState.{registrations_of, not_cancelled, cancel_removed}
+use Rattle.event_loop.specs.RegistrationState.{registrations_of, not_cancelled, cancel_removed}
 use Rattle.event_loop.specs.Dispatch.{Delivery, Position, exchanges_of, events_of, with_pending, IsDelivery, AreDispatched}
 use Rattle.vmm_sys.specs.declared.errno.Errno.{Errno}
 use Rattle.event_loop.specs.Iteration.{calls_of_delivery, calls_of_positions, run_answer, is_reported}
@@ -18,11 +18,11 @@ use Rattle.event_loop.specs.declared.registry.Registry.{Registry}
 module _ {S P : Type 0} where
   -- in the middle of a batch: the pending events are the entries of the ready list that aren't cancelled
   abbrev pub registry_of : Registry S P → model.Registry S
-  registry_of r = record { values = r.subscribers.by_id; next = r.subscribers.next; registrations = registrations_of r.ops.epoll }
+  registry_of r = record { values = r.subscribers.by_id; next = r.subscribers.next; registrations = registrations_of r.ops.epoll.registrations }
 
   -- between two batches nothing is pending: the next wait writes over the ready list; a registry alone takes no jobs
   abbrev pub loop_state : Registry S P → LoopState S P
-  loop_state r = record { registry = with_pending [] (registry_of r); taken = 0; poller = r.ops.epoll.poller; capacity = r.ops.epoll.ready_list.capacity }
+  loop_state r = record { registry = with_pending [] (registry_of r); taken = 0; poller = r.ops.epoll.poller; capacity = r.ops.epoll.registrations.capacity }
 
   module _ (serves : Serves S) where
     -- one position was taken; `is_endpoint` says whether its event was on the endpoint's descriptor
@@ -31,11 +31,11 @@ module _ {S P : Type 0} where
       pub cancelled : Bool
       pub later : List (Event × Bool)
       pub delivery : Delivery S
-      pub was : before.ops.epoll.ready_list.ready ≡ (event, cancelled) ∷ later
+      pub was : before.ops.epoll.registrations.ready ≡ (event, cancelled) ∷ later
       pub had : IsDelivery serves (with_pending (not_cancelled later) (registry_of before)) cancelled event delivery (registry_of after)
-      pub ready : after.ops.epoll.ready_list.ready ≡ cancel_removed (exchanges_of delivery) later
+      pub ready : after.ops.epoll.registrations.ready ≡ cancel_removed (exchanges_of delivery) later
       pub led : Leads controls waits before.ops.epoll.poller (calls_of_delivery delivery) after.ops.epoll.poller
-      pub same_capacity : after.ops.epoll.ready_list.capacity ≡ before.ops.epoll.ready_list.capacity
+      pub same_capacity : after.ops.epoll.registrations.capacity ≡ before.ops.epoll.registrations.capacity
       pub same_endpoint : after.ops.epoll.registrations.endpoint ≡ before.ops.epoll.registrations.endpoint
       pub noticed : is_endpoint ≡ (event.fd == before.ops.epoll.registrations.endpoint)
 
@@ -45,8 +45,8 @@ module _ {S P : Type 0} where
       pub events : events_of positions ≡ ordered
       pub dispatched : AreDispatched serves (registry_of before) [] positions (registry_of after)
       pub led : Leads controls waits before.ops.epoll.poller (calls_of_positions positions) after.ops.epoll.poller
-      pub same_capacity : after.ops.epoll.ready_list.capacity ≡ before.ops.epoll.ready_list.capacity
-      pub over : after.ops.epoll.ready_list.ready ≡ []
+      pub same_capacity : after.ops.epoll.registrations.capacity ≡ before.ops.epoll.registrations.capacity
+      pub over : after.ops.epoll.registrations.ready ≡ []
       pub noticed : endpoint_ready ≡ is_reported before.ops.epoll.registrations.endpoint ordered
 
 -- the count of a batch, or the refusal

@@ -3,7 +3,8 @@
 ghost use Rattle.std.specs.Prelude.{◌≡◌, ◌≤◌, ◌<◌, ◌+◌, ◌==◌, List, [], ◌∷◌, pos, OnOk, IfOk, Result, Bool, MatchOption, ◌^◌};
 ghost use Rattle.dispatch_tables.specs.Event.{Event, event_of_entry};
 ghost use Rattle.event_loop.specs.PollerCall.{Wait, Leads};
-ghost use Rattle.event_loop.specs.EpollState.{cancel_on, HasWaited};
+ghost use Rattle.event_loop.specs.RegistrationParts.{joined};
+ghost use Rattle.event_loop.specs.RegistrationState.{cancel_on, HasWaited};
 ghost use Rattle.vmm_sys.specs.declared.errno.Errno.{Errno};
 
 use crate::events::Events;
@@ -132,7 +133,7 @@ impl ReadyList {
     ) -> std::result::Result<usize, Errno>
         ensures waited { (answer : Result (List Event) Errno)
             × Leads P.controls P.waits poller.old (Wait ms self.old.capacity answer ∷ []) poller.new
-            × HasWaited registrations.now self.old answer result self.new }
+            × HasWaited (joined registrations.now self.old) answer result (joined registrations.now self.new) }
         ensures room { self.old.room ≤ self.new.room }
     {
         self.at = 0;

@@ -1,68 +1,88 @@
 //! The registrations and the batch, beside the poller that keeps the interest list.
 
-ghost use Rattle.std.specs.Prelude.{◌≡◌, ◌≤◌, [], ◌∷◌, OnOk, IfErr, IfOk};
+ghost use Rattle.std.specs.Prelude.{◌≡◌, ◌<◌, ◌^◌, List, [], ◌∷◌, OnOk, IfErr, IfOk, IfSome, Result, Bool, IsTrue, ◌↔◌, ◌==◌, MatchOption, All};
 ghost use Rattle.std.specs.FinMap as map;
+ghost use Rattle.dispatch_tables.specs.Event.{Event, event_of_entry};
+ghost use Rattle.event_loop.specs.PollerCall.{Control, Wait, Leads};
+ghost use Rattle.event_loop.specs.Registrations.{Owns, IsFree};
+ghost use Rattle.event_loop.specs.Registry.{AreOwnedBy};
+ghost use Rattle.event_loop.specs.Exchange.{IsVacant};
+ghost use Rattle.dispatch_tables.specs.Owners.{IsOwnerAt};
+ghost use Rattle.event_loop.specs.RegistrationState.{registrations_of, cancel_on, left_in, HasWaited};
+ghost use Rattle.event_loop.specs.Releasing.{HasReleased};
+ghost use Rattle.vmm_sys.specs.declared.errno.Errno.{Errno};
 
-use crate::batch::ReadyList;
+use crate::batch::{ReadyEntry, ReadyList};
 use crate::error::{Error, Result};
 use crate::events::Events;
 use crate::poller::EventPoller;
 use crate::registrations::Registrations;
+use dispatch_tables::owners::Owner;
 use dispatch_tables::priority::Priority;
 use std::alloc::{AllocError, Global};
-use vmm_sys::epoll::ControlOperation;
+use std::marker::Model;
+use vmm_sys::epoll::{ControlOperation, EpollEvent};
 use vmm_sys::errno::Errno;
 
-/// Who owns which descriptor, what is still to come of the current batch, and the poller.
+/// Who owns which descriptor, and what is still to come of the current batch.
 ///
 /// All owned descriptors can be cancelled without memory: an addition makes the room that its removal needs.
 #[derive(Drop)]
-pub struct EpollWrapper<P> {
-    pub(crate) registrations: Registrations,
-    pub(crate) ready_list: ReadyList,
-    pub(crate) poller: P,
-    ghost room: { map.len registrations.owners ≤ ready_list.room },
+pub(crate) struct RegistrationState {
+    registrations: Registrations,
+    batch: ReadyList,
 }
 
-impl<P: EventPoller> EpollWrapper<P> {
-    ghost use Rattle.event_loop.specs.EpollState.{registrations_of, cancel_on};
-    ghost use Rattle.event_loop.specs.PollerCall.{Control, Leads};
-    ghost use Rattle.event_loop.specs.RegistrationParts.{IsSameBatch};
-    ghost use Rattle.event_loop.specs.Registrations.{Owns, IsFree};
-    ghost use Rattle.event_loop.specs.Releasing.{HasReleased};
+impl Model for RegistrationState {
+    ghost use Rattle.std.specs.Prelude.{◌≤◌};
+    ghost use Rattle.std.specs.FinMap as map;
+    ghost use Rattle.event_loop.specs.RegistrationParts.{joined};
+    ghost use Rattle.event_loop.specs.RegistrationState.{RegistrationState as State, registration_state_code};
 
+    ghost Value = { State };
+
+    ghost coded = { registration_state_code };
+
+    ghost view = { λ s. joined s.registrations s.batch };
+
+    ghost invariant = { λ s. map.len s.registrations.owners ≤ s.batch.room };
+}
+
+impl RegistrationState {
     /// No registration, with room for a batch of `capacity` entries.
     pub(crate) fn new(
         alloc: Global,
-        poller: P,
         endpoint: u32,
         capacity: usize,
     ) -> std::result::Result<Self, AllocError>
-    where
-        P: Drop,
-        ensures registrations { IfOk result (λ epoll. epoll.registrations ≡ record { owners = map.empty; endpoint = endpoint }) }
-        ensures ready_list { IfOk result (λ epoll. (epoll.ready_list.ready ≡ []) × (epoll.ready_list.capacity ≡ capacity)) }
-        ensures poller { IfOk result (λ epoll. epoll.poller ≡ poller) }
+        ensures { IfOk result (λ r. r ≡ record { owners = map.empty; endpoint = endpoint; capacity = capacity; ready = [] }) }
     {
-        let ready_list = ReadyList::new(alloc, capacity)?;
-        Ok(EpollWrapper {
+        let batch = ReadyList::new(alloc, capacity)?;
+        Ok(RegistrationState {
             registrations: Registrations::new(alloc, endpoint),
-            ready_list,
-            poller,
+            batch,
         })
     }
 
-    /// Asks the poller once for a change of its interest list.
-    pub(crate) fn ctl(
-        &mut self,
-        op: ControlOperation,
-        events: Events,
-    ) -> std::result::Result<(), Errno>
-        ensures registrations { self.new.registrations ≡ self.old.registrations }
-        ensures ready_list { IsSameBatch self.old.ready_list self.new.ready_list }
-        ensures led { Leads P.controls P.waits self.old.poller (Control op events.fd events result ∷ []) self.new.poller }
+    /// Whether the descriptor may be added, as far as the registrations say.
+    pub(crate) fn check_vacant(&self, events: Events) -> Result<()>
+        ensures { IsVacant (registrations_of self.now) events result }
     {
-        self.poller.control(op, events.number(), events)
+        self.registrations.check_vacant(events)
+    }
+
+    /// Whether the id owns the descriptor.
+    pub(crate) fn is_owner(&self, id: u64, events: Events) -> bool
+        ensures { IsTrue result ↔ Owns id (registrations_of self.now) events.fd }
+    {
+        self.registrations.is_owner(id, events)
+    }
+
+    /// Opens the watch list of an id, at the place of its subscriber. Where memory is refused, all stays as it was.
+    pub(crate) fn open(&mut self, id: u64, place: usize) -> std::result::Result<(), AllocError>
+        ensures { self.new ≡ self.old }
+    {
+        self.registrations.open(id, place)
     }
 
     /// Enters the owner of the descriptor, and the descriptor in the watch list of the owner's id; makes the room that a
@@ -75,27 +95,97 @@ impl<P: EventPoller> EpollWrapper<P> {
         priority: Priority,
     ) -> Result<()>
         requires { IsFree (registrations_of self.old) events.fd }
-        ensures ok { OnOk result (self.new.registrations ≡ record self.old.registrations
-            { owners = map.insert self.old.registrations.owners events.fd (record { id = id; priority = priority }) }) }
-        ensures err { IfErr result (λ e. (e ≡ Error.OutOfMemory) × (self.new.registrations ≡ self.old.registrations)) }
-        ensures ready_list { IsSameBatch self.old.ready_list self.new.ready_list }
-        ensures poller { self.new.poller ≡ self.old.poller }
+        ensures ok { OnOk result (self.new ≡ record self.old { owners = map.insert self.old.owners events.fd (record { id = id; priority = priority }) }) }
+        ensures err { IfErr result (λ e. (e ≡ Error.OutOfMemory) × (self.new ≡ self.old)) }
     {
-        self.ready_list.make_room(self.registrations.owned())?;
+        self.batch.make_room(self.registrations.owned())?;
         self.registrations.register(events, id, place, priority)
+    }
+
+    /// Frees a descriptor of the id's. Takes no memory.
+    pub(crate) fn unregister(&mut self, events: Events, id: u64)
+        requires { Owns id (registrations_of self.old) events.fd }
+        ensures { self.new ≡ record self.old { owners = map.remove self.old.owners events.fd } }
+    {
+        self.registrations.unregister(events, id);
     }
 
     /// Frees a descriptor of the id's, and cancels its events that are still to come; where none is, no descriptor is
     /// entered as cancelled. Takes no memory.
     pub(crate) fn remove(&mut self, events: Events, id: u64)
         requires { Owns id (registrations_of self.old) events.fd }
-        ensures freed { self.new.registrations ≡ record self.old.registrations { owners = map.remove self.old.registrations.owners events.fd } }
-        ensures cancelled { self.new.ready_list.ready ≡ cancel_on events.fd self.old.ready_list.ready }
-        ensures capacity { self.new.ready_list.capacity ≡ self.old.ready_list.capacity }
-        ensures poller { self.new.poller ≡ self.old.poller }
+        ensures { self.new ≡ record self.old { owners = map.remove self.old.owners events.fd; ready = cancel_on events.fd self.old.ready } }
     {
         self.registrations.unregister(events, id);
-        self.ready_list.cancel(events);
+        self.batch.cancel(events);
+    }
+
+    /// Frees all descriptors of the id, whose list is looked for at the place, and answers them. Takes no memory.
+    pub(crate) fn take_watched(&mut self, id: u64, place: usize) -> Vec<u32>
+        ensures owned { AreOwnedBy id (registrations_of self.old) result.items }
+        ensures are_descriptors { All (λ fd. fd < 2 ^ 31) result.items }
+        ensures freed { self.new ≡ left_in id self.old }
+    {
+        self.registrations.take_watched(id, place)
+    }
+
+    /// Leaves the room of a list that was taken to the next at its place. Takes no memory.
+    pub(crate) fn keep_room(&mut self, place: usize, fds: Vec<u32>)
+        ensures { self.new ≡ self.old }
+    {
+        self.registrations.keep_room(place, fds);
+    }
+
+    /// Takes the next entry of the ready list. Once the last one is taken, no descriptor is cancelled any more.
+    pub(crate) fn next_ready(&mut self) -> Option<ReadyEntry>
+        ensures { MatchOption result ((self.old.ready ≡ []) × (self.new ≡ self.old))
+            (λ t. (rest : List (Event × Bool)) × (self.old.ready ≡ (event_of_entry t.entry, t.cancelled) ∷ rest) × (self.new ≡ record self.old { ready = rest })
+            × (t.is_endpoint ≡ ((event_of_entry t.entry).fd == self.old.endpoint))) }
+    {
+        self.batch.next_ready(self.registrations.endpoint())
+    }
+
+    /// The owner of the descriptor of an entry.
+    pub(crate) fn owner(&self, entry: &EpollEvent) -> Option<Owner>
+        ensures value { IsOwnerAt self.now.owners (event_of_entry entry.now).fd result }
+        ensures is_descriptor { IfSome result (λ _. (event_of_entry entry.now).fd < 2 ^ 31) }
+    {
+        self.registrations.owner(entry)
+    }
+
+    /// Waits for a batch, which takes the place of the one before, with no descriptor cancelled, and puts it in the order of
+    /// dispatch. Takes no memory.
+    pub(crate) fn wait<P: EventPoller>(
+        &mut self,
+        poller: &mut P,
+        ms: i32,
+    ) -> std::result::Result<usize, Errno>
+        ensures { (answer : Result (List Event) Errno)
+            × Leads P.controls P.waits poller.old (Wait ms self.old.capacity answer ∷ []) poller.new
+            × HasWaited self.old answer result self.new }
+    {
+        self.batch.wait(poller, ms, &self.registrations)
+    }
+}
+
+/// The registrations beside the poller.
+#[derive(Drop)]
+pub struct EpollWrapper<P> {
+    pub(crate) registrations: RegistrationState,
+    pub(crate) poller: P,
+}
+
+impl<P: EventPoller> EpollWrapper<P> {
+    /// Asks the poller once for a change of its interest list.
+    pub(crate) fn ctl(
+        &mut self,
+        op: ControlOperation,
+        events: Events,
+    ) -> std::result::Result<(), Errno>
+        ensures registrations { self.new.registrations ≡ self.old.registrations }
+        ensures led { Leads P.controls P.waits self.old.poller (Control op events.fd events result ∷ []) self.new.poller }
+    {
+        self.poller.control(op, events.number(), events)
     }
 
     /// Frees all descriptors of the id, whose list is looked for at the place, and asks the poller one Delete for each,

@@ -62,7 +62,10 @@ impl<P: EventPoller> EventOps<P> {
             Ok(()) => {}
             Err(e) => return Err(e),
         }
-        match epoll.register(events, self.id, self.place, priority) {
+        match epoll
+            .registrations
+            .register(events, self.id, self.place, priority)
+        {
             Ok(()) => {}
             Err(e) => return Err(e),
         }
@@ -106,7 +109,7 @@ impl<P: EventPoller> EventOps<P> {
         }
         match epoll.ctl(ControlOperation::Delete, events) {
             Ok(()) => {
-                epoll.remove(events, self.id);
+                epoll.registrations.remove(events, self.id);
                 Ok(())
             }
             Err(e) => Err(Error::Epoll(e)),

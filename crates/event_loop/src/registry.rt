@@ -3,11 +3,11 @@
 ghost use Rattle.std.specs.Prelude.{◌≡◌, [], map, IfErr, IfOk, MatchOption};
 ghost use Rattle.dispatch_tables.specs.Members.{nobody};
 ghost use Rattle.event_loop.specs.Registry.{LoopStep};
-ghost use Rattle.event_loop.specs.EpollState.{all_pending};
+ghost use Rattle.event_loop.specs.RegistrationState.{all_pending};
 ghost use Rattle.event_loop.specs.LoopState.{HasStepped, IsJoin, IsLeave, new_loop, no_descriptor, with_next_id};
 ghost use Rattle.event_loop.specs.Subscribers.{TakesPosition, IsDispatched, IsBatch, IsNew, loop_state};
 
-use crate::epoll::EpollWrapper;
+use crate::epoll::{EpollWrapper, RegistrationState};
 use crate::error::{Error, Result};
 use crate::events::Events;
 use crate::ops::EventOps;
@@ -62,7 +62,11 @@ impl<S: MutEventSubscriber, P: EventPoller> Registry<S, P> {
         P: Drop,
         ensures { IsNew P.controls poller endpoint capacity result }
     {
-        let mut epoll = EpollWrapper::new(alloc, poller, endpoint.number(), capacity)?;
+        let registrations = RegistrationState::new(alloc, endpoint.number(), capacity)?;
+        let mut epoll = EpollWrapper {
+            registrations,
+            poller,
+        };
         match epoll.ctl(ControlOperation::Add, endpoint) {
             Ok(()) => Ok(Registry::over(alloc, epoll, FIRST_ID)),
             Err(errno) => Err(Error::Epoll(errno)),
@@ -82,7 +86,11 @@ impl<S: MutEventSubscriber, P: EventPoller> Registry<S, P> {
         ensures made { IfOk result (λ made. loop_state made ≡ with_next_id (new_loop no_descriptor poller capacity) first_id) }
         ensures refusals { IfErr result (λ error. error ≡ Error.OutOfMemory) }
     {
-        let epoll = EpollWrapper::new(alloc, poller, NO_DESCRIPTOR, capacity)?;
+        let registrations = RegistrationState::new(alloc, NO_DESCRIPTOR, capacity)?;
+        let epoll = EpollWrapper {
+            registrations,
+            poller,
+        };
         Ok(Registry::over(alloc, epoll, first_id))
     }
 
@@ -105,17 +113,16 @@ impl<S: MutEventSubscriber, P: EventPoller> Registry<S, P> {
     /// left.
     fn dispatch_next(&mut self) -> Option<bool>
         ensures { MatchOption result
-            ((self.new ≡ self.old) × (self.old.ops.epoll.ready_list.ready ≡ []))
+            ((self.new ≡ self.old) × (self.old.ops.epoll.registrations.ready ≡ []))
             (λ is_endpoint. TakesPosition S.serves P.controls P.waits self.old is_endpoint self.new) }
     {
-        let epoll = &mut self.ops.epoll;
-        let Some(ready_entry) = epoll.ready_list.next_ready(epoll.registrations.endpoint()) else {
+        let Some(ready_entry) = self.ops.epoll.registrations.next_ready() else {
             return None;
         };
         if ready_entry.cancelled {
             return Some(ready_entry.is_endpoint);
         }
-        let Some(owner) = epoll.registrations.owner(&ready_entry.entry) else {
+        let Some(owner) = self.ops.epoll.registrations.owner(&ready_entry.entry) else {
             return Some(ready_entry.is_endpoint);
         };
         let Some(subscriber) = self.subscribers.get_mut_at(owner.place, owner.id) else {
@@ -129,8 +136,8 @@ impl<S: MutEventSubscriber, P: EventPoller> Registry<S, P> {
 
     /// Dispatches the batch. Answers whether an event of it was on the endpoint's descriptor.
     fn dispatch(&mut self) -> bool
-        requires { self.old.ops.epoll.ready_list.ready ≡ all_pending (map (λ p. p.0) self.old.ops.epoll.ready_list.ready) }
-        ensures { IsDispatched S.serves P.controls P.waits self.old self.new (map (λ p. p.0) self.old.ops.epoll.ready_list.ready) result }
+        requires { self.old.ops.epoll.registrations.ready ≡ all_pending (map (λ p. p.0) self.old.ops.epoll.registrations.ready) }
+        ensures { IsDispatched S.serves P.controls P.waits self.old self.new (map (λ p. p.0) self.old.ops.epoll.registrations.ready) result }
     {
         let mut endpoint_ready = false;
         while let Some(is_endpoint) = self.dispatch_next() {
@@ -147,10 +154,11 @@ impl<S: MutEventSubscriber, P: EventPoller> Registry<S, P> {
     pub fn run_with_timeout(&mut self, ms: i32) -> Result<Batch>
         ensures { IsBatch S.serves P.controls P.waits (loop_state self.old) ms result (loop_state self.new) }
     {
-        let epoll = &mut self.ops.epoll;
-        match epoll
-            .ready_list
-            .wait(&mut epoll.poller, ms, &epoll.registrations)
+        match self
+            .ops
+            .epoll
+            .registrations
+            .wait(&mut self.ops.epoll.poller, ms)
         {
             Ok(count) => {
                 let endpoint_ready = self.dispatch();

@@ -1,9 +1,11 @@
 -- A list of calls that was driven, taken apart: each call did what the single call promises.
-use Rattle.event_manager.proofs.Prelude.{◌≡◌, ℕ, List, [], ◌∷◌, ◌++◌, refl, sym, ap, subst, ◌∙◌, map, Vec, Result, Ok, Err, Some, None, PollerCall, Control, Wait, Controls, Waits, Leads, Answer, Begins, Serves, LoopStep, Joined, NotJoined, Left, Replaced, Requested, Refused, AreBelow, Registry, Steps, LacksId, May, ManagerState, run_answer, LoopState, HasStepped, IsJoin, IsLeave, IsLoopIteration, manager_state, Effect, Stepped, Iterated, TraceEntry, Matches, HasEffect, IsTrace, calls_of_effect, calls_of_trace, get}
+use Rattle.std.proofs.Common.{◌≡◌, ℕ, List, [], ◌∷◌, ◌++◌, refl, sym, ap, subst, ◌∙◌, map, Vec, Result, Ok, Err, Some, None}
 use Rattle.std.specs.declared.alloc.Global.{Global}
+use Rattle.event_loop.specs.Prelude.{PollerCall, Control, Wait, Controls, Waits, Leads, Answer, Begins, Serves, LoopStep, Joined, NotJoined, Left, Replaced, Requested, Refused, AreBelow, Registry, Steps, LacksId, May, ManagerState, run_answer, LoopState, HasStepped, IsJoin, IsLeave, IsLoopIteration, manager_state}
 use Rattle.event_loop.specs.declared.error.Error.{Error}
 use Rattle.event_loop.specs.declared.events.Request.{Request}
 use Rattle.event_loop.specs.declared.error.Error.TheVariants.{InvalidId}
+use Rattle.event_manager.specs.Trace.{Effect, Stepped, Iterated, TraceEntry, Matches, HasEffect, IsTrace, calls_of_effect, calls_of_trace}
 use Rattle.event_manager.specs.SingleCall.{IsAsk, IsReplacement, HasCalled}
 use Rattle.event_manager.specs.Driven.{IsTraceOf, IsDriven}
 use Rattle.event_manager.specs.Guarantees.{RemovedStayUnknown}
@@ -11,6 +13,7 @@ use Rattle.event_manager.specs.declared.calls.Call.{Call}
 use Rattle.event_manager.specs.declared.calls.Call.TheVariants as call
 use Rattle.event_manager.specs.declared.calls.Reply.{Reply}
 use Rattle.event_manager.specs.declared.calls.Reply.TheVariants as reply
+use Rattle.std.specs.FinMap.{get}
 use Rattle.event_manager.proofs.HeldIds.{removed_value}
 use Rattle.event_manager.proofs.Soundness.{trace_follows}
 use Rattle.event_manager.proofs.TraceSoFar.{driven_by}

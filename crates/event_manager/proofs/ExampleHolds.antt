@@ -1,9 +1,12 @@
 -- The example is a trace.
-use Rattle.event_manager.proofs.Prelude.{◌≡◌, ℕ, true≢false, refl, ap, [], ◌∷◌, Some, None, Ok, lit<, arith, nat_cmp, ◌==◌, get, insert, remove, empty, get-empty, get-insert, get-remove, Ownership, owner_of, class_in, Registrations, by_agreement, call_for, ManagerState, HasEffect, new_state}
+use Rattle.std.proofs.Common.{◌≡◌, ℕ, true≢false, refl, ap, [], ◌∷◌, Some, None, Ok, lit<, arith, nat_cmp, ◌==◌}
+use Rattle.std.specs.FinMap.{get, insert, remove, empty, get-empty, get-insert, get-remove}
 use Rattle.std.specs.Cmp.{nat_cmp_total}
+use Rattle.event_loop.specs.Prelude.{Ownership, owner_of, class_in, Registrations, by_agreement, call_for, ManagerState}
 use Rattle.event_loop.specs.declared.events.Request.TheVariants.{Add, Remove}
 use Rattle.dispatch_tables.specs.declared.priority.Priority.TheVariants.{Lowest}
 use Rattle.dispatch_tables.proofs.DispatchOrders.{ordered_already}
+use Rattle.event_manager.specs.Trace.{HasEffect, new_state}
 use Rattle.event_manager.specs.Example.{three, joins, iterates, any_begins, any_serves, any_may}
 use Rattle.dispatch_tables.proofs.Owning.{owner_id}
 

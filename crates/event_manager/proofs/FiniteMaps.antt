@@ -1,10 +1,13 @@
 -- Maps with only one id's entries.
-use Rattle.event_manager.proofs.Prelude.{◌≡◌, ◌≢◌, ℕ, ◌==◌, cond, Bool, true, false, not, refl, sym, ◌∙◌, ap, Some, None, Option, nat_cmp, eq-eqb, eqb-true, ne_eqb, FinMap, get, insert, remove, same_map, get-insert, get-remove, get-retain_keys, nat_cmp-IsAntisymmetric, Ownership, OwnerMap, owner_of, is_id, without_owner, Event, Registrations, owned_by, only_values}
+use Rattle.std.proofs.Common.{◌≡◌, ◌≢◌, ℕ, ◌==◌, cond, Bool, true, false, not, refl, sym, ◌∙◌, ap, Some, None, Option, nat_cmp, eq-eqb, eqb-true, ne_eqb}
 use Rattle.std.specs.Ordering.{eq_by_cmp}
+use Rattle.std.specs.FinMap.{FinMap, get, insert, remove, same_map, get-insert, get-remove, get-retain_keys, nat_cmp-IsAntisymmetric}
 use Rattle.std.specs.Cmp.{nat_cmp_total}
+use Rattle.event_loop.specs.Prelude.{Ownership, OwnerMap, owner_of, is_id, without_owner, Event, Registrations}
 use Rattle.dispatch_tables.proofs.NumberTests.{nat_tied}
 use Rattle.dispatch_tables.proofs.Owning.{owner_id-cond, owner_id}
 use Rattle.event_loop.proofs.WithoutOwner.{get-without_owner}
+use Rattle.event_manager.specs.Projection.{owned_by, only_values}
 use Rattle.dispatch_tables.specs.declared.priority.Priority.{Priority}
 
 -- with the descriptor of an event owned by id i, at this priority

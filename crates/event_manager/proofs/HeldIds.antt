@@ -1,6 +1,8 @@
 -- Ids that are held, and which numbers they are below.
-use Rattle.event_manager.proofs.Prelude.{◌≡◌, ◌⊎◌, ℕ, ◌+◌, ◌<◌, cond, refl, sym, ap, subst, ◌∙◌, inl, inr, arith, Some, None, nat_cmp, is_eq, Equal, FinMap, get, insert, remove, get-remove, eqb_tells}
+use Rattle.std.proofs.Common.{◌≡◌, ◌⊎◌, ℕ, ◌+◌, ◌<◌, cond, refl, sym, ap, subst, ◌∙◌, inl, inr, arith, Some, None, nat_cmp, is_eq, Equal}
+use Rattle.std.specs.FinMap.{FinMap, get, insert, remove, get-remove}
 use Rattle.std.specs.Cmp.{nat_cmp_total, nat_cmp_is}
+use Rattle.std.proofs.lemmas.Bool.Decides.{eqb_tells}
 use Rattle.event_loop.specs.Registry.{AreBelow}
 use Rattle.event_manager.proofs.Isolation.{insert_other_value, remove_other_value}
 

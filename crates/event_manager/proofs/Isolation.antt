@@ -1,11 +1,15 @@
 -- What one id does leaves the others as they were; exchanges join; leaving frees exactly its own.
-use Rattle.event_manager.proofs.Prelude.{◌≡◌, ◌≢◌, ℕ, ◌==◌, cond, Bool, true, false, not, refl, sym, ◌∙◌, ap, subst, Some, None, Option, inl, inr, nat_cmp, List, [], ◌∷◌, ◌++◌, filter, true≢false, if◌then◌else◌, eq-eqb, append_assoc, arith, FinMap, get, insert, remove, get-insert, get-remove, eqb_tells, nat_tests, Event, Registrations, IsFree, Ownership, OwnerMap, owner_of, PollerCall, Answer, Exchanges, Fits, by_manager, by_poller, by_agreement, ExchangesFit, ReachesPoller, registrations_after, Begins, Serves, Registry, LoopStep, Joined, NotJoined, Left, Replaced, Requested, Refused, Steps, is_id, id_of, without_owner, Delivery, Nobody, To, IsDelivery, receiver_of, owned_by}
+use Rattle.std.proofs.Common.{◌≡◌, ◌≢◌, ℕ, ◌==◌, cond, Bool, true, false, not, refl, sym, ◌∙◌, ap, subst, Some, None, Option, inl, inr, nat_cmp, List, [], ◌∷◌, ◌++◌, filter, true≢false, if◌then◌else◌, eq-eqb, append_assoc, arith}
+use Rattle.std.specs.FinMap.{FinMap, get, insert, remove, get-insert, get-remove}
 use Rattle.std.specs.Ordering.{eq_by_cmp}
 use Rattle.std.specs.Cmp.{nat_cmp_total}
+use Rattle.std.proofs.lemmas.Bool.Decides.{eqb_tells, nat_tests}
+use Rattle.event_loop.specs.Prelude.{Event, Registrations, IsFree, Ownership, OwnerMap, owner_of, PollerCall, Answer, Exchanges, Fits, by_manager, by_poller, by_agreement, ExchangesFit, ReachesPoller, registrations_after, Begins, Serves, Registry, LoopStep, Joined, NotJoined, Left, Replaced, Requested, Refused, Steps, is_id, id_of, without_owner, Delivery, Nobody, To, IsDelivery}
 use Rattle.event_loop.specs.declared.events.Request.{Request}
 use Rattle.event_loop.specs.declared.events.Request.TheVariants.{Add, AddWithPriority, Modify, Remove}
 use Rattle.dispatch_tables.specs.declared.priority.Priority.{Priority}
 use Rattle.dispatch_tables.specs.declared.priority.Priority.TheVariants.{Lowest}
+use Rattle.event_manager.specs.Projection.{receiver_of, owned_by}
 use Rattle.event_manager.specs.Guarantees.{pending_of, IsUntouched, FreesExactly}
 use Rattle.dispatch_tables.proofs.NumberTests.{fd_tells, nat_tied}
 use Rattle.event_loop.proofs.WithoutOwner.{get-without_owner}

@@ -1,11 +1,14 @@
 -- Jobs after a batch, put together to an iteration.
-use Rattle.event_manager.proofs.Prelude.{◌≡◌, ◌≢◌, All, ℕ, ◌+◌, ◌==◌, ℤ, List, [], ◌∷◌, refl, sym, ap, ◌∙◌, true, false, get_or, ne_eqb, Result, Ok, Err, false≢true, Event, Wait, Controls, Waits, Begins, Serves, calls_of, May, Position, IsIteration, is_reported, calls_of_positions, calls_of_jobs, LoopState, IsDispatchedAfter, IsLoopIteration, flat_map}
+use Rattle.std.proofs.Common.{◌≡◌, ◌≢◌, All, ℕ, ◌+◌, ◌==◌, ℤ, List, [], ◌∷◌, refl, sym, ap, ◌∙◌, true, false, get_or, ne_eqb, Result, Ok, Err}
+use Rattle.std.proofs.lemmas.Bool.{false≢true}
 use Rattle.std.proofs.lemmas.List.Folds.{list_any_none}
 use Rattle.vmm_sys.specs.declared.errno.Errno.{Errno}
+use Rattle.event_loop.specs.Prelude.{Event, Wait, Controls, Waits, Begins, Serves, calls_of, May, Position, IsIteration, is_reported, calls_of_positions, calls_of_jobs, LoopState, IsDispatchedAfter, IsLoopIteration}
 use Rattle.event_manager.specs.JobRuns.{HasRun, JobsAreRun}
 use Rattle.event_loop.specs.Subscribers.{IsBatch, Notices}
 use Rattle.event_loop.specs.declared.registry.Batch.{Batch}
 use Rattle.event_loop.proofs.ExchangeLemmas.{leads_join}
+use Rattle.std.specs.List.{flat_map}
 
 none_reported : (fd : ℕ) (report : List Event) → All (λ e. e.fd ≢ fd) report → is_reported fd report ≡ false
 none_reported fd report all = list_any_none (λ (e : Event). e.fd == fd) report (λ k d within. ne_eqb (get_or report k d).fd fd (all k d within))

@@ -1,6 +1,7 @@
 -- Requests through what `event_ops` lent, as a step of the lender.
-use Rattle.event_manager.proofs.Prelude.{◌≡◌, ℕ, List, sym, subst, refl, ◌∙◌, [], Exchanges, ExchangesFit, Begins, PollerCall, Controls, Waits, Leads, HasId, Requested, LoopState, HasStepped, AreMadeThrough, StandsFor, with_ops}
-use Rattle.event_loop.specs.EpollState.{registrations_of}
+use Rattle.std.proofs.Common.{◌≡◌, ℕ, List, sym, subst, refl, ◌∙◌, []}
+use Rattle.event_loop.specs.Prelude.{Exchanges, ExchangesFit, Begins, PollerCall, Controls, Waits, Leads, HasId, Requested, LoopState, HasStepped, AreMadeThrough, StandsFor, with_ops}
+use Rattle.event_loop.specs.RegistrationState.{registrations_of}
 use Rattle.event_loop.specs.declared.ops.EventOps.{EventOps}
 use Rattle.event_loop.proofs.ExchangeLemmas.{idle_fits}
 
@@ -9,9 +10,9 @@ module _ {S P : Type 0} {begins : Begins S} {controls : Controls P} {waits : Wai
       → StandsFor lent id before → HasId before.registry id value → AreMadeThrough controls waits lent left exchanges calls → after ≡ with_ops before left
       → HasStepped begins controls waits before (Requested id exchanges calls) after
   lent_step before after lent left id value exchanges calls stands has made is =
-      let now = record (registrations_of left.epoll) { pending = [] } in
-      let by_id = subst (λ i. ExchangesFit i (registrations_of lent.epoll) exchanges calls (registrations_of left.epoll)) stands.same_id made.made.fits in
-      let idle = idle_fits id (registrations_of lent.epoll) exchanges calls (registrations_of left.epoll) by_id in
+      let now = record (registrations_of left.epoll.registrations) { pending = [] } in
+      let by_id = subst (λ i. ExchangesFit i (registrations_of lent.epoll.registrations) exchanges calls (registrations_of left.epoll.registrations)) stands.same_id made.made.fits in
+      let idle = idle_fits id (registrations_of lent.epoll.registrations) exchanges calls (registrations_of left.epoll.registrations) by_id in
       let fits = subst (λ r. ExchangesFit id r exchanges calls now) stands.registrations idle in
       let led = subst (λ p. Leads controls waits p calls left.epoll.poller) stands.poller made.made.led in
       subst (λ s. HasStepped begins controls waits before (Requested id exchanges calls) s) (sym is)

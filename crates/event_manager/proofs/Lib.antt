@@ -1,4 +1,3 @@
-pub mod Prelude
 pub mod ExampleHolds
 pub mod FiniteMaps
 pub mod HeldIds

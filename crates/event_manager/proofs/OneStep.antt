@@ -1,5 +1,7 @@
 -- One step of a registry, as a list of steps.
-use Rattle.event_manager.proofs.Prelude.{◌≡◌, ℕ, [], ◌∷◌, sym, subst, refl, append-nil, Begins, Controls, Waits, Leads, LoopStep, Replaced, Refused, HasId, LacksId, calls_of, LoopState, HasStepped, HaveStepped, with_value}
+use Rattle.std.proofs.Common.{◌≡◌, ℕ, [], ◌∷◌, sym, subst, refl}
+use Rattle.std.proofs.lemmas.List.{append-nil}
+use Rattle.event_loop.specs.Prelude.{Begins, Controls, Waits, Leads, LoopStep, Replaced, Refused, HasId, LacksId, calls_of, LoopState, HasStepped, HaveStepped, with_value}
 
 module _ {S P : Type 0} {begins : Begins S} {controls : Controls P} {waits : Waits P} where
   pub one_step : (before after : LoopState S P) (step : LoopStep S) → HasStepped begins controls waits before step after → HaveStepped begins controls waits before (step ∷ []) after

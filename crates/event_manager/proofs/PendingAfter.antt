@@ -1,5 +1,6 @@
 -- What is pending after a position.
-use Rattle.event_manager.proofs.Prelude.{Ok, eq-eqb, ne_eqb, ◌==◌, ◌≡◌, ℕ, cond, Bool, true, false, not, ◌||◌, refl, sym, ◌∙◌, ap, List, [], ◌∷◌, ◌++◌, filter, Err, inl, inr, Event, Registrations, PollerCall, Answer, Exchanges, Fits, by_manager, by_poller, by_agreement, ExchangesFit, registrations_after, removes, is_removal, Serves, Registry, Position, Delivery, Nobody, To, is_removed, still_pending, with_pending, IsDelivery}
+use Rattle.std.proofs.Common.{Ok, eq-eqb, ne_eqb, ◌==◌, ◌≡◌, ℕ, cond, Bool, true, false, not, ◌||◌, refl, sym, ◌∙◌, ap, List, [], ◌∷◌, ◌++◌, filter, Err, inl, inr}
+use Rattle.event_loop.specs.Prelude.{Event, Registrations, PollerCall, Answer, Exchanges, Fits, by_manager, by_poller, by_agreement, ExchangesFit, registrations_after, removes, is_removal, Serves, Registry, Position, Delivery, Nobody, To, is_removed, still_pending, with_pending, IsDelivery}
 use Rattle.event_loop.specs.declared.events.Request.{Request}
 use Rattle.event_loop.specs.declared.events.Request.TheVariants.{Add, AddWithPriority, Modify, Remove}
 use Rattle.dispatch_tables.proofs.NumberTests.{fd_tells}

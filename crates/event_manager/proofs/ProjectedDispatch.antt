@@ -1,5 +1,9 @@
 -- The projection of a dispatch.
-use Rattle.event_manager.proofs.Prelude.{◌≡◌, ◌≢◌, ℕ, Bool, true, false, ◌||◌, ◌==◌, refl, sym, ◌∙◌, ap, subst, Some, inl, inr, nat_cmp, List, [], ◌∷◌, ◌++◌, cond, filter, All, IfSome, true≢false, if◌then◌else◌, eq-eqb, eqb-true, FinMap, get, eqb_tells, Event, owner_of, PollerCall, Exchanges, removes, Serves, Registry, Delivery, Nobody, To, Position, exchanges_of, is_id, is_removed, still_pending, events_of, with_pending, IsFor, IsDelivery, AreDispatched, owned_by, only_values, projected_registrations, projected_registry, receiver_of, asks_to_add, adds, flat_map}
+use Rattle.std.proofs.Common.{◌≡◌, ◌≢◌, ℕ, Bool, true, false, ◌||◌, ◌==◌, refl, sym, ◌∙◌, ap, subst, Some, inl, inr, nat_cmp, List, [], ◌∷◌, ◌++◌, cond, filter, All, IfSome, true≢false, if◌then◌else◌, eq-eqb, eqb-true}
+use Rattle.std.specs.FinMap.{FinMap, get}
+use Rattle.std.proofs.lemmas.Bool.Decides.{eqb_tells}
+use Rattle.event_loop.specs.Prelude.{Event, owner_of, PollerCall, Exchanges, removes, Serves, Registry, Delivery, Nobody, To, Position, exchanges_of, is_id, is_removed, still_pending, events_of, with_pending, IsFor, IsDelivery, AreDispatched}
+use Rattle.event_manager.specs.Projection.{owned_by, only_values, projected_registrations, projected_registry, receiver_of, asks_to_add, adds}
 use Rattle.std.proofs.lemmas.List.Elements.{All-nil, All-cons}
 use Rattle.dispatch_tables.proofs.DispatchOrders.{nil_cons, head_is, tail_is}
 use Rattle.event_manager.proofs.FiniteMaps.{only_values-insert}
@@ -8,6 +12,7 @@ use Rattle.event_loop.proofs.ExchangeLemmas.{or_false, exchanges_keep_endpoint}
 use Rattle.event_loop.proofs.Positions.{is_removed-push}
 use Rattle.event_manager.proofs.ProjectedSteps.{projected_with, untouched_projected, has_projected, has_from_projected}
 use Rattle.event_manager.proofs.Isolation.{isolated_delivery}
+use Rattle.std.specs.List.{flat_map}
 
 -- the exchanges of id i in a delivery; in positions
 abbrev pub delivery_exchanges : {V : Type 0} → ℕ → Delivery V → Exchanges

@@ -1,5 +1,9 @@
 -- The projection of one id's step, and of another's.
-use Rattle.event_manager.proofs.Prelude.{◌≡◌, ◌≢◌, ℕ, ◌+◌, ◌<◌, ◌≤◌, ◌==◌, cond, Bool, true, false, not, refl, sym, ◌∙◌, ap, subst, arith, Some, None, Option, inl, inr, nat_cmp, List, [], true≢false, if◌then◌else◌, eq-eqb, eqb-true, le_of_eq, FinMap, get, eqb_tells, Event, OwnerMap, owner_of, Registrations, PollerCall, Exchanges, ExchangesFit, Begins, Registry, LoopStep, Joined, NotJoined, Left, Replaced, Requested, Refused, Steps, is_id, id_of, without_owner, ids_end, only_values, projected_registrations, projected_registry, step_exchanges, asks_to_add, adds}
+use Rattle.std.proofs.Common.{◌≡◌, ◌≢◌, ℕ, ◌+◌, ◌<◌, ◌≤◌, ◌==◌, cond, Bool, true, false, not, refl, sym, ◌∙◌, ap, subst, arith, Some, None, Option, inl, inr, nat_cmp, List, [], true≢false, if◌then◌else◌, eq-eqb, eqb-true, le_of_eq}
+use Rattle.std.specs.FinMap.{FinMap, get}
+use Rattle.std.proofs.lemmas.Bool.Decides.{eqb_tells}
+use Rattle.event_loop.specs.Prelude.{Event, OwnerMap, owner_of, Registrations, PollerCall, Exchanges, ExchangesFit, Begins, Registry, LoopStep, Joined, NotJoined, Left, Replaced, Requested, Refused, Steps, is_id, id_of, without_owner, ids_end}
+use Rattle.event_manager.specs.Projection.{only_values, projected_registrations, projected_registry, step_exchanges, asks_to_add, adds}
 use Rattle.event_loop.proofs.WithoutOwner.{owner_of-without_owner}
 use Rattle.event_manager.proofs.FiniteMaps.{get_only, owned_by-without_owner, only_values-insert, only_values-remove, only_values-same}
 use Rattle.event_manager.specs.Guarantees.{IsUntouched}

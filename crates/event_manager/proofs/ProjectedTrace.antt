@@ -1,6 +1,10 @@
 -- The projection of a trace is a trace: non-interference.
-use Rattle.event_manager.proofs.Prelude.{◌≡◌, ◌≢◌, ℕ, nat_lt, ◌+◌, ◌≤◌, Bool, true, false, ◌||◌, refl, sym, ◌∙◌, ap, ap₂, subst, cond, map, filter, Some, None, Option, ◌⊎◌, inl, inr, List, [], ◌∷◌, true≢false, if◌then◌else◌, eq-eqb, eqb-true, le-ltb, le_of_eq, arith, Ok, Err, Result, or_left, or_right, or_cases, Event, Exchanges, Begins, Serves, Registrations, Owns, owner_of, class_in, IsDispatchOrder, is_id, id_of, May, Position, events_of, ManagerState, JobRun, IsIteration, AreRun, Effect, Stepped, Iterated, TraceEntry, Matches, HasEffect, IsTrace, projected_registrations, projected_registry, projected_state, effect_exchanges, exchanges_in, asks_to_add, adds, stays, projected_effect, seen_in, IsOnly, IsProjection, NonInterference}
+use Rattle.std.proofs.Common.{◌≡◌, ◌≢◌, ℕ, nat_lt, ◌+◌, ◌≤◌, Bool, true, false, ◌||◌, refl, sym, ◌∙◌, ap, ap₂, subst, cond, map, filter, Some, None, Option, ◌⊎◌, inl, inr, List, [], ◌∷◌, true≢false, if◌then◌else◌, eq-eqb, eqb-true, le-ltb, le_of_eq, arith, Ok, Err, Result}
+use Rattle.std.proofs.lemmas.Bool.{or_left, or_right, or_cases}
 use Rattle.std.proofs.lemmas.List.Elements.{All-nil, All-cons}
+use Rattle.event_loop.specs.Prelude.{Event, Exchanges, Begins, Serves, Registrations, Owns, owner_of, class_in, IsDispatchOrder, is_id, id_of, May, Position, events_of, ManagerState, JobRun, IsIteration, AreRun}
+use Rattle.event_manager.specs.Trace.{Effect, Stepped, Iterated, TraceEntry, Matches, HasEffect, IsTrace}
+use Rattle.event_manager.specs.Projection.{projected_registrations, projected_registry, projected_state, effect_exchanges, exchanges_in, asks_to_add, adds, stays, projected_effect, seen_in, IsOnly, IsProjection, NonInterference}
 use Rattle.vmm_sys.specs.declared.errno.Errno.{Errno}
 use Rattle.event_manager.proofs.ProjectedExchanges.{IsMine, same_at_mine, asked_first, asked_then, adds_first, adds_then}
 use Rattle.event_manager.proofs.ProjectedSteps.{own_step, other_step}

@@ -1,9 +1,12 @@
 -- A list of calls, made one after another.
-use Rattle.event_manager.proofs.Prelude.{◌≡◌, ℕ, ℤ, List, [], ◌∷◌, ◌++◌, refl, sym, ap, subst, ◌∙◌, map, append_assoc, Vec, Result, Ok, Err, append-nil, map-append, Controls, Waits, Leads, Answer, Begins, Serves, LoopStep, AreBelow, May, ManagerState, LoopState, HasStepped, IsJoin, IsLeave, IsLoopIteration, manager_state, Effect, Stepped, Iterated, TraceEntry, Matches, IsTrace, calls_of_effect, calls_of_trace}
+use Rattle.std.proofs.Common.{◌≡◌, ℕ, ℤ, List, [], ◌∷◌, ◌++◌, refl, sym, ap, subst, ◌∙◌, map, append_assoc, Vec, Result, Ok, Err}
+use Rattle.std.proofs.lemmas.List.{append-nil, map-append}
 use Rattle.std.proofs.lemmas.List.Concat.{flat_map-append}
 use Rattle.std.specs.declared.alloc.Global.{Global}
+use Rattle.event_loop.specs.Prelude.{Controls, Waits, Leads, Answer, Begins, Serves, LoopStep, AreBelow, May, ManagerState, LoopState, HasStepped, IsJoin, IsLeave, IsLoopIteration, manager_state}
 use Rattle.event_loop.specs.declared.error.Error.{Error}
 use Rattle.event_loop.specs.declared.events.Request.{Request}
+use Rattle.event_manager.specs.Trace.{Effect, Stepped, Iterated, TraceEntry, Matches, IsTrace, calls_of_effect, calls_of_trace}
 use Rattle.event_manager.specs.SingleCall.{IsAsk, IsReplacement, HasCalled}
 use Rattle.event_manager.specs.Driven.{IsGuaranteed, IsTraceOf, IsDriven}
 use Rattle.event_manager.specs.declared.calls.Call.{Call}

@@ -1,5 +1,8 @@
 -- What was removed is unknown: by the replies of a trace.
-use Rattle.event_manager.proofs.Prelude.{◌≡◌, ℕ, List, [], ◌∷◌, ◌++◌, refl, sym, subst, ◌∙◌, map, Ok, Err, AllZip, Begins, Serves, LoopStep, Joined, NotJoined, Left, Replaced, Requested, Refused, May, ManagerState, Effect, Stepped, Iterated, TraceEntry, Matches, IsTrace}
+use Rattle.std.proofs.Common.{◌≡◌, ℕ, List, [], ◌∷◌, ◌++◌, refl, sym, subst, ◌∙◌, map, Ok, Err}
+use Rattle.std.specs.List.{AllZip}
+use Rattle.event_loop.specs.Prelude.{Begins, Serves, LoopStep, Joined, NotJoined, Left, Replaced, Requested, Refused, May, ManagerState}
+use Rattle.event_manager.specs.Trace.{Effect, Stepped, Iterated, TraceEntry, Matches, IsTrace}
 use Rattle.event_manager.specs.Guarantees.{AreRefusedTo, RemovedStayGone, IsUnknown, RemovedStayUnknown, steps_of, steps_of_effect}
 use Rattle.event_loop.specs.declared.error.Error.TheVariants.{InvalidId}
 use Rattle.event_manager.specs.declared.calls.Call.{Call}

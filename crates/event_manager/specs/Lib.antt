@@ -17,7 +17,7 @@ pub use Rattle.event_loop.specs.Subscribers
 pub use Rattle.event_loop.specs.PollerCall
 pub use Rattle.event_loop.specs.ReadyList
 pub use Rattle.event_loop.specs.RegistrationParts
-pub use Rattle.event_loop.specs.EpollState
+pub use Rattle.event_loop.specs.RegistrationState
 pub use Rattle.event_loop.specs.Registrations
 pub use Rattle.event_loop.specs.Registry
 pub use Rattle.event_loop.specs.Releasing

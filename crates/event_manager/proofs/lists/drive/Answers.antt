@@ -1,4 +1,5 @@
-use Rattle.event_manager.proofs.Prelude.{ap, ◌∙◌, map, reverse, [], ◌∷◌, arith, nil_from_length, reverse-append}
+use Rattle.std.proofs.Common.{ap, ◌∙◌, map, reverse, [], ◌∷◌, arith}
+use Rattle.std.proofs.lemmas.List.{nil_from_length, reverse-append}
 use Rattle.event_manager.specs.Manager.{state_of}
 use Rattle.event_manager.proofs.TraceSoFar.{none_traced, one_more_traced, all_traced}
 use Rattle.event_manager.proofs.lists.drive.Goals as goal

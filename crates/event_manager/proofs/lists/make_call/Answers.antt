@@ -1,7 +1,8 @@
 use mir.Val.{SFits}
 use mir.Syntax.{w32}
-use Rattle.event_manager.proofs.Prelude.{rules, sym, ap, Stepped, Iterated}
+use Rattle.std.proofs.Common.{rules, sym, ap}
 use Rattle.std.proofs.lemmas.Int.{to_z-of_z}
+use Rattle.event_manager.specs.Trace.{Stepped, Iterated}
 use Rattle.event_manager.specs.declared.calls.Call.TheVariants as call
 use Rattle.event_manager.specs.declared.calls.Reply.TheVariants as reply
 use Rattle.event_manager.proofs.TraceSoFar.{join_matches, leave_matches, replacement_matches, ask_matches, step_called, iteration_called}

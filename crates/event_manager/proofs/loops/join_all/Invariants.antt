@@ -1,4 +1,5 @@
-use Rattle.event_manager.proofs.Prelude.{map, AllZip}
+use Rattle.std.proofs.Common.{map}
+use Rattle.std.specs.List.{AllZip}
 use Rattle.event_manager.proofs.loops.join_all.Given as goal
 
 abbrev pub invariant-loop-thread : goal.invariant-loop-thread

@@ -1,5 +1,7 @@
-use Rattle.event_loop.proofs.Prelude.{◌≡◌, refl, arith, sym, ap, subst, ◌∙◌, Ok, Err, take, map, length, ◌≤◌, vec_len, with_items_is, to_z-of_z}
+use Rattle.std.proofs.Common.{◌≡◌, refl, arith, sym, ap, subst, ◌∙◌, Ok, Err, take, map, length, ◌≤◌, vec_len}
+use Rattle.std.proofs.lemmas.List.{with_items_is}
 use Rattle.std.specs.Vec.{with_items}
+use Rattle.std.proofs.lemmas.Int.{to_z-of_z}
 use Rattle.dispatch_tables.specs.Ownership.{class_in}
 use Rattle.dispatch_tables.specs.ClassOrder.{IsOrdered}
 use Rattle.dispatch_tables.specs.Event.{event_of_entry}
@@ -11,7 +13,7 @@ pub returns-in-Err-clause-waited : goal.returns-in-Err-clause-waited
 returns-in-Err-clause-waited g c =
     let fits = to_z-of_z _ _ c.ranges.ms in
     let answer = rw (fits, c.deref_mut.ensures.len) at c.in-Err.ensures.answer in
-    rw (← c.self.view_is) (Err c.in-Err.errno, (_, answer, tt, refl), (refl, refl, refl))
+    rw (← c.self.view_is) (Err c.in-Err.errno, (_, answer, tt, refl), (refl, refl))
 
 pub returns-in-Ok-clause-waited : goal.returns-in-Ok-clause-waited
 returns-in-Ok-clause-waited g c =
@@ -31,4 +33,4 @@ returns-in-Ok-clause-waited g c =
     let ordered = subst (λ l. IsOrdered (λ fd. class_in state.owners fd) (map event_of_entry (take n l)) (map event_of_entry (take n now))) waited c.order.ensures.ordered in
     let items = with_items_is (with_items b.buffer buffer) now (omega (arith, c.order.auto.report, c.deref_mut-in-Ok.ensures.len)) in
     let came = ap (λ items. ready_of items c.clear.new.self.items 0 n) items ∙ ap (λ l. ready_of now l 0 n) c.clear.ensures.items ∙ ready_all_pending now n in
-    rw (← c.self.view_is) (Ok report, (_, answer, within, refl), (map event_of_entry (take n now), ordered, counted, came, refl))
+    rw (← c.self.view_is) (Ok report, (_, answer, within, refl), (map event_of_entry (take n now), ordered, counted, λ k. record { owners = state.owners; endpoint = state.endpoint; capacity = vec_len b.buffer; ready = came k }))

@@ -1,4 +1,5 @@
-use Rattle.event_loop.proofs.Prelude.{Ok, Err, to_z-of_z}
+use Rattle.std.proofs.Common.{Ok, Err}
+use Rattle.std.proofs.lemmas.Int.{to_z-of_z}
 use Rattle.event_loop.specs.LoopState.{no_job}
 use Rattle.event_loop.specs.Subscribers.{loop_state}
 use Rattle.event_loop.proofs.WithoutJobs.{without_jobs}

@@ -1,4 +1,5 @@
-use Rattle.event_loop.proofs.Prelude.{refl, sym, ap, ◌∙◌, arith, [], ◌∷◌, ◌++◌, length_push}
+use Rattle.std.proofs.Common.{refl, sym, ap, ◌∙◌, arith, [], ◌∷◌, ◌++◌}
+use Rattle.std.proofs.lemmas.List.{length_push}
 use Rattle.std.specs.Result.{result_and}
 use Rattle.event_loop.specs.Exchange.{first_refusal}
 use Rattle.event_loop.proofs.RequestsSoFar.{none_requested, one_more_requested, all_requested, next_refusal}

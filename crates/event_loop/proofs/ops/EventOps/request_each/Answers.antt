@@ -1,4 +1,5 @@
-use Rattle.event_loop.proofs.Prelude.{get_or, arith, ap, ◌∙◌, length-replicate, length-set, take_all}
+use Rattle.std.proofs.Common.{get_or, arith, ap, ◌∙◌}
+use Rattle.std.proofs.lemmas.List.{length-replicate, length-set, take_all}
 use Rattle.event_loop.proofs.RequestsSoFar.{none_requested, one_more_in_place, all_requested}
 use Rattle.event_loop.proofs.ops.EventOps.request_each.Goals as goal
 

@@ -1,4 +1,5 @@
-use Rattle.event_loop.proofs.Prelude.{subst, pos, to_z_pos}
+use Rattle.std.proofs.Common.{subst, pos}
+use Rattle.std.proofs.lemmas.Int.{to_z_pos}
 use mir.Syntax.{w32}
 use Rattle.event_loop.specs.PollerRelations.{packed}
 use Rattle.event_loop.proofs.poller.BoxedPollerEventPoller.control.Goals as goal

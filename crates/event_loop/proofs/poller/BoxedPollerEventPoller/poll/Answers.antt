@@ -1,4 +1,5 @@
-use Rattle.event_loop.proofs.Prelude.{subst, length, take, Ok, Err, [], arith, to_z-of_z}
+use Rattle.std.proofs.Common.{subst, length, take, Ok, Err, [], arith}
+use Rattle.std.proofs.lemmas.Int.{to_z-of_z}
 use Rattle.event_loop.proofs.Buffer.{waits_ok}
 use Rattle.event_loop.proofs.poller.BoxedPollerEventPoller.poll.Goals as goal
 

@@ -1,4 +1,5 @@
-use Rattle.event_loop.proofs.Prelude.{arith, ap, ◌+◌, len}
+use Rattle.std.proofs.Common.{arith, ap, ◌+◌}
+use Rattle.std.specs.FinMap.{len}
 use Rattle.dispatch_tables.specs.Ownership.{Ownership}
 use Rattle.dispatch_tables.proofs.Counting.{one_more_owner}
 use Rattle.dispatch_tables.proofs.RaisedOwners.{raised_at_most, counted_more, from_bool_at_most}

@@ -1,4 +1,5 @@
-use Rattle.event_loop.proofs.Prelude.{sym, ap, arith, ◌∙◌, OwnerState, between_batches}
+use Rattle.std.proofs.Common.{sym, ap, arith, ◌∙◌}
+use Rattle.event_loop.specs.RegistrationParts.{OwnerState, between_batches}
 use Rattle.event_loop.proofs.Consistent.{consistent_taken}
 use Rattle.event_loop.proofs.Watching.{owners_taken, owned_in_order, listed_are_descriptors}
 use Rattle.event_loop.proofs.registrations.Registrations.take_watched.Goals as goal

@@ -11,4 +11,4 @@ pub returns : goal.returns
 returns g c =
     let over = c.in_default.ensures in
     let entry = so_far_end g.S.MutEventSubscriber.serves g.P.EventPoller.controls g.P.EventPoller.waits c.args.self.now c.loop-is_endpoint.self _ c.loop-is_endpoint.endpoint_ready c.loop-is_endpoint.invariant over.1 in
-    subst (λ r. IsDispatched g.S.MutEventSubscriber.serves g.P.EventPoller.controls g.P.EventPoller.waits c.args.self.now r (map (λ p. p.0) c.args.self.now.ops.epoll.ready_list.ready) c.loop-is_endpoint.endpoint_ready) (sym over.0) entry
+    subst (λ r. IsDispatched g.S.MutEventSubscriber.serves g.P.EventPoller.controls g.P.EventPoller.waits c.args.self.now r (map (λ p. p.0) c.args.self.now.ops.epoll.registrations.ready) c.loop-is_endpoint.endpoint_ready) (sym over.0) entry

@@ -1,5 +1,7 @@
-use Rattle.event_loop.proofs.Prelude.{◌≡◌, refl, sym, true, Option, Some, None, false≢true, none_of}
+use Rattle.std.proofs.Common.{◌≡◌, refl, sym, true, Option, Some, None}
+use Rattle.std.proofs.lemmas.Bool.{false≢true}
 use Rattle.std.specs.Option.{is_some}
+use Rattle.dispatch_tables.proofs.MapEntries.{none_of}
 use Rattle.event_loop.proofs.registry.RegistrySubscriberOps.event_ops.Goals as goal
 
 some_of : {A : Type 0} (o : Option A) → true ≡ is_some o → (x : A) × (o ≡ Some x)

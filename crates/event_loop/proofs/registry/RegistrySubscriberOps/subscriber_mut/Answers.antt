@@ -1,4 +1,6 @@
-use Rattle.event_loop.proofs.Prelude.{refl, sym, ap, false≢true, insert}
+use Rattle.std.proofs.Common.{refl, sym, ap}
+use Rattle.std.proofs.lemmas.Bool.{false≢true}
+use Rattle.std.specs.FinMap.{insert}
 use Rattle.event_loop.specs.Subscribers.{loop_state}
 use Rattle.event_loop.proofs.registry.RegistrySubscriberOps.subscriber_mut.Goals as goal
 

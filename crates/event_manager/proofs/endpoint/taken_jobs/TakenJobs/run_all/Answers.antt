@@ -1,4 +1,5 @@
-use Rattle.event_manager.proofs.Prelude.{arith, ◌≡◌, [], ◌∷◌, reverse, ap, subst, ◌∙◌, nil_from_length, reverse-reverse, reverse-append}
+use Rattle.std.proofs.Common.{arith, ◌≡◌, [], ◌∷◌, reverse, ap, subst, ◌∙◌}
+use Rattle.std.proofs.lemmas.List.{nil_from_length, reverse-reverse, reverse-append}
 use Rattle.event_manager.specs.JobQueue.{TicketsFollow, tickets_and_jobs}
 use Rattle.event_manager.specs.JobRuns.{JobsAreRun, Taken}
 use Rattle.event_loop.specs.Subscribers.{loop_state}
