@@ -11,7 +11,7 @@ use Rattle.dispatch_tables.specs.declared.owners.OwnerSlot.TheVariants.{Vacant, 
 abbrev pub ownership_of : Owner → Ownership
 ownership_of owner = record { id = owner.id; priority = owner.priority }
 
--- an entry of the vector as well
+-- a slot of the vector as well
 abbrev pub slot_ownership : OwnerSlot → Option Ownership
 slot_ownership Vacant = None
 slot_ownership (Owned priority place id position) = Some (record { id = id; priority = priority })

@@ -43,7 +43,7 @@ enum OwnerSlot {
 const _: () = prove!(size_of::<OwnerSlot>() == 24);
 
 impl OwnerSlot {
-    /// The entry of an owner.
+    /// The slot of an owner.
     fn of(owner: Owner) -> OwnerSlot
         ensures { slot_ownership result ≡ Some (ownership_of owner) }
     {
