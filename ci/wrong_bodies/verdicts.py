@@ -1,7 +1,8 @@
-"""Verdicts that stay: an edit that was refused is refused again, as long as nothing has changed that its verdict stands on.
+"""Verdicts that stay: an edit that was refused, or failed its test, does so again, as long as nothing has changed that its verdict
+stands on.
 
-That is the edit, the sources, specs and proofs of its crate and of those below, their lines of crates.txt, HANDLES, the toolchain,
-and the tool itself. Each verdict is a file outside the repository, whose name is the checksum of all that.
+That is the edit, what the prover or `rt try` reads of the crate that shows it and of those below, their lines of crates.txt, HANDLES,
+the toolchain, and the tool itself. Each verdict is a file outside the repository, whose name is the checksum of all that.
 """
 
 import functools
@@ -10,18 +11,22 @@ import os
 import subprocess
 import tempfile
 
+import cases
 import tries
 from command import ROOT, read
 from edits import text_of
 
-FOLDER = os.path.join(os.environ.get("XDG_CACHE_HOME") or os.path.expanduser("~/.cache"), "wrong-bodies-refused")
+FOLDER = os.path.join(os.environ.get("XDG_CACHE_HOME") or os.path.expanduser("~/.cache"), "wrong-bodies")
+# What the prover reads of a crate.
 PARTS = ("src", "specs", "proofs")
+# What `rt try` reads, and what a program must write.
+PARTS_TRIED = ("src", "specs", "cases", "args", "stdin", "stdout", "status")
 TOOL = os.path.dirname(os.path.abspath(__file__))
 
 
-def files_of(folder):
-    """The files below a folder, in an order of their own."""
-    return sorted(f"{at}/{it}" for at, _, files in os.walk(folder) for it in files)
+def files_of(path):
+    """A file, or the files below a folder, in an order of their own."""
+    return [path] if os.path.isfile(path) else sorted(f"{at}/{it}" for at, _, files in os.walk(path) for it in files)
 
 
 def lines_of(crates):
@@ -36,25 +41,26 @@ def toolchain():
 
 
 class Verdicts:
-    """Those on the edits of one crate."""
+    """Those on the edits that one crate shows: they stand on these parts of it and of those below."""
 
-    def __init__(self, crate, is_anew):
+    def __init__(self, crate, parts, is_anew):
         self.is_anew = is_anew
         crates = sorted({*tries.below(crate), crate})
-        files = [path for it in crates for part in PARTS for path in files_of(f"{ROOT}/crates/{it}/{part}")]
-        tool = [it for it in files_of(TOOL) if "__pycache__" not in it] + [f"{ROOT}/ci/tries.py", f"{ROOT}/ci/command.py"]
-        texts = [(os.path.relpath(it, ROOT), read(it)) for it in [f"{ROOT}/HANDLES", *files, *tool]]
+        read_by_all = [f"{ROOT}/HANDLES", TOOL, f"{ROOT}/ci/cases.py", f"{ROOT}/ci/command.py", f"{ROOT}/ci/tries.py"]
+        stands_on = [f"{ROOT}/crates/{it}/{part}" for it in crates for part in parts] + read_by_all + [cases.PICTURES]
+        files = [it for path in stands_on for it in files_of(path) if "__pycache__" not in it]
+        texts = [(os.path.relpath(it, ROOT), read(it)) for it in files]
         self.stands_on = hashlib.sha256(repr((toolchain(), lines_of(crates), texts)).encode()).hexdigest()
 
     def file(self, edit):
         return f"{FOLDER}/{hashlib.sha256(repr((self.stands_on, edit.name, edit.text)).encode()).hexdigest()}"
 
     def kept(self, edit):
-        """Whether the edit was refused before."""
+        """Whether the edit did as it must before."""
         return not self.is_anew and os.path.isfile(self.file(edit))
 
     def keep(self, edit, text):
-        """Keeps that it was refused, and what was said; where that can't be written, it is tried again."""
+        """Keeps that it did, and what was said; where that can't be written, it is tried again."""
         try:
             os.makedirs(FOLDER, exist_ok=True)
             with tempfile.NamedTemporaryFile("w", dir=FOLDER, delete=False, encoding="utf-8") as it:

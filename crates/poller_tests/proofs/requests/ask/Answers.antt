@@ -1,5 +1,5 @@
-use Rattle.std.proofs.Common.{refl, [], ◌∷◌}
-use Rattle.event_manager.specs.Registry.{Requested, Refused}
+use Rattle.std.proofs.Common.{refl}
+use Rattle.event_manager.specs.Registry.{Requested}
 use Rattle.event_manager.proofs.LentSteps.{lent_step}
 use Rattle.poller_tests.proofs.requests.ask.Goals as goal
 
