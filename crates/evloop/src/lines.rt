@@ -7,16 +7,16 @@ ghost use Rattle.event_manager.specs.Manager.{state_of};
 ghost use Rattle.evloop.specs.Lines.{IsLineRun, IsRun, TakesNext, done_of};
 ghost use Rattle.evloop_script.specs.Printed.{written_by};
 
-use crate::calls::{ask, join, leave, run_once};
+use crate::calls::make_one;
 use event_manager::laws::driven_lists_join;
 use event_manager::{
-    Error, EventManager, EventPoller, Job, NamedCounter, SubscriberId, SubscriberOps,
+    Call, Error, EventManager, EventPoller, Job, NamedCounter, Reply, SubscriberId, SubscriberOps,
 };
 use evloop_script::fault::Fault;
 use evloop_script::output::{Out, OutputLine, Printer};
 use evloop_script::reactions::Reactions;
 use evloop_script::requests::print_replies;
-use evloop_script::script::Call;
+use evloop_script::script::Call as Line;
 use evloop_script::subscriber::Subscriber;
 use std::alloc::Global;
 use std::sync::Wait;
@@ -55,7 +55,7 @@ fn make_line<'a, R, O, J, N, P>(
     rt: &R,
     alloc: Global,
     manager: &mut EventManager<Subscriber<'a, O>, J, N, P>,
-    line: Call<'a>,
+    line: Line<'a>,
     ids: &mut Vec<Option<SubscriberId>>,
     reactions: &mut IntoIter<Reactions>,
     printer: &mut Printer<O>,
@@ -73,26 +73,31 @@ where
     // Its contract says that each held id is below the next.
     let _next = manager.next_id();
     match line {
-        Call::Join { name, requests } => {
+        Line::Join { name, requests } => {
             let own = next_of(alloc, reactions);
             let subscriber = Subscriber::new(name, requests, own, printer.try_clone(alloc)?);
-            let answer = join(rt, alloc, manager, subscriber)?;
+            let Reply::Added(answer) = make_one(rt, alloc, manager, Call::Add(subscriber))? else {
+                unreachable!()
+            };
             printer.print(&OutputLine::Joined { name, answer })?;
             Ok(ids.push(answer.ok())?)
         }
-        Call::Ask {
+        Line::Ask {
             name,
             join,
             requests,
         } => match id_of(ids, join) {
             Some(id) => {
                 let asked = requests.clone()?;
-                match ask(rt, alloc, manager, id, requests)? {
-                    Ok(answers) => {
+                match make_one(rt, alloc, manager, Call::Ask(id, requests))? {
+                    Reply::Asked(Ok(answers)) => {
                         print_replies(name, &asked, &answers, printer);
                         Ok(())
                     }
-                    Err(error) => printer.print(&OutputLine::AskRefused { name, error }),
+                    Reply::Asked(Err(error)) => {
+                        printer.print(&OutputLine::AskRefused { name, error })
+                    }
+                    _ => unreachable!(),
                 }
             }
             None => {
@@ -100,9 +105,12 @@ where
                 printer.print(&OutputLine::AskRefused { name, error })
             }
         },
-        Call::Leave { name, join } => match id_of(ids, join) {
+        Line::Leave { name, join } => match id_of(ids, join) {
             Some(id) => {
-                let answer = done(leave(rt, alloc, manager, id)?);
+                let Reply::Removed(left) = make_one(rt, alloc, manager, Call::Remove(id))? else {
+                    unreachable!()
+                };
+                let answer = done(left);
                 printer.print(&OutputLine::Left { name, answer })
             }
             None => {
@@ -110,8 +118,10 @@ where
                 printer.print(&OutputLine::Left { name, answer })
             }
         },
-        Call::Run => {
-            let answer = run_once(rt, alloc, manager)?;
+        Line::Run => {
+            let Reply::Ran(answer) = make_one(rt, alloc, manager, Call::Run(-1))? else {
+                unreachable!()
+            };
             printer.print(&OutputLine::Ran { answer })
         }
     }
@@ -133,7 +143,7 @@ pub fn make_lines<'a, R, O, J, N, P>(
     rt: &R,
     alloc: Global,
     manager: &mut EventManager<Subscriber<'a, O>, J, N, P>,
-    lines: Vec<Call<'a>>,
+    lines: Vec<Line<'a>>,
     reactions: Vec<Reactions>,
     printer: &mut Printer<O>,
 ) -> Result<(), Fault>

@@ -11,7 +11,7 @@ use Rattle.poller_records.specs.declared.record.RecordEntry.TheVariants.{Reporte
 use Rattle.vmm_sys.specs.Poller.{CtlRelation, WaitRelation}
 use Rattle.poller_records.specs.Record.{entries_of_ctl, entries_of_wait, IsReport}
 use Rattle.poller_records.specs.Recording as recording
-use Rattle.poller_records.specs.Recording.{Recording, recorded, is_recorded, with_poller, recording_code}
+use Rattle.poller_records.specs.Recording.{Recording, recorded, with_poller, recording_code}
 use Rattle.poller_records.specs.Replay.{Replay, Passes, AnswersCtl, AnswersWait, replay_code, MayCtl, MayWait}
 use Rattle.poller_records.specs.PollerRun.{Call, Ctl, Wait, question, entries_of_calls, Runs}
 

@@ -1,4 +1,4 @@
-use Rattle.std.proofs.Common.{Err, refl, sym, ap, inr, ◌∙◌, [], ◌∷◌, ◌++◌}
+use Rattle.std.proofs.Common.{Ok, Err, refl, sym, ap, inr, ◌∙◌, [], ◌∷◌, ◌++◌}
 use Rattle.std.specs.Vec.Iter.{into_iter_items}
 use Rattle.std.specs.Result.{result_ok}
 use Rattle.event_manager.specs.Error.TheVariants.{InvalidId}
@@ -13,12 +13,12 @@ use Rattle.evloop.proofs.lines.make_line.Goals as goal
 pub returns-in_err-print-in-Join : goal.returns-in_err-print-in-Join
 returns-in_err-print-in-Join g c =
     let own = c.new-subscriber.ensures in
-    let any = any_printed (written_by g.O.Write.contents c.args.printer.now) (Joined c.in-Join.name c.in_ok-answer-in-Join.answer) in
+    let any = any_printed (written_by g.O.Write.contents c.args.printer.now) (Joined c.in-Join.name c.in-Added.answer) in
     rw c.in-Join.is (inr (
       _,
-      record { ids = c.args.ids.now.items ++ result_ok c.in_ok-answer-in-Join.answer ∷ []; reactions = into_iter_items c.next_of-own.new.reactions; written = any.0 },
-      (c.new-subscriber.result, c.in_ok-answer-in-Join.answer, refl, refl, own.name, own.first, rw own.reactions c.next_of-own.ensures, any.1),
-      c.in_ok-answer-in-Join.ensures.driven,
+      record { ids = c.args.ids.now.items ++ result_ok c.in-Added.answer ∷ []; reactions = into_iter_items c.next_of-own.new.reactions; written = any.0 },
+      (c.new-subscriber.result, c.in-Added.answer, refl, refl, own.name, own.first, rw own.reactions c.next_of-own.ensures, any.1),
+      rw c.in-Added.is at c.in_ok-answer-in-Join.ensures.driven,
       on_err _ _ c.from_residual-in_err-print-in-Join.ensures.0,
     ))
 
@@ -27,9 +27,9 @@ returns-in_err-push-in-Join g c =
     let own = c.new-subscriber.ensures in
     rw c.in-Join.is (inr (
       _,
-      record { ids = c.args.ids.now.items ++ result_ok c.in_ok-answer-in-Join.answer ∷ []; reactions = into_iter_items c.next_of-own.new.reactions; written = written_by g.O.Write.contents c.print.new.self },
-      (c.new-subscriber.result, c.in_ok-answer-in-Join.answer, refl, refl, own.name, own.first, rw own.reactions c.next_of-own.ensures, c.in_ok-print-in-Join.ensures.printed),
-      c.in_ok-answer-in-Join.ensures.driven,
+      record { ids = c.args.ids.now.items ++ result_ok c.in-Added.answer ∷ []; reactions = into_iter_items c.next_of-own.new.reactions; written = written_by g.O.Write.contents c.print.new.self },
+      (c.new-subscriber.result, c.in-Added.answer, refl, refl, own.name, own.first, rw own.reactions c.next_of-own.ensures, c.in_ok-print-in-Join.ensures.printed),
+      rw c.in-Added.is at c.in_ok-answer-in-Join.ensures.driven,
       on_err _ _ c.from_residual-in_err-push-in-Join.ensures.0,
     ))
 
@@ -39,31 +39,32 @@ returns-in-Join g c =
     rw c.in-Join.is (inr (
       _,
       record { ids = c.push.new.self.items; reactions = into_iter_items c.next_of-own.new.reactions; written = written_by g.O.Write.contents c.print.new.self },
-      (c.new-subscriber.result, c.in_ok-answer-in-Join.answer, refl, c.in_ok-push-in-Join.ensures.items ∙ ap (λ got. c.args.ids.now.items ++ got ∷ []) c.ok.ensures.value, own.name, own.first, rw own.reactions c.next_of-own.ensures, c.in_ok-print-in-Join.ensures.printed),
-      c.in_ok-answer-in-Join.ensures.driven,
+      (c.new-subscriber.result, c.in-Added.answer, refl, c.in_ok-push-in-Join.ensures.items ∙ ap (λ got. c.args.ids.now.items ++ got ∷ []) c.ok.ensures.value, own.name, own.first, rw own.reactions c.next_of-own.ensures, c.in_ok-print-in-Join.ensures.printed),
+      rw c.in-Added.is at c.in_ok-answer-in-Join.ensures.driven,
       refl,
     ))
 
-pub returns-in-Ok : goal.returns-in-Ok
-returns-in-Ok g c =
+pub returns-in-Asked-Ok : goal.returns-in-Asked-Ok
+returns-in-Asked-Ok g c =
     let got = rw c.deref.ensures.value at (sym c.id_of.ensures ∙ c.in-Some.is) in
     rw c.in-Ask.is (inr (
       _,
       record { ids = c.args.ids.now.items; reactions = into_iter_items c.args.reactions.now; written = written_by g.O.Write.contents c.print_replies.new.printer },
-      (c.in_ok-answers-in-Some.field-0, made_under _ c.in-Some.id _ got, (refl, refl), rw c.in-Ok.is tt),
-      c.in_ok-answers-in-Some.ensures.driven,
+      (Ok c.in-Asked-Ok.answers, made_under _ c.in-Some.id _ got, (refl, refl), tt),
+      rw c.in-Asked-Ok.field-0-is at (rw c.in-Asked-Ok.is at c.in_ok-answers-in-Some.ensures.driven),
       refl,
     ))
 
-pub returns-in-Some : goal.returns-in-Some
-returns-in-Some g c =
+pub returns-in-Asked-Err : goal.returns-in-Asked-Err
+returns-in-Asked-Err g c =
     let got = rw c.deref.ensures.value at (sym c.id_of.ensures ∙ c.in-Some.is) in
-    let then = line_printed c.print-in-Err.result _ (AskRefused c.in-Ask.name c.in-Err.error) _ c.print-in-Err.ensures.printed in
+    let error = c.in-Asked-Err.error in
+    let then = line_printed c.print-in-Asked-Err.result _ (AskRefused c.in-Ask.name error) _ c.print-in-Asked-Err.ensures.printed in
     rw c.in-Ask.is (inr (
       _,
       record { ids = c.args.ids.now.items; reactions = into_iter_items c.args.reactions.now; written = then.0 },
-      (c.in_ok-answers-in-Some.field-0, made_under _ c.in-Some.id _ got, (refl, refl), rw c.in-Err.is then.1),
-      c.in_ok-answers-in-Some.ensures.driven,
+      (Err error, made_under _ c.in-Some.id _ got, (refl, refl), then.1),
+      rw c.in-Asked-Err.field-0-is at (rw c.in-Asked-Err.is at c.in_ok-answers-in-Some.ensures.driven),
       then_is _ _ _ _ _ then.2,
     ))
 
@@ -82,12 +83,12 @@ returns-in-Ask g c =
 pub returns-in-Some-id_of : goal.returns-in-Some-id_of
 returns-in-Some-id_of g c =
     let got = rw c.deref-in-Leave.ensures.value at (sym c.id_of-in-Leave.ensures ∙ c.in-Some-id_of.is) in
-    let then = line_printed c.print-in-Some-id_of.result _ (Left c.in-Leave.name (done_of c.in_ok-leave-in-Some-id_of.field-0)) _ (rw c.done-answer.ensures at c.print-in-Some-id_of.ensures.printed) in
+    let then = line_printed c.print-in-Some-id_of.result _ (Left c.in-Leave.name (done_of c.in-Removed.left)) _ (rw c.done-answer.ensures at c.print-in-Some-id_of.ensures.printed) in
     rw c.in-Leave.is (inr (
       _,
       record { ids = c.args.ids.now.items; reactions = into_iter_items c.args.reactions.now; written = then.0 },
-      (c.in_ok-leave-in-Some-id_of.field-0, made_under _ c.in-Some-id_of.id _ got, (refl, refl), then.1),
-      c.in_ok-leave-in-Some-id_of.ensures.driven,
+      (c.in-Removed.left, made_under _ c.in-Some-id_of.id _ got, (refl, refl), then.1),
+      rw c.in-Removed.is at c.in_ok-left-in-Some-id_of.ensures.driven,
       then_is _ _ _ _ _ then.2,
     ))
 
@@ -105,11 +106,11 @@ returns-in-Leave g c =
 
 pub returns : goal.returns
 returns g c =
-    let then = line_printed c.print-in-Run.result _ (Ran c.in_ok-answer-in-Run.answer) _ c.print-in-Run.ensures.printed in
+    let then = line_printed c.print-in-Run.result _ (Ran c.in-Ran.answer) _ c.print-in-Run.ensures.printed in
     rw c.in-Run.is (inr (
       _,
       record { ids = c.args.ids.now.items; reactions = into_iter_items c.args.reactions.now; written = then.0 },
-      (c.in_ok-answer-in-Run.answer, refl, (refl, refl), then.1),
-      c.in_ok-answer-in-Run.ensures.driven,
+      (c.in-Ran.answer, refl, (refl, refl), then.1),
+      rw c.in-Ran.is at c.in_ok-answer-in-Run.ensures.driven,
       then_is _ _ _ _ _ then.2,
     ))
