@@ -18,7 +18,7 @@ use std::time::Clock;
 /// # Errors
 ///
 /// `OutOfMemory`, the call not having been made.
-pub fn make_one<S, J, N, P, R>(
+pub fn make_call<S, J, N, P, R>(
     rt: &R,
     alloc: Global,
     manager: &mut EventManager<S, J, N, P>,

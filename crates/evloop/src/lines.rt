@@ -7,7 +7,7 @@ ghost use Rattle.event_manager.specs.Manager.{state_of};
 ghost use Rattle.evloop.specs.Lines.{IsLineRun, IsRun, TakesNext, done_of};
 ghost use Rattle.evloop_script.specs.Printed.{written_by};
 
-use crate::calls::make_one;
+use crate::calls::make_call;
 use event_manager::laws::driven_lists_join;
 use event_manager::{
     Call, Error, EventManager, EventPoller, Job, NamedCounter, Reply, SubscriberId, SubscriberOps,
@@ -76,7 +76,7 @@ where
         Line::Join { name, requests } => {
             let own = next_of(alloc, reactions);
             let subscriber = Subscriber::new(name, requests, own, printer.try_clone(alloc)?);
-            let Reply::Added(answer) = make_one(rt, alloc, manager, Call::Add(subscriber))? else {
+            let Reply::Added(answer) = make_call(rt, alloc, manager, Call::Add(subscriber))? else {
                 unreachable!()
             };
             printer.print(&OutputLine::Joined { name, answer })?;
@@ -86,40 +86,34 @@ where
             name,
             join,
             requests,
-        } => match id_of(ids, join) {
-            Some(id) => {
-                let asked = requests.clone()?;
-                match make_one(rt, alloc, manager, Call::Ask(id, requests))? {
-                    Reply::Asked(Ok(answers)) => {
-                        print_replies(name, &asked, &answers, printer);
-                        Ok(())
-                    }
-                    Reply::Asked(Err(error)) => {
-                        printer.print(&OutputLine::AskRefused { name, error })
-                    }
-                    _ => unreachable!(),
-                }
-            }
-            None => {
+        } => {
+            let Some(id) = id_of(ids, join) else {
                 let error = Error::InvalidId;
-                printer.print(&OutputLine::AskRefused { name, error })
+                return printer.print(&OutputLine::AskRefused { name, error });
+            };
+            let asked = requests.clone()?;
+            match make_call(rt, alloc, manager, Call::Ask(id, requests))? {
+                Reply::Asked(Ok(answers)) => {
+                    print_replies(name, &asked, &answers, printer);
+                    Ok(())
+                }
+                Reply::Asked(Err(error)) => printer.print(&OutputLine::AskRefused { name, error }),
+                _ => unreachable!(),
             }
-        },
-        Line::Leave { name, join } => match id_of(ids, join) {
-            Some(id) => {
-                let Reply::Removed(left) = make_one(rt, alloc, manager, Call::Remove(id))? else {
-                    unreachable!()
-                };
-                let answer = done(left);
-                printer.print(&OutputLine::Left { name, answer })
-            }
-            None => {
+        }
+        Line::Leave { name, join } => {
+            let Some(id) = id_of(ids, join) else {
                 let answer = Err(Error::InvalidId);
-                printer.print(&OutputLine::Left { name, answer })
-            }
-        },
+                return printer.print(&OutputLine::Left { name, answer });
+            };
+            let Reply::Removed(left) = make_call(rt, alloc, manager, Call::Remove(id))? else {
+                unreachable!()
+            };
+            let answer = done(left);
+            printer.print(&OutputLine::Left { name, answer })
+        }
         Line::Run => {
-            let Reply::Ran(answer) = make_one(rt, alloc, manager, Call::Run(-1))? else {
+            let Reply::Ran(answer) = make_call(rt, alloc, manager, Call::Run(-1))? else {
                 unreachable!()
             };
             printer.print(&OutputLine::Ran { answer })

@@ -51,7 +51,7 @@ returns-in-Asked-Ok g c =
       _,
       record { ids = c.args.ids.now.items; reactions = into_iter_items c.args.reactions.now; written = written_by g.O.Write.contents c.print_replies.new.printer },
       (Ok c.in-Asked-Ok.answers, made_under _ c.in-Some.id _ got, (refl, refl), tt),
-      rw c.in-Asked-Ok.field-0-is at (rw c.in-Asked-Ok.is at c.in_ok-answers-in-Some.ensures.driven),
+      rw c.in-Asked-Ok.field-0-is at (rw c.in-Asked-Ok.is at c.in_ok-answers-in-Ask.ensures.driven),
       refl,
     ))
 
@@ -64,14 +64,14 @@ returns-in-Asked-Err g c =
       _,
       record { ids = c.args.ids.now.items; reactions = into_iter_items c.args.reactions.now; written = then.0 },
       (Err error, made_under _ c.in-Some.id _ got, (refl, refl), then.1),
-      rw c.in-Asked-Err.field-0-is at (rw c.in-Asked-Err.is at c.in_ok-answers-in-Some.ensures.driven),
+      rw c.in-Asked-Err.field-0-is at (rw c.in-Asked-Err.is at c.in_ok-answers-in-Ask.ensures.driven),
       then_is _ _ _ _ _ then.2,
     ))
 
-pub returns-in-Ask : goal.returns-in-Ask
-returns-in-Ask g c =
-    let got = rw c.deref.ensures.value at (sym c.id_of.ensures ∙ c.in-None.is) in
-    let then = line_printed c.print-in-None.result _ (AskRefused c.in-Ask.name InvalidId) _ c.print-in-None.ensures.printed in
+pub returns-in_default-id_of : goal.returns-in_default-id_of
+returns-in_default-id_of g c =
+    let got = rw c.deref.ensures.value at (sym c.id_of.ensures ∙ c.in_default-id_of.is) in
+    let then = line_printed c.print-in_default-id_of.result _ (AskRefused c.in-Ask.name InvalidId) _ c.print-in_default-id_of.ensures.printed in
     rw c.in-Ask.is (inr (
       _,
       record { ids = c.args.ids.now.items; reactions = into_iter_items c.args.reactions.now; written = then.0 },
@@ -80,22 +80,22 @@ returns-in-Ask g c =
       then_is _ _ _ _ _ then.2,
     ))
 
-pub returns-in-Some-id_of : goal.returns-in-Some-id_of
-returns-in-Some-id_of g c =
+pub returns-in-Leave : goal.returns-in-Leave
+returns-in-Leave g c =
     let got = rw c.deref-in-Leave.ensures.value at (sym c.id_of-in-Leave.ensures ∙ c.in-Some-id_of.is) in
-    let then = line_printed c.print-in-Some-id_of.result _ (Left c.in-Leave.name (done_of c.in-Removed.left)) _ (rw c.done-answer.ensures at c.print-in-Some-id_of.ensures.printed) in
+    let then = line_printed c.print-in-Leave.result _ (Left c.in-Leave.name (done_of c.in-Removed.left)) _ (rw c.done-answer.ensures at c.print-in-Leave.ensures.printed) in
     rw c.in-Leave.is (inr (
       _,
       record { ids = c.args.ids.now.items; reactions = into_iter_items c.args.reactions.now; written = then.0 },
       (c.in-Removed.left, made_under _ c.in-Some-id_of.id _ got, (refl, refl), then.1),
-      rw c.in-Removed.is at c.in_ok-left-in-Some-id_of.ensures.driven,
+      rw c.in-Removed.is at c.in_ok-left-in-Leave.ensures.driven,
       then_is _ _ _ _ _ then.2,
     ))
 
-pub returns-in-Leave : goal.returns-in-Leave
-returns-in-Leave g c =
-    let got = rw c.deref-in-Leave.ensures.value at (sym c.id_of-in-Leave.ensures ∙ c.in-None-id_of.is) in
-    let then = line_printed c.print-in-None-id_of.result _ (Left c.in-Leave.name (Err InvalidId)) _ c.print-in-None-id_of.ensures.printed in
+pub returns-in_default-id_of-2 : goal.returns-in_default-id_of-2
+returns-in_default-id_of-2 g c =
+    let got = rw c.deref-in-Leave.ensures.value at (sym c.id_of-in-Leave.ensures ∙ c.in_default-id_of-2.is) in
+    let then = line_printed c.print-in_default-id_of-2.result _ (Left c.in-Leave.name (Err InvalidId)) _ c.print-in_default-id_of-2.ensures.printed in
     rw c.in-Leave.is (inr (
       _,
       record { ids = c.args.ids.now.items; reactions = into_iter_items c.args.reactions.now; written = then.0 },

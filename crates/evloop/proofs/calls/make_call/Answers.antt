@@ -1,7 +1,7 @@
 use Rattle.std.proofs.Common.{arith, ap, sym, ◌≡◌, ◌∙◌, ◌++◌, [], ◌∷◌, length}
 use Rattle.event_manager.specs.Manager.{state_of}
 use Rattle.evloop.proofs.Replies.{one_reply, made_alone, is_of_kind}
-use Rattle.evloop.proofs.calls.make_one.Goals as goal
+use Rattle.evloop.proofs.calls.make_call.Goals as goal
 
 pub unreachable-requires : goal.unreachable-requires
 unreachable-requires g c =
