@@ -15,7 +15,7 @@ use Rattle.evloop_script.specs.Coming.{coming}
 use Rattle.evloop_script.specs.Printed.{Prints}
 use Rattle.evloop_script.specs.Scripted.{script_begins, script_serves}
 use Rattle.evloop_script.specs.declared.fault.Fault.{Fault}
-use Rattle.evloop_script.specs.declared.fault.Fault.TheVariants.{OutOfMemory}
+use Rattle.evloop_script.specs.declared.fault.Fault.TheVariants.{OutOfMemory, CannotWrite}
 use Rattle.evloop_script.specs.declared.output.OutputLine.{OutputLine}
 use Rattle.evloop_script.specs.declared.output.OutputLine.TheVariants.{Joined, AskRefused, Left, Ran}
 use Rattle.evloop_script.specs.declared.reactions.Reactions.{Reactions}
@@ -48,6 +48,10 @@ done_of (Err error) = Err error
 abbrev pub PrintsRefusal : {A : Type 0} → (Error → OutputLine) → Progress → Result A Error → Progress → Type 0
 PrintsRefusal line at (Ok answers) then = ⊤
 PrintsRefusal line at (Err error) then = Prints at.written (line error) then.written
+
+-- why a line is not made to its end
+abbrev pub IsFaultOfLine : Fault → Type 0
+IsFaultOfLine fault = (fault ≡ OutOfMemory) ⊎ (fault ≡ CannotWrite)
 
 -- the calls that were made, each with its reply
 abbrev pub Made : Type 0 → Type 0

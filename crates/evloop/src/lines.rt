@@ -1,10 +1,10 @@
 //! The lines of a script, made one after another: a call at most, and what it answers is printed.
 
-ghost use Rattle.std.specs.Prelude.{◌≡◌, [], ◌∷◌, OnOk, slice_get};
+ghost use Rattle.std.specs.Prelude.{◌≡◌, [], ◌∷◌, IfErr, OnOk, slice_get};
 ghost use Rattle.std.specs.Option.{option_flatten};
 ghost use Rattle.std.specs.Vec.Iter.{into_iter_items};
 ghost use Rattle.event_manager.specs.Manager.{state_of};
-ghost use Rattle.evloop.specs.Lines.{IsLineRun, IsRun, TakesNext, done_of};
+ghost use Rattle.evloop.specs.Lines.{IsFaultOfLine, IsLineRun, IsRun, TakesNext, done_of};
 ghost use Rattle.evloop_script.specs.Printed.{written_by};
 
 use crate::calls::make_call;
@@ -66,9 +66,10 @@ where
     J: Job<Subscriber<'a, O>>,
     N: NamedCounter,
     P: EventPoller,
-    ensures { IsLineRun J.may P.controls P.waits
+    ensures made { IsLineRun J.may P.controls P.waits
         (record { ids = ids.old.items; reactions = into_iter_items reactions.old; written = written_by O.contents printer.old }) line.entry result
         (record { ids = ids.new.items; reactions = into_iter_items reactions.new; written = written_by O.contents printer.new }) (state_of manager.old) (state_of manager.new) }
+    ensures faults { IfErr result IsFaultOfLine }
 {
     // Its contract says that each held id is below the next.
     let _next = manager.next_id();
@@ -147,8 +148,9 @@ where
     J: Job<Subscriber<'a, O>>,
     N: NamedCounter,
     P: EventPoller,
-    ensures { IsRun J.may P.controls P.waits (record { ids = []; reactions = reactions.items; written = written_by O.contents printer.old })
+    ensures made { IsRun J.may P.controls P.waits (record { ids = []; reactions = reactions.items; written = written_by O.contents printer.old })
         lines.entry.items result (written_by O.contents printer.new) (state_of manager.old) (state_of manager.new) }
+    ensures faults { IfErr result IsFaultOfLine }
 {
     // Their contracts say that no call is a driven list, and that each held id is below the next.
     driven_lists_join::<Subscriber<'a, O>, J, P>();

@@ -10,8 +10,8 @@ use Rattle.evloop.specs.Lines.{done_of}
 use Rattle.evloop.proofs.LinesSoFar.{on_err, any_printed, line_printed, then_is, made_under, unmade_under}
 use Rattle.evloop.proofs.lines.make_line.Goals as goal
 
-pub returns-in_err-print-in-Join : goal.returns-in_err-print-in-Join
-returns-in_err-print-in-Join g c =
+pub returns-in_err-print-in-Join-clause-made : goal.returns-in_err-print-in-Join-clause-made
+returns-in_err-print-in-Join-clause-made g c =
     let own = c.new-subscriber.ensures in
     let any = any_printed (written_by g.O.Write.contents c.args.printer.now) (Joined c.in-Join.name c.in-Added.answer) in
     rw c.in-Join.is (inr (
@@ -22,8 +22,8 @@ returns-in_err-print-in-Join g c =
       on_err _ _ c.from_residual-in_err-print-in-Join.ensures.0,
     ))
 
-pub returns-in_err-push-in-Join : goal.returns-in_err-push-in-Join
-returns-in_err-push-in-Join g c =
+pub returns-in_err-push-in-Join-clause-made : goal.returns-in_err-push-in-Join-clause-made
+returns-in_err-push-in-Join-clause-made g c =
     let own = c.new-subscriber.ensures in
     rw c.in-Join.is (inr (
       _,
@@ -33,8 +33,8 @@ returns-in_err-push-in-Join g c =
       on_err _ _ c.from_residual-in_err-push-in-Join.ensures.0,
     ))
 
-pub returns-in-Join : goal.returns-in-Join
-returns-in-Join g c =
+pub returns-in-Join-clause-made : goal.returns-in-Join-clause-made
+returns-in-Join-clause-made g c =
     let own = c.new-subscriber.ensures in
     rw c.in-Join.is (inr (
       _,
@@ -44,8 +44,8 @@ returns-in-Join g c =
       refl,
     ))
 
-pub returns-in-Asked-Ok : goal.returns-in-Asked-Ok
-returns-in-Asked-Ok g c =
+pub returns-in-Asked-Ok-clause-made : goal.returns-in-Asked-Ok-clause-made
+returns-in-Asked-Ok-clause-made g c =
     let got = rw c.deref.ensures.value at (sym c.id_of.ensures ∙ c.in-Some.is) in
     rw c.in-Ask.is (inr (
       _,
@@ -55,8 +55,8 @@ returns-in-Asked-Ok g c =
       refl,
     ))
 
-pub returns-in-Asked-Err : goal.returns-in-Asked-Err
-returns-in-Asked-Err g c =
+pub returns-in-Asked-Err-clause-made : goal.returns-in-Asked-Err-clause-made
+returns-in-Asked-Err-clause-made g c =
     let got = rw c.deref.ensures.value at (sym c.id_of.ensures ∙ c.in-Some.is) in
     let error = c.in-Asked-Err.error in
     let then = line_printed c.print-in-Asked-Err.result _ (AskRefused c.in-Ask.name error) _ c.print-in-Asked-Err.ensures.printed in
@@ -68,8 +68,8 @@ returns-in-Asked-Err g c =
       then_is _ _ _ _ _ then.2,
     ))
 
-pub returns-in_default-id_of : goal.returns-in_default-id_of
-returns-in_default-id_of g c =
+pub returns-in_default-id_of-clause-made : goal.returns-in_default-id_of-clause-made
+returns-in_default-id_of-clause-made g c =
     let got = rw c.deref.ensures.value at (sym c.id_of.ensures ∙ c.in_default-id_of.is) in
     let then = line_printed c.print-in_default-id_of.result _ (AskRefused c.in-Ask.name InvalidId) _ c.print-in_default-id_of.ensures.printed in
     rw c.in-Ask.is (inr (
@@ -80,8 +80,8 @@ returns-in_default-id_of g c =
       then_is _ _ _ _ _ then.2,
     ))
 
-pub returns-in-Leave : goal.returns-in-Leave
-returns-in-Leave g c =
+pub returns-in-Leave-clause-made : goal.returns-in-Leave-clause-made
+returns-in-Leave-clause-made g c =
     let got = rw c.deref-in-Leave.ensures.value at (sym c.id_of-in-Leave.ensures ∙ c.in-Some-id_of.is) in
     let then = line_printed c.print-in-Leave.result _ (Left c.in-Leave.name (done_of c.in-Removed.left)) _ (rw c.done-answer.ensures at c.print-in-Leave.ensures.printed) in
     rw c.in-Leave.is (inr (
@@ -92,8 +92,8 @@ returns-in-Leave g c =
       then_is _ _ _ _ _ then.2,
     ))
 
-pub returns-in_default-id_of-2 : goal.returns-in_default-id_of-2
-returns-in_default-id_of-2 g c =
+pub returns-in_default-id_of-2-clause-made : goal.returns-in_default-id_of-2-clause-made
+returns-in_default-id_of-2-clause-made g c =
     let got = rw c.deref-in-Leave.ensures.value at (sym c.id_of-in-Leave.ensures ∙ c.in_default-id_of-2.is) in
     let then = line_printed c.print-in_default-id_of-2.result _ (Left c.in-Leave.name (Err InvalidId)) _ c.print-in_default-id_of-2.ensures.printed in
     rw c.in-Leave.is (inr (
@@ -104,8 +104,8 @@ returns-in_default-id_of-2 g c =
       then_is _ _ _ _ _ then.2,
     ))
 
-pub returns : goal.returns
-returns g c =
+pub returns-clause-made : goal.returns-clause-made
+returns-clause-made g c =
     let then = line_printed c.print-in-Run.result _ (Ran c.in-Ran.answer) _ c.print-in-Run.ensures.printed in
     rw c.in-Run.is (inr (
       _,
