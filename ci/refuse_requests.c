@@ -1,8 +1,10 @@
 /* Refuses requests for memory, or for threads, of the program that it is preloaded into, and counts them.
 
    Counted are the calls of malloc, calloc, realloc, aligned_alloc and posix_memalign from the moment at which libc calls
-   the program's main until main returns or the program calls _exit, on every thread; so those of libc's own start and end
-   are left alone, and those that libc makes while main runs, as for a thread, are counted. Requests are numbered from 1.
+   the program's main until main returns or the program calls _exit or abort, on every thread; so those of libc's own start
+   and end are left alone, and those that libc makes while main runs, as for a thread, are counted. Requests are numbered
+   from 1. A program of tests that is run with the name of one requests nothing before the test's body begins nor behind its
+   end, so each request is the test's; and a test that fails calls abort.
 
    REFUSE_REQUEST=N refuses the Nth request, REFUSE_FROM=N the Nth and all behind it; of neither none is refused.
    REFUSE_THREAD=N and REFUSE_THREADS_FROM=N do the same with the calls of pthread_create, which are numbered from 1 too.
@@ -14,6 +16,7 @@
 #include <dlfcn.h>
 #include <errno.h>
 #include <pthread.h>
+#include <sched.h>
 #include <stdatomic.h>
 #include <stdio.h>
 #include <stdlib.h>
@@ -37,10 +40,11 @@ struct counted {
     unsigned long refused, refused_from;
 };
 
-static atomic_bool counting;
+static atomic_bool counting, reported = 1;
 static atomic_ulong marks, mark[MOST_MARKS];
 static struct counted requests, threads;
 static creation *create;
+static void (*give_up)(void);
 
 static int is_next_refused(struct counted *counted)
 {
@@ -120,10 +124,15 @@ static void report(void)
     fclose(file);
 }
 
+/* Where another thread ends the program too, none does before the report is written. */
 static void stop_counting(void)
 {
-    if (atomic_exchange(&counting, 0))
+    if (atomic_exchange(&counting, 0)) {
         report();
+        reported = 1;
+    }
+    while (!reported)
+        sched_yield();
 }
 
 void _exit(int status)
@@ -133,10 +142,18 @@ void _exit(int status)
         syscall(SYS_exit_group, status);
 }
 
+void abort(void)
+{
+    stop_counting();
+    for (;;)
+        give_up();
+}
+
 static int (*program)(int, char **, char **);
 
 static int counted_program(int argc, char **argv, char **environment)
 {
+    reported = 0;
     counting = 1;
     int status = program(argc, argv, environment);
     stop_counting();
@@ -151,6 +168,7 @@ int __libc_start_main(int (*entry)(int, char **, char **), int argc, char **argv
     start *real = (start *)dlsym(RTLD_NEXT, "__libc_start_main");
     program = entry;
     create = (creation *)dlsym(RTLD_NEXT, "pthread_create");
+    give_up = (void (*)(void))dlsym(RTLD_NEXT, "abort");
     requests.refused = number_of("REFUSE_REQUEST");
     requests.refused_from = number_of("REFUSE_FROM");
     threads.refused = number_of("REFUSE_THREAD");

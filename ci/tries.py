@@ -17,7 +17,7 @@ PASSED = "ok"
 FAILED = "failed"
 STOPPED = "stopped at its time limit"
 # What a run doesn't need of a crate.
-UNUSED = shutil.ignore_patterns("out", "must-fail", "refused", "test-fail", "proofs", "cases")
+UNUSED = shutil.ignore_patterns("out", "must-fail", "refused", "proved", "test-fail", "proofs", "cases")
 
 
 class NotRun(Exception):
@@ -110,6 +110,28 @@ def program_of(room, crate, words=(), given=b"", arguments=()):
     if not ended:
         raise NotRun("the program did not run to its end: " + ran.stderr.decode(errors="replace")[-300:])
     return Outcome(int(ended[2]), ran.stdout, ended[1])
+
+
+def cases_of(room, crate, folder):
+    """How the program of a crate of the copy ended on each case of a folder, and what it wrote, as it is built once: `rt try` says a
+    line before the output of each, and one behind what it wrote to standard error."""
+    ran = run(room, crate, ["--cases", folder], subprocess.PIPE)
+    became, name, wrote = {}, None, {}
+    for line in ran.stdout.splitlines(keepends=True):
+        if line.startswith(b"== "):
+            name = line[3:].decode().rstrip("\n")
+        wrote[name] = wrote.get(name, b"") + (b"" if line.startswith(b"== ") else line)
+    said = b""
+    for line in ran.stderr.splitlines(keepends=True):
+        words = line.decode(errors="replace").split()
+        if words and words[0].startswith("case=") and "run=ended" in words:
+            name, status = words[0][5:], next(it[7:] for it in words if it.startswith("status="))
+            became[name], said = Outcome(int(status), wrote.get(name, b""), said), b""
+        else:
+            said += line
+    if not became:
+        raise NotRun("no case was run to its end: " + " / ".join(ran.stderr.decode(errors="replace").strip().splitlines()[:3]))
+    return became
 
 
 class Processors:

@@ -1,9 +1,9 @@
-"""Wrong bodies of tests, many in one run of `rt try`.
+"""Wrong bodies of tests and of programs, many in one run of `rt try`.
 
 A batch is a repository of copies. Each wrong body has its own copy of the crate that it stands in, and of each crate between
-that one and the crate of its test, under names with a number; what lies below is there once. The tests stand in one crate,
-`batch`, in a module for each wrong body, which has the named test and what the crate of that test has beside tests; and once
-more over the crates as they are, with all tests that the batch names.
+that one and the crate that shows it, under names with a number; what lies below is there once. What shows them stands in one
+crate, `batch`, in a module for each wrong body: the named test, with what the crate of that test has beside tests; or the
+program, which the first argument picks. Programs stand there once more over the crates as they are.
 """
 
 import os
@@ -18,8 +18,20 @@ from edits import BadEdit, Edit, text_of, write
 MOST = 16
 BATCH = "batch"
 AS_IT_IS = "as_it_is"
-# As `rt fmt` lays it out. A module of a library has none.
+# As `rt fmt` lays it out. A module of tests has none.
 MAIN = re.compile(r"^fn main\((?:.*\n)*?}\n", re.M)
+# What a program answers.
+ANSWER = re.compile(r"^fn main\(.*\) -> (?:\w+::)*(\w+)", re.M)
+ANSWERS = {"Result": "anyhow::Result<()>", "ExitCode": "std::process::ExitCode"}
+ARGUMENTS = re.compile(r"\benv::args\((\w+)\)\?")
+HEAD = re.compile(r"^fn main\(rt: HostRuntime\)", re.M)
+# Only the `main` of a program itself has all that the runtime offers by the type `HostRuntime`; elsewhere that has the standard
+# streams alone.
+PICKED_HEAD = (
+    "pub fn main<R: std::rt::Runtime + AllocGlobal + std::sync::Wait + std::thread::Threads + Copy + Send + Sync + 'static>"
+    "(rt: R, host: HostRuntime)"
+)
+STREAM = re.compile(r"\brt(?=\.std(?:in|out|err)\(\))")
 # A test with its name and what is said above it, as `rt fmt` lays it out.
 TEST = re.compile(r"^( *)(?://.*\n\1)*#\[test\]\n(?:\1#.*\n)*\1fn (\w+)(?:.*\n)*?\1}\n", re.M)
 
@@ -41,12 +53,10 @@ class TestedEdit(Edit):
 
 
 def batches_of(edits):
-    """The edits that tests must show in groups for a run each: those of one crate, shown by tests of one crate."""
+    """The edits in groups for a run each: those of one crate that tests of one crate must show, or those that one program must."""
     groups = {}
     for it in edits:
-        if it.is_of_a_program:
-            continue
-        groups.setdefault((it.crate, it.target), []).append(it)
+        groups.setdefault((it.target if it.is_of_a_program else it.crate, it.target, it.is_of_a_program), []).append(it)
     for group in groups.values():
         count = -(-len(group) // MOST)
         yield from (group[at::count] for at in range(count))
@@ -66,29 +76,39 @@ def renamed(text, names):
     return text
 
 
-def lay_module(room, target, module, tests, names, change):
-    """Lays the crate of tests as a module of the batch, with these of its tests alone, over crates of these names, `change` being
-    made of it first."""
+def lay_module(room, target, module, names, change, change_text):
+    """Lays a crate as a module of the batch, over crates of these names: `change` is made of its folder first, and `change_text` of
+    each file."""
     source = f"{room}/crates/{BATCH}/src/{module}"
     folder = f"{room}/{module}"
     shutil.copytree(f"{ROOT}/crates/{target}/src", f"{folder}/src")
     change(folder)
     shutil.move(f"{folder}/src", source)
-    kept = {it.rpartition("::")[2] for it in tests}
-
-    def one_module(text):
-        text = TEST.sub(lambda found: found[0] if found[2] in kept else "", text)
-        return renamed(re.sub(r"\bcrate::", f"crate::{module}::", text), names)
-
-    rewrite(source, one_module)
+    rewrite(source, lambda text: renamed(re.sub(r"\bcrate::", f"crate::{module}::", change_text(text)), names))
     root = f"{source}/{'main' if tries.is_program(target) else 'lib'}.rt"
-    lines = [line for line in MAIN.sub("", text_of(root)).splitlines() if not line.startswith("#![")]
+    lines = [line for line in text_of(root).splitlines() if not line.startswith("#![")]
     os.remove(root)
     write(f"{source}.rt", "\n".join(lines) + "\n")
 
 
+def with_test(edit):
+    """Of the text of a crate of tests, what a module has in which the test of an edit stands alone."""
+    kept = edit.test.rpartition("::")[2]
+    return lambda text: MAIN.sub("", TEST.sub(lambda found: found[0] if found[2] == kept else "", text))
+
+
+def as_picked(text):
+    """The text of a program whose first argument picked it."""
+    text = ARGUMENTS.sub(r"env::args(\1)?.skip(1)", text)
+    return HEAD.sub(PICKED_HEAD, STREAM.sub("host", text)).replace("<HostRuntime>", "<R>") if HEAD.search(text) else text
+
+
+def unchanged(_):
+    pass
+
+
 def lay_edited(room, module, edit):
-    """Lays what one edit changes, and its test over that; answers the crates that its module stands on."""
+    """Lays what one edit changes, and what shows it over that; answers the crates that its module stands on."""
     changed = {it for it in tries.below(edit.target) if edit.crate in tries.below(it) | {it}}
     names = {it: f"{it}_of_{module}" for it in changed}
     for crate, name in names.items():
@@ -96,27 +116,51 @@ def lay_edited(room, module, edit):
         shutil.copytree(f"{ROOT}/crates/{crate}", folder, ignore=tries.UNUSED)
         if crate == edit.crate:
             edit.apply(folder)
-        rewrite(f"{folder}/src", lambda text: renamed(text, names))
+        rewrite(f"{folder}/src", lambda text: renamed(as_picked(text) if edit.is_of_a_program else text, names))
     tries.list_crates(room, {name: [names.get(it, it) for it in tries.DEPENDENCIES[crate]] for crate, name in names.items()})
-    nothing = lambda folder: None
-    lay_module(room, edit.target, module, [edit.test], names, edit.apply if edit.crate == edit.target else nothing)
+    change = edit.apply if edit.crate == edit.target else unchanged
+    lay_module(room, edit.target, module, names, change, as_picked if edit.is_of_a_program else with_test(edit))
     return [names.get(it, it) for it in tries.DEPENDENCIES[edit.target]]
 
 
 def lay_batch(room, edits):
-    """Lays a repository in which the tests of a batch can be run, over each edit and over the crates as they are."""
-    target = edits[0].target
+    """Lays a repository in which what shows each of these edits can be run over it."""
+    target, is_of_a_program = edits[0].target, edits[0].is_of_a_program
     tries.copy_crates(room, tries.below(target))
     os.makedirs(f"{room}/crates/{BATCH}/src")
     modules = [with_edit(it) for it in range(len(edits))]
     needed = list(tries.DEPENDENCIES[target])
     for module, edit in zip(modules, edits):
         needed += lay_edited(room, module, edit)
-    lay_module(room, target, AS_IT_IS, [it.test for it in edits], {}, lambda folder: None)
-    modules.append(AS_IT_IS)
+    if is_of_a_program:
+        for crate in tries.below(target):
+            rewrite(f"{room}/crates/{crate}/src", as_picked)
+        lay_module(room, target, AS_IT_IS, {}, unchanged, as_picked)
+        modules.append(AS_IT_IS)
+        needed += ["anyhow"]
     tries.list_crates(room, {BATCH: dict.fromkeys(needed)})
-    lines = [f"#[cfg(test)]\nmod {module};\n" for module in modules]
-    write(f"{room}/crates/{BATCH}/src/lib.rt", "//! Wrong bodies, each with its test.\n#![tactic(auto)]\n\n" + "".join(lines))
+    source = f"{room}/crates/{BATCH}/src"
+    if is_of_a_program:
+        write(f"{source}/main.rt", picking(modules, ANSWER.search(text_of(f"{ROOT}/crates/{target}/src/main.rt"))[1]))
+    else:
+        lines = [f"#[cfg(test)]\nmod {module};\n" for module in modules]
+        write(f"{source}/lib.rt", "//! Wrong bodies, each with its test.\n#![tactic(auto)]\n\n" + "".join(lines))
+
+
+def picking(modules, answer):
+    """A program that is the one of these modules that its first argument names."""
+    return "\n".join([
+        "//! A program, as it is and with wrong bodies.",
+        "#![tactic(auto)]",
+        *(f"mod {module};" for module in modules),
+        f"fn main(rt: HostRuntime) -> {ANSWERS[answer]} {{",
+        "    let picked = match std::env::args(&rt) { Ok(mut words) => words.nth(1), Err(_) => None };",
+        "    match picked.as_ref().map(|it| it.as_str()) {",
+        *(f'        Some("{module}") => {module}::main(rt, rt),' for module in modules[:-1]),
+        f"        _ => {modules[-1]}::main(rt, rt),",
+        "    }",
+        "}\n",
+    ])
 
 
 def with_edit(number):
@@ -126,16 +170,13 @@ def with_edit(number):
 
 def end_with(became, edits, edit):
     """What became of the edit's test with it, of what became of the tests of the batch."""
-    return end_in(became, with_edit(edits.index(edit)), edit)
+    module = with_edit(edits.index(edit))
+    return end_of(edit, {path: test.end for path, test in became.items() if path.startswith(f"{module}::")})
 
 
-def end_as_it_is(became, edit):
-    """And without it."""
-    return end_in(became, AS_IT_IS, edit)
-
-
-def end_in(became, module, edit):
-    found = [test.end for path, test in became.items() if path.startswith(f"{module}::") and edit.names(path)]
+def end_of(edit, ends):
+    """What became of the edit's test, of the ends of tests by their paths."""
+    found = [end for path, end in ends.items() if edit.names(path)]
     if len(found) != 1:
         raise BadEdit(f"{len(found)} tests are named {edit.test}")
     return found[0]

@@ -9,6 +9,7 @@ import re
 import shutil
 import subprocess
 import threading
+import time
 
 import tries
 from command import ROOT
@@ -32,31 +33,38 @@ class Ended(Exception):
 
 
 class Lanes:
-    """Runs commands, as many at once as there are processors and memory; none once it is told to end."""
+    """Runs checks, as many at once as there are processors and memory, and where they are shared each once a processor is idle; none
+    once it is told to end."""
 
     def __init__(self):
-        self.free = threading.Semaphore(max(1, min(tries.Processors.there(), memory() // MEMORY)))
+        self.processors = tries.Processors()
+        self.free = threading.Semaphore(max(1, min(self.processors.there(), memory() // MEMORY)))
         self.changing, self.running, self.is_over = threading.Lock(), set(), False
 
     def run(self, words, folder):
         """What a command says in a folder, and whether it is content."""
-        how = {"stdin": subprocess.DEVNULL, "stdout": subprocess.PIPE, "stderr": subprocess.STDOUT, "text": True, "errors": "replace"}
         with self.free:
-            with self.changing:
-                if self.is_over:
-                    raise Ended
-                process = subprocess.Popen(words, cwd=folder, **how)
-                self.running.add(process)
-            said, _ = process.communicate()
-            with self.changing:
-                self.running.discard(process)
-                if self.is_over:
-                    raise Ended
+            self.processors.wait_for_one()
+            return self.run_now(words, folder)
+
+    def run_now(self, words, folder):
+        """As `run`, whatever else runs."""
+        how = {"stdin": subprocess.DEVNULL, "stdout": subprocess.PIPE, "stderr": subprocess.STDOUT, "text": True, "errors": "replace"}
+        with self.changing:
+            if self.is_over:
+                raise Ended
+            process = subprocess.Popen(words, cwd=folder, **how)
+            self.running.add(process)
+        said, _ = process.communicate()
+        with self.changing:
+            self.running.discard(process)
+            if self.is_over:
+                raise Ended
         return said, process.returncode == 0
 
     def end(self, *_):
         """Ends all that runs."""
-        self.is_over = True
+        self.is_over = self.processors.is_over = True
         for it in [*self.running]:
             it.kill()
         raise SystemExit(1)
@@ -91,18 +99,26 @@ def copy_kept(one, other):
     os.makedirs(f"{other}/{KEPT}", exist_ok=True)
 
 
-def libraries_of_ci(room, crates):
-    """Lays the libraries below these crates as `rt ci` has them, which proves those that it hasn't proved yet: what it said, and
-    whether they are there."""
-    libraries = {it for crate in crates for it in tries.below(crate)}
+def are_told(libraries, told):
+    """Waits until a file has a line for each of these crates, as far as `rt ci` has proved them."""
+    while not LANES.is_over and not libraries <= set(text_of(told).split()):
+        time.sleep(1)
+
+
+def libraries_of_ci(room, crate, told):
+    """Lays the libraries below a crate as `rt ci` has them, once a file tells that it has proved each: what it said, and whether
+    they are there. Where there is no such file it proves those that it hasn't proved yet."""
+    libraries = set(tries.below(crate))
     if not libraries:
         return "", True
+    if told:
+        are_told(libraries, told)
     os.makedirs(f"{room}/crates")
     shutil.copy(f"{ROOT}/HANDLES", room)
     write(f"{room}/crates.txt", "".join(lines_of(libraries)))
     for it in libraries:
         copy_parts(it, f"{room}/crates/{it}")
-    return LANES.run(["rt", "ci"], room)
+    return LANES.run_now(["rt", "ci"], room)
 
 
 def words_of(crate, top):

@@ -11,45 +11,42 @@ def last_name(text):
     return re.sub(r"<.*", "", text.strip().lstrip("&")).strip().split("::")[-1]
 
 
-def without_parameters(head):
-    """The head of a block without the parameters that stand first in angle brackets."""
-    while re.match(r"<", head):
-        depth = 0
-        for number, letter in enumerate(head):
-            depth += (letter == "<") - (letter == ">" and head[number - 1] != "-")
-            if not depth:
-                head = head[number + 1 :].strip()
-                break
-    return head
+def parted(head):
+    """The parameters that stand first in angle brackets in the head of a block, and what stands behind them."""
+    depth = 0
+    for number, letter in enumerate(head if head.startswith("<") else ""):
+        depth += (letter == "<") - (letter == ">" and head[number - 1] != "-")
+        if not depth:
+            return head[1:number], head[number + 1 :].strip()
+    return "", head
 
 
 def block_at(text, at):
-    """As the prover names it, the type whose block a position stands in, or type and trait: `EpollPoller`."""
+    """As the prover names it, the type whose block a position stands in, or type and trait: `EpollPoller`; of a trait for any type,
+    `AnyEventPoller`."""
     blocks = [it for it in BLOCK.finditer(text, 0, at)]
     if not blocks:
         return None
     kind, head = blocks[-1].groups()
-    head = without_parameters(re.sub(r"\s+", " ", head).strip())
+    parameters, head = parted(re.sub(r"\s+", " ", head).strip())
     head = re.split(r"\bwhere\b", head)[0]
     if kind == "trait":
         return last_name(head.partition(":")[0])
     trait, found, of = head.partition(" for ")
-    return last_name(of) + last_name(trait) if found else last_name(trait)
+    if not found:
+        return last_name(trait)
+    is_any = re.search(rf"(?:^|, ){last_name(of)}\b", parameters)
+    return ("Any" if is_any else last_name(of)) + last_name(trait)
 
 
-def functions_at(crate, file, text, at, functions):
-    """The function that a position of a file stands in, by its path; or several, where the path isn't sure."""
-    around = [it for it in FUNCTION.finditer(text, 0, at)]
-    if not around or re.search(rf"^{around[-1][1]}\}}", text[around[-1].start() : at], re.M):
-        return []
-    indent, name = around[-1].groups()
+def path_at(crate, file, text, at):
+    """The path of the function that a position of a file stands in; none between functions."""
+    heads = [it for it in FUNCTION.finditer(text) if it.start() <= at]
+    if not heads or re.search(rf"^{heads[-1][1]}\}}", text[heads[-1].start() : at], re.M):
+        return None
+    indent, name = heads[-1].groups()
     above = [crate, *(it for it in file.removeprefix("src/").removesuffix(".rt").split("/") if it not in ("lib", "main", "mod"))]
-    paths = [(it, it.split("::")) for it in functions]
-    within = [(it, parts) for it, parts in paths if parts[: len(above)] == above and parts[-1] == name]
-    if not indent:
-        return [it for it, parts in within if len(parts) == len(above) + 1]
-    block = block_at(text, around[-1].start())
-    return [it for it, parts in within if parts[-2] == block] or [it for it, _ in within]
+    return "::".join([*above, *([block_at(text, heads[-1].start())] if indent else []), name])
 
 
 def lines_of(text, name):

@@ -2,9 +2,10 @@
 
 use crate::expecting::{expect_ok, expect_same, put};
 use crate::host::Looping;
-use crate::rounds::{MESSAGES, SENDERS, rest, takes_of};
+use crate::rounds::{MESSAGES, SENDERS, takes_of};
 use crate::watched::Watched;
 use std::alloc::Global;
+use test_rounds::rest;
 
 /// The number of a receiver's first step in a round, behind those of the senders.
 const FIRST_STEP: u64 = SENDERS * MESSAGES;

@@ -3,12 +3,13 @@
 use crate::expecting::{expect_ok, expect_same, put};
 use crate::host::{Host, Looping};
 use crate::receiving::Receiving;
-use crate::rounds::{MESSAGES, ROUNDS, Rounds, SENDERS, messages_of, rest};
+use crate::rounds::{MESSAGES, ROUNDS, SENDERS, messages_of};
 use crate::watched::{Watched, another, close, open};
 use channels::{Refusal, SendError, Sender};
 use std::alloc::Global;
 use std::process::Abort;
 use std::thread;
+use test_rounds::{Rounds, rest};
 
 /// A thread's senders, one for each round, and its first number.
 #[derive(Drop)]
@@ -23,7 +24,7 @@ impl Sending {
         let Sending { senders, from } = self;
         let mut agreed = Vec::new(alloc);
         for (round, sender) in (0u64..).zip(senders) {
-            rounds.begin(rt, round);
+            rounds.begin(rt, round, SENDERS + 1);
             put(rt, &mut agreed, send_round(rt, &sender, round, from));
             close(rt, sender);
         }
@@ -83,7 +84,7 @@ fn receive_rounds<R: Looping>(
 ) -> Vec<Vec<u64>> {
     let mut lists = Vec::new(alloc);
     for (round, watched) in (0u64..).zip(all) {
-        rounds.begin(rt, round);
+        rounds.begin(rt, round, SENDERS + 1);
         put(rt, &mut lists, how.receive(rt, alloc, watched, round));
     }
     lists
@@ -102,7 +103,7 @@ fn make_rounds<R: Host>(rt: &R, alloc: Global, how: Receiving) -> Ended {
     let (all, threads) = open_all(rt, alloc);
     let (_, ended) = thread::join(
         rt,
-        || rounds.look_on(rt),
+        || expect_same(rt, &rounds.look_on(rt), &true),
         || {
             let ended = receive_beside(rt, alloc, &rounds, all, threads, how);
             rounds.end();

@@ -1,5 +1,5 @@
 -- The messages of a channel, and what each call does to them, and to the signal that tells the receiver.
-use Rattle.std.specs.Prelude.{◌≡◌, ◌<◌, ◌+◌, ◌-◌, ◌++◌, ◌∷◌, [], ℕ, Bool, true, false, not, ◌&&◌, ◌||◌, ◌==◌, nat_lt, List, length, Option, None, Some, MatchBool, Result, Ok, Err}
+use Rattle.std.specs.Prelude.{◌≡◌, ◌<◌, ◌+◌, ◌-◌, ◌++◌, ◌∷◌, [], ℕ, Bool, true, false, not, ◌&&◌, ◌||◌, ◌⊎◌, ◌==◌, nat_lt, List, length, Option, None, Some, MatchBool, Result, Ok, Err}
 use Rattle.std.specs.declared.alloc.AllocError.{AllocError}
 use Rattle.vmm_sys.specs.declared.errno.Errno.{Errno}
 use Rattle.channels.specs.declared.errors.Refusal.{Refusal}
@@ -49,10 +49,10 @@ module _ {M : Type 0} where
   abbrev pub IsClosed : Messages M → List M → Messages M → Type 0
   IsClosed q all r = (all ≡ q.waiting) × (r ≡ record q { waiting = []; is_open = false })
 
-  -- one sender more beside at least one; or the senders are as before
+  -- one sender more beside at least one; or none is left, or they can't be counted further
   abbrev pub IsJoined : Messages M → Result (Unit {0}) AllocError → Messages M → Type 0
   IsJoined q (Ok _) r = (0 < q.senders) × (r ≡ record q { senders = q.senders + 1 })
-  IsJoined q (Err _) r = r ≡ q
+  IsJoined q (Err _) r = (r ≡ q) × ((q.senders ≡ 0) ⊎ (q.senders ≡ 18446744073709551615))
 
 module _ {M S : Type 0} (raises : S → Result (Unit {0}) Errno → S → Type 0) where
   -- the signal is raised where there is nothing to tell, and left alone where there is something

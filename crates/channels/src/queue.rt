@@ -1,6 +1,6 @@
 //! The messages of a channel, without a lock.
 
-ghost use Rattle.std.specs.Prelude.{◌≡◌, length, IfOk, MatchBool, not, ◌&&◌};
+ghost use Rattle.std.specs.Prelude.{◌≡◌, ◌<◌, ◌+◌, length, vec_len, vec_capacity, IfOk, OnErr, MatchBool, not, ◌&&◌};
 ghost use Rattle.channels.specs.Messages.{has_room, is_over, is_ready, new_messages, IsTold, IsSend, IsLeave, IsTaken, IsReceived, IsClosed, IsJoined, IsSettled};
 
 use crate::errors::{Refusal, SendError};
@@ -153,10 +153,11 @@ impl<M> MessageQueue<M> {
         Err(SendError { why, message })
     }
 
-    /// Moves all that waits behind what the list has, in order. Refused for want of memory in the list alone: then nothing is
+    /// Moves all that waits behind what the list has, in order. Refused where the list lacks room and memory for more: then nothing is
     /// moved. Lowers the signal where nothing is to be told any more.
     pub fn take<S: Signal>(&mut self, into: &mut Vec<M>, signal: &mut S) -> Result<(), AllocError>
         ensures taken { IsTaken self.old into.old.items result self.new into.new.items }
+        ensures refused { OnErr result (vec_capacity into.old < vec_len into.old + length self.old.waiting) }
         ensures settled { IsSettled S.lowers self.old signal.old self.new signal.new }
     {
         let was_ready = self.is_ready();

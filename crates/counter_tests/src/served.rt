@@ -1,8 +1,10 @@
 //! Counting subscribers that are served events of a script.
 
-use crate::expecting::{expect_ok, expect_same};
-use crate::making::{Host, counter_of};
-use event_manager::utilities::subscribers::{CounterInnerMutSubscriber, CounterSubscriber};
+use crate::expecting::{expect_ok, expect_same, expect_values};
+use crate::making::{Host, counter_of, three_counters_of};
+use event_manager::utilities::subscribers::{
+    CounterInnerMutSubscriber, CounterSubscriber, CounterSubscriberWithData,
+};
 use event_manager::{Error, MutEventSubscriber};
 use fixtures::parts::Parts;
 use fixtures::runs::run_alone;
@@ -51,21 +53,47 @@ fn served<S: MutEventSubscriber + Drop, R: Host>(
 }
 
 /// The subscriber of descriptor 0, after these events.
-fn served_counter<R: Host>(rt: R, alloc: Global, events: Reported<'_>) -> CounterSubscriber {
+fn served_counter<R: Host>(
+    rt: R,
+    alloc: Global,
+    events: Reported<'_>,
+    refusals: Refusals<'_>,
+) -> CounterSubscriber {
     let epoll = expect_ok(&rt, Epoll::new(rt, alloc));
     let subscriber = CounterSubscriber::new(counter_of(&rt, &epoll));
-    served(&rt, alloc, &epoll, subscriber, events, &[])
+    served(&rt, alloc, &epoll, subscriber, events, refusals)
 }
 
 #[test]
 fn a_counter_counts_and_prints_what_is_in_alone(rt: HostRuntime) {
     let events = [(IN, 0), (IN | EventSet::OUT, 0)];
     for (count, spurious) in [(1, 0), (2, 1)] {
-        let subscriber = served_counter(rt, rt.alloc(), &events[..count]);
+        let subscriber = served_counter(rt, rt.alloc(), &events[..count], &[]);
         let shown = expect_ok(&rt, format!(in rt.alloc(); "{}", *subscriber));
         expect_same(&rt, &shown.as_str(), &"(event_fd = 0, counter = 1)");
         expect_same(&rt, &subscriber.spurious(), &spurious);
     }
+}
+
+#[test]
+fn data_beside_those_of_the_three_counters_is_spurious(rt: HostRuntime) {
+    let epoll = expect_ok(&rt, Epoll::new(rt, rt.alloc()));
+    let event_fds = three_counters_of(&rt, &epoll);
+    let subscriber = CounterSubscriberWithData::new(rt.alloc(), event_fds, 10);
+    let events = [(IN, 9), (IN, 13)];
+    let subscriber = served(&rt, rt.alloc(), &epoll, subscriber, &events, &[]);
+    expect_values(&rt, &subscriber, [0, 0, 0]);
+    expect_same(&rt, &subscriber.spurious(), &2);
+}
+
+// The event behind the hang-up finds the registration that stays.
+#[test]
+fn a_counter_whose_removal_is_refused_stays(rt: HostRuntime) {
+    let events = [(HANG_UP, 0), (IN, 0)];
+    let subscriber = served_counter(rt, rt.alloc(), &events, REFUSED_DELETE);
+    expect_same(&rt, &subscriber.hung_up(), &true);
+    expect_same(&rt, &subscriber.fault(), &FAULT);
+    expect_same(&rt, &subscriber.counter(), &1);
 }
 
 /// How many events, errors and spurious events a subscriber counted, whether its descriptor hung up, and its fault.

@@ -41,6 +41,31 @@ where
     expect_ok(&rt, replies_to(&rt, parts, calls))
 }
 
+#[test]
+fn ids_go_up_and_an_id_that_left_is_unknown(rt: HostRuntime) {
+    let first = expect_ok(&rt, id_of(rt.alloc(), 1));
+    let second = expect_ok(&rt, id_of(rt.alloc(), 2));
+    let requests = expect_ok(&rt, vec![in rt.alloc(); Request::Remove(wanted(3))]);
+    let calls = vec![in rt.alloc();
+        Call::Add(Quiet(11)),
+        Call::Remove(first),
+        Call::Add(Quiet(12)),
+        Call::Remove(first),
+        Call::Set(second, Quiet(13)),
+        Call::Ask(first, requests),
+    ];
+    let replies = replies_over_nothing(rt, rt.alloc(), expect_ok(&rt, calls));
+    let expected = vec![in rt.alloc();
+        Reply::Added(Ok(first)),
+        Reply::Removed(Ok(Quiet(11))),
+        Reply::Added(Ok(second)),
+        Reply::Removed(Err(Error::InvalidId)),
+        Reply::Set(Ok(Quiet(12))),
+        Reply::Asked(Err(Error::InvalidId)),
+    ];
+    expect_same(&rt, &replies, &expect_ok(&rt, expected));
+}
+
 /// Counts in `init` how many hold what it holds.
 #[derive(Drop)]
 struct Counting {

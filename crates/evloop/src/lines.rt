@@ -124,16 +124,17 @@ where
 
 /// Makes the lines in order, and prints what they are answered. Each makes one call of the manager; an `ask` or `drop` line
 /// of a name whose join was refused makes none. The reactions are those of the joins, in order; a join behind the last of
-/// them has none. A line of a reply to an `ask` that can't be written is dropped.
+/// them has none. The rest of a reply's line that can't be written is dropped.
 ///
 /// The calls that were made, with their replies, are one list that was driven, whose `Remove` and `Ask` calls have the ids
 /// that the replies to the joins gave. Each line of `sub`, `drop` and `run`, and of an `ask` that is refused as a whole, is
-/// printed as its reply, behind what the output held, where std knows what it holds.
+/// printed as its reply; an `ask` that is agreed to prints each of its requests with its answer, in order. All this stands
+/// behind what the output held, where std knows what it holds.
 ///
 /// # Errors
 ///
-/// `OutOfMemory`; `CannotWrite` where another line can't be written. Then the first lines were made, of which the last may not
-/// be printed, and those behind them were not.
+/// `OutOfMemory`; `CannotWrite` where another line can't be written. Then the first lines were made and printed, but for the
+/// rest of what the last of them prints, and those behind them were not made.
 pub fn make_lines<'a, R, O, J, N, P>(
     rt: &R,
     alloc: Global,

@@ -1,7 +1,9 @@
 //! What the program writes.
 
-ghost use Rattle.std.specs.Prelude.{◌≡◌, ◌⊎◌, IfErr, OnOk};
-ghost use Rattle.evloop_script.specs.Printed.{line_text, written_by, Prints};
+ghost use Rattle.std.specs.Prelude.{◌≡◌, ◌⊎◌, pos, IfErr, OnOk, IsOkUnless};
+ghost use Rattle.std.specs.Io.KnownBytes.{Appends};
+ghost use Rattle.event_loop.specs.Exchange.{event_of};
+ghost use Rattle.evloop_script.specs.Printed.{line_text, operation_text, written_by, AppendsPart, Prints, PrintsPart};
 ghost use Rattle.evloop_script.specs.declared.fault.Fault.TheVariants as fault;
 
 use crate::fault::Fault;
@@ -10,7 +12,7 @@ use event_loop::{Error, Events, Request, SubscriberId};
 use std::alloc::{AllocError, Global};
 use std::fmt;
 use std::fmt::Display;
-use std::io::{Stdout, Write};
+use std::io::{ErrorKind, Stdout, Write};
 
 /// An output that can be written to by several.
 pub trait Out: Write {
@@ -62,7 +64,9 @@ pub enum OutputLine<'a> {
 }
 
 // The word of a request, as the script has it.
-fn operation(request: &Request) -> &'static str {
+fn operation(request: &Request) -> &'static str
+    ensures { result.now ≡ operation_text request.now }
+{
     match request {
         Request::Add(_) => "add",
         Request::AddWithPriority(..) => "addp",
@@ -71,7 +75,9 @@ fn operation(request: &Request) -> &'static str {
     }
 }
 
-fn descriptor(request: &Request) -> i32 {
+fn descriptor(request: &Request) -> i32
+    ensures { result ≡ pos (event_of request.now).fd }
+{
     match request {
         Request::Add(events) => events.fd(),
         Request::AddWithPriority(events, _) => events.fd(),
@@ -123,6 +129,27 @@ impl Display for OutputLine<'_> {
     }
 }
 
+// Writes the bytes, however few the output takes at a time. A write that is interrupted is tried again.
+fn write_whole<O: Write>(out: &mut O, bytes: &[u8]) -> Result<(), Fault>
+    ensures whole { OnOk result (Appends (O.contents out.old) (O.contents out.new) bytes.now) }
+    ensures part { AppendsPart (O.contents out.old) (O.contents out.new) bytes.now }
+    ensures errors { IsOkUnless result fault.CannotWrite }
+{
+    let mut done = 0;
+    'writes: for _ in 0..u64::MAX {
+        if done >= bytes.len() {
+            return Ok(());
+        }
+        match out.write(&bytes[done..]) {
+            Ok(0) => return Err(Fault::CannotWrite),
+            Ok(count) => done += count,
+            Err(error) if error.kind() == ErrorKind::Interrupted => {}
+            Err(_) => return Err(Fault::CannotWrite),
+        }
+    }
+    Err(Fault::CannotWrite)
+}
+
 /// No line is longer, in bytes.
 const LINE_CAPACITY: usize = 256;
 
@@ -162,24 +189,22 @@ impl<O: Out> Printer<O> {
     }
 
     /// Writes the line: all of it, however little the output takes at a time. A write that is interrupted
-    /// is tried again.
+    /// is tried again. What the output held stays in front, whatever is answered.
     ///
     /// # Errors
     ///
-    /// `CannotWrite` where the output refuses it. What the output took before stays written, and the next
-    /// line goes right behind it.
+    /// `CannotWrite` where the output refuses it. What the output took before, a first part of the line, stays
+    /// written, and the next line goes right behind it. `OutOfMemory`, nothing having been written.
     pub fn print(&mut self, line: &OutputLine<'_>) -> Result<(), Fault>
         ensures printed { OnOk result (Prints (written_by O.contents self.old) line.now (written_by O.contents self.new)) }
+        ensures part { PrintsPart (written_by O.contents self.old) line.now (written_by O.contents self.new) }
+        ensures memory { IfErr result (λ f. f ≡ fault.OutOfMemory → written_by O.contents self.new ≡ written_by O.contents self.old) }
         ensures errors { IfErr result (λ f. (f ≡ fault.OutOfMemory) ⊎ (f ≡ fault.CannotWrite)) }
     {
         self.line.clear();
         match writeln!(self.line, "{line}") {
-            Ok(()) => {}
-            Err(_) => return Err(Fault::OutOfMemory),
-        }
-        match self.out.write_all(self.line.as_bytes()) {
-            Ok(()) => Ok(()),
-            Err(_) => Err(Fault::CannotWrite),
+            Ok(()) => write_whole(&mut self.out, self.line.as_bytes()),
+            Err(_) => Err(Fault::OutOfMemory),
         }
     }
 }

@@ -1,9 +1,11 @@
 //! Requests and their answers, printed one after another.
 
-ghost use Rattle.std.specs.Prelude.{◌≡◌, List};
+ghost use Rattle.std.specs.Prelude.{◌≡◌, List, [], ◌∷◌, ◌++◌};
+ghost use Rattle.std.specs.List.{zip};
 ghost use Rattle.event_loop.specs.Exchange.{Exchanges, requests_of};
 ghost use Rattle.event_loop.specs.PollerCall.{PollerCall};
 ghost use Rattle.event_loop.specs.Requests.{AreMadeThrough};
+ghost use Rattle.evloop_script.specs.Printed.{reply_text, written_by, AppendsPart, PrintsReplies};
 
 use crate::output::{Out, OutputLine, Printer};
 use event_loop::{Error, EventOps, EventPoller, Request};
@@ -14,7 +16,9 @@ fn print_reply<O: Out>(
     request: Request,
     answer: Result<(), Error>,
     printer: &mut Printer<O>,
-) {
+)
+    ensures { AppendsPart (written_by O.contents printer.old) (written_by O.contents printer.new) (reply_text name.now request answer ++ 10 ∷ []) }
+{
     let _ = printer.print(&OutputLine::Reply {
         name,
         request,
@@ -39,13 +43,15 @@ pub fn make_requests<P: EventPoller, O: Out>(
     }
 }
 
-/// Prints each request with its answer. A line that can't be written is dropped.
+/// Prints each request with its answer, in order. The rest of a line that can't be written is dropped.
 pub fn print_replies<O: Out>(
     name: &str,
     requests: &[Request],
     answers: &[Result<(), Error>],
     printer: &mut Printer<O>,
-) {
+)
+    ensures { PrintsReplies (written_by O.contents printer.old) name.now (zip requests.now answers.now) (written_by O.contents printer.new) }
+{
     for (request, answer) in requests.iter().zip(answers) {
         print_reply(name, *request, *answer, printer);
     }

@@ -35,6 +35,13 @@ fn accepted_jobs_have_their_tickets(rt: HostRuntime) {
     expect_same(&rt, &outcome.taken.as_slice(), &taken.as_slice());
 }
 
+#[test]
+fn of_nothing_nothing_is_sent_or_taken(rt: HostRuntime) {
+    let steps: Vec<Step<char>> = Vec::new(rt.alloc());
+    let outcome = expect_ok(&rt, replay(&rt, rt.alloc(), steps));
+    expect_same(&rt, &(outcome.answers.len(), outcome.taken.len()), &(0, 0));
+}
+
 /// A bell that counts how often it is rung, and refuses one ring by its number, counted from 1.
 #[derive(Drop)]
 struct Refusing {

@@ -2,13 +2,19 @@
 
 use crate::expecting::{expect_ok, expect_same};
 use event_manager::{Error, EventLoop, EventPoller, Events, MAX_READY_EVENTS_CAPACITY};
-use fixtures::counting::Counting;
+use fixtures::counting::{Counting, counting_on};
 use fixtures::driving::replies_to;
 use fixtures::parts::{Idle, silent_parts};
+use fixtures::runs::run_alone;
 use fixtures::scripts::script_of;
+use std::alloc::Global;
+use std::process::Abort;
+use std::sync::Wait;
 use std::sync::atomic::{AtomicU64, Ordering};
+use std::time::Clock;
 use vmm_sys::epoll::{ControlOperation, EpollEvent};
 use vmm_sys::errno::Errno;
+use vmm_sys::table::Table;
 
 /// A poller that counts what it is asked for.
 #[derive(Drop)]
@@ -49,4 +55,28 @@ fn a_loop_without_jobs_has_its_capacity(rt: HostRuntime) {
     let mut event_loop = expect_ok(&rt, made);
     expect_same(&rt, &event_loop.run(), &Ok(1));
     expect_same(&rt, &event_loop.run(), &Ok(1));
+}
+
+/// Expects that a run of a manager without capacity is refused, over this poller, and that nobody is called.
+fn expect_refused_wait<P: EventPoller + Drop, R: Wait + Clock + Abort + Copy + Send + Drop>(
+    rt: R,
+    alloc: Global,
+    poller: P,
+) {
+    let mut parts = expect_ok(&rt, silent_parts(rt, alloc, poller));
+    parts.capacity = Some(0);
+    let runs = [Err(Error::Epoll(Errno::EINVAL))];
+    let left = expect_ok(&rt, run_alone(&rt, parts, counting_on(1), &runs));
+    expect_same(&rt, &left.count, &0);
+}
+
+#[test]
+fn a_capacity_of_0_is_left_to_the_poller(rt: HostRuntime) {
+    let script = expect_ok(&rt, script_of(rt.alloc(), &[1]));
+    expect_refused_wait(rt, rt.alloc(), script);
+    let mut table = Table::new(rt.alloc());
+    // The endpoint's descriptor, and one that is ready.
+    expect_same(&rt, &table.add_counter(0), &Ok(0));
+    expect_same(&rt, &table.add_counter(1), &Ok(1));
+    expect_refused_wait(rt, rt.alloc(), table);
 }

@@ -27,6 +27,8 @@ pub struct Device<R> {
     // What is wanted of either.
     kicks: Events,
     refills: Events,
+    // How many requests waited at the queue's last event.
+    found: u64,
     tokens: u64,
     served: u64,
     is_out: bool,
@@ -43,6 +45,7 @@ impl<R: Wait + Clock> Device<R> {
             refills: Events::with_data(&timer, REFILL, EventSet::IN),
             queue,
             timer,
+            found: 0,
             tokens: SIZE,
             served: 0,
             is_out: false,
@@ -63,17 +66,17 @@ impl<R> fmt::Display for Device<R> {
         let place = if self.is_out { "out of" } else { "in" };
         write!(
             f,
-            "served {}, tokens {}, {place} the loop",
-            self.served, self.tokens
+            "found {}, served {}, tokens {}, {place} the loop",
+            self.found, self.served, self.tokens
         )
     }
 }
 
-/// It asks for the queue and the timer. At the queue's event it serves as many of the requests that wait as there are tokens,
-/// each for one, and exactly where none is left it asks to take the queue out. At the timer's the bucket is full, and exactly
-/// where the queue was out it asks to put it in again.
+/// It asks for the queue and the timer. At the queue's event it serves as many of the requests that it finds there as there are
+/// tokens, each for one, and exactly where none is left it asks to take the queue out. At the timer's the bucket is full, and
+/// exactly where the queue was out it asks to put it in again.
 impl<R: Wait + Clock> MutEventSubscriber for Device<R> {
-    ghost use Rattle.std.specs.Prelude.{◌≡◌, ◌+◌, ◌-◌, ◌==◌, ℕ, [], ◌∷◌, min, false, is_ok, is_err, MatchBool};
+    ghost use Rattle.std.specs.Prelude.{◌≡◌, ◌+◌, ◌-◌, ◌==◌, [], ◌∷◌, min, false, is_ok, is_err, MatchBool};
     ghost use Rattle.event_loop.specs.Exchange.{Answer};
     ghost use Rattle.event_loop.specs.declared.events.Request.TheVariants.{Add, Remove};
 
@@ -83,7 +86,7 @@ impl<R: Wait + Clock> MutEventSubscriber for Device<R> {
         ((w ≡ record v { tokens = 3; is_out = w.is_out; answer = w.answer }) × MatchBool v.is_out
         ((answer : Answer) × (exchanges ≡ (Add v.kicks, answer) ∷ []) × (w.is_out ≡ is_err answer))
         ((exchanges ≡ []) × (w.is_out ≡ false)))
-        ((waiting : ℕ) × (w ≡ record v { tokens = v.tokens - min waiting v.tokens; served = min (v.served + min waiting v.tokens) 18446744073709551615; is_out = w.is_out; answer = w.answer }) × MatchBool (w.tokens == 0)
+        ((w ≡ record v { found = w.found; tokens = v.tokens - min w.found v.tokens; served = min (v.served + min w.found v.tokens) 18446744073709551615; is_out = w.is_out; answer = w.answer }) × MatchBool (w.tokens == 0)
         ((answer : Answer) × (exchanges ≡ (Remove v.kicks, answer) ∷ []) × (w.is_out ≡ is_ok answer))
         ((exchanges ≡ []) × (w.is_out ≡ v.is_out))) };
 
@@ -99,6 +102,7 @@ impl<R: Wait + Clock> MutEventSubscriber for Device<R> {
             return;
         }
         let waiting = self.queue.read(&self.rt).unwrap_or(0);
+        self.found = waiting;
         let count = waiting.min(self.tokens);
         self.tokens -= count;
         self.served = self.served.saturating_add(count);

@@ -1,5 +1,5 @@
 -- A run over a new recording, and one over a replay of its record: they tell the same.
-use Rattle.std.proofs.Common.{◌≡◌, ℕ, Bool, true, false, List, [], ◌∷◌, Option, Some, None, Ok, refl, sym, ap, subst, ◌∙◌, map, if◌then◌else◌}
+use Rattle.std.proofs.Common.{◌≡◌, ◌↔◌, ℕ, Bool, true, false, List, [], ◌∷◌, Option, Some, None, Ok, IsTrue, refl, sym, ap, subst, ◌∙◌, map, if◌then◌else◌}
 use Rattle.std.specs.List.{All, AllZip}
 use Rattle.poller_records.specs.Recording.{Recording}
 use Rattle.poller_records.specs.Replay.{Replay, start_of, divergence_index}
@@ -17,7 +17,7 @@ use Rattle.event_manager.specs.declared.calls.Reply.TheVariants.{Added, Ran}
 use Rattle.recorded_runs.proofs.LoopCalls.{calls_made_again}
 use Rattle.recorder.specs.Devices.{device_begins, device_serves}
 use Rattle.recorder.specs.Run.{IsRun, calls_of, replies_of}
-use Rattle.recorder.specs.Recorded.{IsRecorded, recording}
+use Rattle.recorder.specs.Recorded.{IsRecorded, IsRunOver, recording}
 use Rattle.recorder.specs.declared.device.Device.{Device}
 use Rattle.recorder.specs.declared.run.Told.{Told}
 use Rattle.recorded_runs.proofs.KeptRefusals.{same_held}
@@ -48,14 +48,30 @@ by_answer false index is = refl
 pub not_diverged : (replay : Replay) → divergence_index replay ≡ None → replay.diverged ≡ false
 not_diverged replay is = by_answer replay.diverged replay.passed is
 
+-- a run in a new loop over the record of this text, which the poller shown at its end hasn't left
+pub run_over : (controls : Controls Replay) (waits : Waits Replay) (devices : Device × Device) (told : Told) (is_over : Bool) (text : List ℕ) (entries : List RecordEntry) (poller shown : Replay) (made end : LoopState Device Replay)
+    → text ≡ text_of entries → poller ≡ start_of entries → made ≡ new_loop no_descriptor poller 256 → IsRun controls waits made devices told end
+    → shown ≡ end.poller → divergence_index shown ≡ None → (IsTrue is_over ↔ (shown.ahead ≡ [])) → IsRunOver controls waits devices text told is_over
+run_over controls waits devices told is_over text entries poller shown made end text_is is_new is_made run is_shown agreed over = record {
+  entries = entries;
+  end = end;
+  text_is = text_is;
+  run = subst (λ s. IsRun controls waits s devices told end) (is_made ∙ ap (λ p. new_loop no_descriptor p 256) is_new) run;
+  agreed = not_diverged end.poller (ap divergence_index (sym is_shown) ∙ agreed);
+  over = subst (λ (p : Replay). IsTrue is_over ↔ (p.ahead ≡ [])) is_shown over;
+}
+
 module _ {P : Type 0} (controls : Controls (Recording P)) (waits : Waits (Recording P)) where
-  pub same_text : (devices : Device × Device) (told : Told) (text other : List ℕ) → other ≡ text → IsRecorded controls waits devices told text → IsRecorded controls waits devices told other
-  same_text devices told text other is recorded = subst (λ t. IsRecorded controls waits devices told t) (sym is) recorded
+  -- what is said of a complete record, of another text that is the same
+  pub same_text : (devices : Device × Device) (told : Told) (text other : List ℕ) (is_complete : Bool) → other ≡ text → is_complete ≡ true
+      → IsRecorded controls waits devices told text is_complete → IsRecorded controls waits devices told other true
+  same_text devices told text other is_complete is complete recorded =
+      subst (λ t. IsRecorded controls waits devices told t true) (sym is) (subst (λ b. IsRecorded controls waits devices told text b) complete recorded)
 
   -- a run in a new loop over a new recording is recorded
-  pub recorded_so : (poller : P) (most : ℕ) (new : Recording P) (made after : LoopState Device (Recording P)) (devices : Device × Device) (told : Told) (text : List ℕ) → new ≡ recording poller most → made ≡ new_loop no_descriptor new 256
-      → IsRun controls waits made devices told after → after.poller.complete ≡ true → All IsEntry after.poller.entries → text ≡ text_of after.poller.entries → IsRecorded controls waits devices told text
-  recorded_so poller most new made after devices told text is_new is_made run complete held text_is = record {
+  pub recorded_so : (poller : P) (most : ℕ) (new : Recording P) (made after : LoopState Device (Recording P)) (devices : Device × Device) (told : Told) (text : List ℕ) (is_complete : Bool) → new ≡ recording poller most → made ≡ new_loop no_descriptor new 256
+      → IsRun controls waits made devices told after → after.poller.complete ≡ is_complete → All IsEntry after.poller.entries → text ≡ text_of after.poller.entries → IsRecorded controls waits devices told text is_complete
+  recorded_so poller most new made after devices told text is_complete is_new is_made run complete held text_is = record {
     poller = poller;
     most = most;
     after = after;
@@ -74,7 +90,7 @@ module _ {P : Type 0} (controls : Controls (Recording P)) (waits : Waits (Record
         → IsTraceOf device_begins device_serves no_job replay_controls replay_waits start calls_again replies_again end again
         → BeginsAgain before after start → end.poller.diverged ≡ false → IsMadeAgain trace again → IsTheRun trace again (manager_state after) (manager_state end)
 
-    same_run : (devices : Device × Device) (told told_again : Told) (text : List ℕ) (recorded : IsRecorded controls waits devices told text) (entries : List RecordEntry) (end : LoopState Device Replay)
+    same_run : (devices : Device × Device) (told told_again : Told) (text : List ℕ) (recorded : IsRecorded controls waits devices told text true) (entries : List RecordEntry) (end : LoopState Device Replay)
         → RecordedLoopLaw → AreFunctions device_begins device_serves no_job → recorded.after.poller.entries ≡ entries
         → (again : IsRun replay_controls replay_waits (new_loop no_descriptor (start_of entries) 256) devices told_again end) → end.poller.diverged ≡ false
         → IsTheRun recorded.run.trace again.trace (manager_state recorded.after) (manager_state end)
@@ -87,7 +103,7 @@ module _ {P : Type 0} (controls : Controls (Recording P)) (waits : Waits (Record
         (had_memory controls waits (recording recorded.poller recorded.most) devices told recorded.after run)
         (had_memory replay_controls replay_waits (start_of entries) devices told_again end again))
 
-    tells_the_same : (devices : Device × Device) (told told_again : Told) (text : List ℕ) (recorded : IsRecorded controls waits devices told text) (entries : List RecordEntry) (end : LoopState Device Replay)
+    tells_the_same : (devices : Device × Device) (told told_again : Told) (text : List ℕ) (recorded : IsRecorded controls waits devices told text true) (entries : List RecordEntry) (end : LoopState Device Replay)
         → RecordedLoopLaw → AreFunctions device_begins device_serves no_job → recorded.after.poller.entries ≡ entries
         → (again : IsRun replay_controls replay_waits (new_loop no_descriptor (start_of entries) 256) devices told_again end) → end.poller.diverged ≡ false
         → told_again ≡ told
@@ -103,7 +119,7 @@ module _ {P : Type 0} (controls : Controls (Recording P)) (waits : Waits (Record
         sym (same_told told told_again (same_counts told.events told_again.events replies.1.1) queue console)
 
     -- so does a loop of the program over what was read of the text
-    pub replay_tells : (devices : Device × Device) (told told_again : Told) (text : List ℕ) (recorded : IsRecorded controls waits devices told text) (entries : List RecordEntry) (poller : Replay) (made end : LoopState Device Replay)
+    pub replay_tells : (devices : Device × Device) (told told_again : Told) (text : List ℕ) (recorded : IsRecorded controls waits devices told text true) (entries : List RecordEntry) (poller : Replay) (made end : LoopState Device Replay)
         → RecordedLoopLaw → AreFunctions device_begins device_serves no_job → entries ≡ recorded.after.poller.entries → poller ≡ start_of entries → made ≡ new_loop no_descriptor poller 256
         → IsRun replay_controls replay_waits made devices told_again end → end.poller.diverged ≡ false → told_again ≡ told
     replay_tells devices told told_again text recorded entries poller made end law functions same is_new is_made again agreed =

@@ -2,7 +2,7 @@
 
 ghost use Rattle.std.specs.Prelude.{◌≡◌, true, IfOk, string_bytes};
 ghost use Rattle.event_manager.specs.EventLoop.{seen_of};
-ghost use Rattle.recorder.specs.Recorded.{IsRecorded, TellsTheSame};
+ghost use Rattle.recorder.specs.Recorded.{IsRecorded, RanOver, TellsTheSame};
 ghost use Rattle.recorder.specs.declared.run.Told.{Told};
 
 use crate::device::{Device, devices_are_functions};
@@ -47,8 +47,8 @@ pub fn record<P: Poller + Drop, G: Guest>(
     guest: &G,
     alloc: Global,
 ) -> Result<Recorded>
-    ensures { IfOk result (λ recorded. recorded.is_complete ≡ true →
-        IsRecorded ⟦<RecordingPoller<P> as EventPoller>⟧.controls ⟦<RecordingPoller<P> as EventPoller>⟧.waits devices.now recorded.told (string_bytes recorded.text)) }
+    ensures { IfOk result (λ recorded.
+        IsRecorded ⟦<RecordingPoller<P> as EventPoller>⟧.controls ⟦<RecordingPoller<P> as EventPoller>⟧.waits devices.now recorded.told (string_bytes recorded.text) recorded.is_complete) }
 {
     let poller = RecordingPoller::new(epoll, alloc, MOST_ENTRIES)?;
     let mut event_loop = EventLoop::new(alloc, poller)?;
@@ -65,10 +65,12 @@ pub fn record<P: Poller + Drop, G: Guest>(
 }
 
 /// Runs devices over the record of this text, without a guest. Where a run of the same devices over a poller of type `P` was
-/// recorded so, it tells what that run told, or leaves the record, or memory is refused.
+/// recorded so, it tells what that run told, or leaves the record, or memory is refused. Whatever the text, what is made is a run
+/// over its record, to the end or not.
 pub fn replay<P: Poller>(text: &str, devices: &(Device, Device), alloc: Global) -> Result<Replayed>
-    ensures { (told : Told) → IsRecorded ⟦<RecordingPoller<P> as EventPoller>⟧.controls ⟦<RecordingPoller<P> as EventPoller>⟧.waits devices.now told text.now →
+    ensures tells { (told : Told) → IsRecorded ⟦<RecordingPoller<P> as EventPoller>⟧.controls ⟦<RecordingPoller<P> as EventPoller>⟧.waits devices.now told text.now true →
         IfOk result (λ replayed. TellsTheSame told replayed) }
+    ensures runs { IfOk result (λ replayed. RanOver ⟦<ReplayPoller as EventPoller>⟧.controls ⟦<ReplayPoller as EventPoller>⟧.waits devices.now text.now replayed) }
 {
     devices_are_functions();
     a_recorded_loop_is_made_again::<Device, P>();
@@ -93,7 +95,10 @@ pub fn run_twice<P: Poller + Drop, G: Guest>(
     guest: &G,
     alloc: Global,
 ) -> Result<(Recorded, Replayed)>
-    ensures { IfOk result (λ both. both.0.is_complete ≡ true → TellsTheSame both.0.told both.1) }
+    ensures recorded { IfOk result (λ both.
+        IsRecorded ⟦<RecordingPoller<P> as EventPoller>⟧.controls ⟦<RecordingPoller<P> as EventPoller>⟧.waits devices.now both.0.told (string_bytes both.0.text) both.0.is_complete) }
+    ensures replayed { IfOk result (λ both. RanOver ⟦<ReplayPoller as EventPoller>⟧.controls ⟦<ReplayPoller as EventPoller>⟧.waits devices.now (string_bytes both.0.text) both.1) }
+    ensures same { IfOk result (λ both. both.0.is_complete ≡ true → TellsTheSame both.0.told both.1) }
 {
     let recorded = record(epoll, devices, guest, alloc)?;
     let replayed = replay::<P>(&recorded.text, devices, alloc)?;

@@ -44,8 +44,8 @@ enum Kind<'a> {
     Wakes(&'a OwnCounter),
     /// The loop ends while a caller waits.
     Closes,
-    /// The loop's own thread sends until its counter is full; there is no sender.
-    Fills,
+    /// The loop's own thread sends until this counter is full; there is no sender.
+    Fills(&'a OwnCounter),
 }
 
 /// What the two threads share.
@@ -160,12 +160,13 @@ fn crowd<N: NamedCounter, P: EventPoller, R: Looping>(
     Ok(())
 }
 
-/// Sends until the counter is full, and once more behind a run.
+/// Sends until the counter is full, and once more behind a run, which clears it once.
 fn fill<N: NamedCounter, P: EventPoller, R: Looping>(
     rt: &R,
     manager: &mut Loop<N, P>,
     endpoint: &Endpoint<N>,
     notes: &Notes,
+    counter: &OwnCounter,
 ) {
     for number in 1..=HIGHEST {
         expect_same(rt, &fire_note(rt, endpoint, notes, number), &Ok(number));
@@ -173,7 +174,9 @@ fn fill<N: NamedCounter, P: EventPoller, R: Looping>(
     let full = Error::EventFd(Errno::EAGAIN);
     expect_same(rt, &fire_note(rt, endpoint, notes, 9), &Err(full));
     expect_same(rt, &endpoint.kick(rt), &Err(full));
+    expect_same(rt, &counter.clears(rt), &0);
     expect_same(rt, &manager.run(rt), &Ok(1));
+    expect_same(rt, &counter.clears(rt), &1);
     expect_noted(rt, notes, &[1, 2, 3]);
     expect_same(rt, &fire_note(rt, endpoint, notes, 4), &Ok(4));
 }
@@ -194,7 +197,7 @@ impl<R: Looping> Sender<Idle, Work, Answers, R> for Meeting<'_> {
                 return [Some(endpoint.call_blocking(Work::Own(7), rt)), None];
             }
             Kind::Closes => return [Some(endpoint.call_blocking(Work::Own(7), rt)), None],
-            Kind::Fills => {}
+            Kind::Fills(_) => {}
         }
         NONE
     }
@@ -237,8 +240,8 @@ impl<'a, R: Looping> LoopWithSenders<Idle, Work, Meeting<'a>, R> for Meeting<'a>
                 expect_ok(rt, endpoint.fire(Work::Own(0), rt));
             }
             Kind::Crowded(ready) => crowd(rt, manager, ready)?,
-            Kind::Fills => {
-                fill(rt, manager, &endpoint, &self.shared.notes);
+            Kind::Fills(counter) => {
+                fill(rt, manager, &endpoint, &self.shared.notes, counter);
                 return Ok(Vec::new(alloc));
             }
             _ => {}
@@ -280,7 +283,7 @@ impl<'a, R: Looping> LoopWithSenders<Idle, Work, Meeting<'a>, R> for Meeting<'a>
             Kind::Late | Kind::Crowded(_) => {
                 expect_same(rt, &wait_until_ended(rt, senders), &true);
             }
-            Kind::Wakes(_) | Kind::Fills => {}
+            Kind::Wakes(_) | Kind::Fills(_) => {}
         }
         senders.run_until_ended(manager, rt)
     }
@@ -467,5 +470,7 @@ fn a_close_answers_a_caller_over_a_counter_of_ones_own(rt: HostRuntime) {
 #[test]
 fn a_full_counter_of_ones_own_refuses_a_send(rt: HostRuntime) {
     let parts = expect_ok(&rt, own_parts(rt, rt.alloc()));
-    expect_on_own(&rt, parts, Kind::Fills, &[], (4, 4), &[1, 2, 3, 4]);
+    let watched = expect_ok(&rt, parts.counter.try_clone());
+    let kind = Kind::Fills(&watched);
+    expect_on_own(&rt, parts, kind, &[], (4, 4), &[1, 2, 3, 4]);
 }

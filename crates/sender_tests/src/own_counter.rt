@@ -38,11 +38,12 @@ impl Drop for Shared {
     }
 }
 
-/// The counter's value, and how many waits sleep.
+/// The counter's value, how many waits sleep, and how often it was cleared.
 #[derive(Drop)]
 struct State {
     value: u64,
     sleeping: u32,
+    clears: u64,
 }
 
 /// The counter.
@@ -61,6 +62,11 @@ impl OwnCounter {
             thread::sleep(rt, Duration::from_millis(1));
         }
         false
+    }
+
+    /// How often it was cleared.
+    pub fn clears<R: Wait>(&self, rt: &R) -> u64 {
+        self.shared.state.lock(rt).clears
     }
 
     /// Another handle on it.
@@ -102,6 +108,7 @@ impl Counter for OwnCounter {
         let mut state = self.shared.state.lock(rt);
         let value = state.value;
         state.value = 0;
+        state.clears = state.clears.saturating_add(1);
         Ok(value)
     }
 }
@@ -162,6 +169,7 @@ pub fn own_parts<R: Wait + Clock + Drop>(
     let state = State {
         value: 0,
         sleeping: 0,
+        clears: 0,
     };
     let shared = Shared {
         state: Mutex::new(state),

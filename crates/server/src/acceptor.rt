@@ -1,6 +1,7 @@
 //! The acceptor, and what it can be asked.
 
 ghost use Rattle.std.specs.Prelude.{◌≡◌};
+ghost use Rattle.event_manager.specs.CounterEvents.{next_count};
 ghost use Rattle.server.specs.Peers.{statistics_of as said_by};
 
 use crate::connection::Connection;
@@ -27,7 +28,7 @@ pub struct Statistics {
     pub bytes: u64,
 }
 
-/// Accepts a connection at each event of its listener, and sends it to the loop, which lets it join.
+/// Accepts a connection at each event of its listener, and sends it to the loop, which lets it join and has it counted.
 #[derive(Drop)]
 pub struct Acceptor<R> {
     listener: EventFd,
@@ -60,6 +61,13 @@ impl<R: Drop> Acceptor<R> {
         }
     }
 
+    /// Counts one that joined.
+    pub fn count_joined(&mut self)
+        ensures { self.new ≡ record self.old { statistics = record self.old.statistics { joined = next_count self.old.statistics.joined } } }
+    {
+        self.statistics.joined = self.statistics.joined.saturating_add(1);
+    }
+
     /// Counts one that left.
     pub fn count_left(&mut self, connection: &Connection<R>) {
         let Statistics { left, bytes, .. } = &mut self.statistics;
@@ -69,8 +77,7 @@ impl<R: Drop> Acceptor<R> {
 }
 
 impl<R: Wait + Clock + Drop> MutEventSubscriber for Acceptor<R> {
-    ghost use Rattle.std.specs.Prelude.{◌≡◌, ◌⊎◌, Option, option_to_list, [], ◌∷◌, ◌++◌};
-    ghost use Rattle.event_manager.specs.CounterEvents.{next_count};
+    ghost use Rattle.std.specs.Prelude.{◌≡◌, Option, option_to_list, [], ◌∷◌, ◌++◌};
     ghost use Rattle.event_manager.specs.Exchange.{AsksNothing};
     ghost use Rattle.server.specs.declared.connection.Connection.{Connection};
     ghost use Rattle.event_manager.specs.Request.TheVariants.{Add};
@@ -78,16 +85,15 @@ impl<R: Wait + Clock + Drop> MutEventSubscriber for Acceptor<R> {
     // It asks to add its listener, and keeps the answer.
     ghost begins = { λ v exchanges w. (exchanges ≡ (Add v.knocks, w.asked) ∷ []) × (w ≡ record v { asked = w.asked }) };
 
-    // It asks for nothing, and accepts who comes next, if anybody; that one is counted, where the loop is sent it.
-    ghost serves = { λ v event exchanges w. AsksNothing exchanges × (w ≡ record v { coming = w.coming; statistics = w.statistics })
-        × ((next : Option (Connection R)) × (v.coming.items ≡ w.coming.items ++ option_to_list next))
-        × ((w.statistics ≡ v.statistics) ⊎ (w.statistics ≡ record v.statistics { joined = next_count v.statistics.joined })) };
+    // It asks for nothing, and accepts who comes next, if anybody; nobody is counted before the loop lets them join.
+    ghost serves = { λ v event exchanges w. AsksNothing exchanges × (w ≡ record v { coming = w.coming })
+        × ((next : Option (Connection R)) × (v.coming.items ≡ w.coming.items ++ option_to_list next)) };
 
     fn process<P: EventPoller>(&mut self, _events: Events, _ops: &mut EventOps<P>) {
         let _ = self.listener.read(&self.rt);
         if let Some(connection) = self.coming.pop() {
-            let sent = self.accepted.send(connection, &self.rt).is_ok();
-            self.statistics.joined = self.statistics.joined.saturating_add(u64::from(sent));
+            // One whom the channel refuses is dropped.
+            let _ = self.accepted.send(connection, &self.rt);
         }
     }
 

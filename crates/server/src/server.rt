@@ -73,14 +73,18 @@ impl<'a, C: Wait + Clock + Copy + Send + Drop> Server<'a, C> {
 /// The loop of peers, its jobs and its poller.
 type Loop<N, C, P> = EventManager<Peer<C>, Look, N, P>;
 
-/// Those who were accepted join.
+/// Those who were accepted join, and are counted.
 fn let_join<N: NamedCounter, C: Wait + Clock + Drop, P: EventPoller>(
     manager: &mut Loop<N, C, P>,
+    acceptor: SubscriberId,
     accepted: Vec<Connection<C>>,
     members: &mut Vec<SubscriberId>,
 ) -> Result<()> {
     for connection in accepted {
         members.push(manager.add_subscriber(Either::Second(connection))?)?;
+        if let Either::First(acceptor) = manager.subscriber_mut(acceptor)? {
+            acceptor.count_joined();
+        }
     }
     Ok(())
 }
@@ -152,7 +156,7 @@ impl<'a, C: Wait + Clock + Copy + Drop, R: Wait + Clock + Print> LoopWithSenders
             manager.run(rt)?;
             let mut accepted = Vec::new(*self.members.allocator());
             self.accepted.take(&mut accepted, rt)?;
-            let_join(manager, accepted, &mut self.members)?;
+            let_join(manager, acceptor, accepted, &mut self.members)?;
             for member in &self.members {
                 let_leave(manager, acceptor, *member)?;
             }

@@ -37,8 +37,6 @@ mod of_script;
 mod picture;
 mod shown;
 mod svg;
-#[cfg(test)]
-mod tests;
 
 use anyhow::{Result, bail};
 use picture::Picture;

@@ -28,7 +28,7 @@ const NARROWEST: u64 = 48;
 const CHARACTER: u64 = 7;
 
 /// What a lane is of.
-#[derive(Clone, Copy, PartialEq, Eq, PartialOrd, Ord, Debug)]
+#[derive(Clone, Copy, PartialEq, Eq, PartialOrd, Ord)]
 pub enum Lane {
     /// The joins and leaves of subscribers.
     Subscribers,
@@ -37,7 +37,7 @@ pub enum Lane {
 }
 
 /// What a step is.
-#[derive(Clone, Copy, PartialEq, Eq, Debug)]
+#[derive(Clone, Copy, PartialEq, Eq)]
 pub enum Form {
     /// A wait of the poller.
     Wait,
@@ -48,7 +48,7 @@ pub enum Form {
 }
 
 /// How a step is coloured.
-#[derive(Clone, Copy, PartialEq, Eq, Debug)]
+#[derive(Clone, Copy)]
 pub enum Tone {
     /// As nothing in particular.
     Plain,
@@ -78,7 +78,7 @@ pub struct Placed {
 }
 
 /// A slot: its row, and how far from the left it begins there.
-#[derive(Clone, Copy, PartialEq, Eq, Debug)]
+#[derive(Clone, Copy)]
 pub struct Slot {
     pub row: usize,
     pub left: u64,
@@ -87,7 +87,7 @@ pub struct Slot {
 
 /// A row: its lanes, the placed steps that stand in it, the wait of the row above that goes on in it, how wide it is, and how
 /// far from the top it begins.
-#[derive(PartialEq, Debug, Drop)]
+#[derive(Drop)]
 pub struct Row {
     pub lanes: Vec<Lane>,
     pub first: usize,
@@ -98,7 +98,7 @@ pub struct Row {
 }
 
 /// Where a replay left the run: the row, and how far from its left.
-#[derive(Clone, Copy, PartialEq, Eq, Debug)]
+#[derive(Clone, Copy)]
 pub struct Parting {
     pub row: usize,
     pub left: u64,

@@ -49,6 +49,17 @@ fn a_join_behind_the_last_id_is_refused_before_init(rt: HostRuntime) {
     expect_same(&rt, &begun.load(Ordering::SeqCst), &0);
 }
 
+#[test]
+fn a_join_gets_the_last_id_and_the_next_is_refused(rt: HostRuntime) {
+    let begun = AtomicU64::new(0);
+    let mut event_loop = loop_from(&rt, rt.alloc(), u64::MAX - 1);
+    let id = expect_ok(&rt, event_loop.add_subscriber(Beginning { begun: &begun }));
+    expect_same(&rt, &id.number(), &18446744073709551614);
+    let refused = event_loop.add_subscriber(Beginning { begun: &begun });
+    expect_same(&rt, &refused.err(), &Some(Error::IdsUsedUp));
+    expect_same(&rt, &begun.load(Ordering::SeqCst), &1);
+}
+
 /// Puts a value in under the next id, and answers its place.
 fn insert_next(places: &mut SubscriberPlaces<u64>, value: u64) -> Result<usize, AllocError> {
     if places.next_id() == u64::MAX {

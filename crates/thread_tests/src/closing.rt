@@ -1,7 +1,7 @@
 //! A call beside a close: it is answered, whichever comes first.
 
 use crate::fixture::{Endpoint, Progress, Task, spin};
-use crate::host::{Host, Looping, Rounds, expect_ok, expect_same};
+use crate::host::{Host, Looping, expect_ok, expect_same, look_on};
 use event_manager::{
     Error, EventManager, EventPoller, LoopWithSenders, NamedCounter, Result, Sender, Senders,
     with_senders,
@@ -11,6 +11,7 @@ use std::alloc::Global;
 use std::sync::Arc;
 use std::sync::atomic::{AtomicBool, Ordering};
 use std::thread;
+use test_rounds::Rounds;
 
 const ROUNDS: u64 = 10_000;
 
@@ -103,7 +104,7 @@ fn a_call_beside_a_close_is_answered(rt: HostRuntime) {
     let alloc = rt.alloc();
     thread::join(
         &rt,
-        || rounds.look_on(&rt),
+        || look_on(&rt, &rounds),
         || {
             for round in 0..ROUNDS {
                 if rounds.has_time() {

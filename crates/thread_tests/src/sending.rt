@@ -1,7 +1,7 @@
 //! One sender, and a loop that waits without a limit: no wake-up between the two is lost.
 
 use crate::fixture::{Endpoint, Progress, Task};
-use crate::host::{Host, Looping, Rounds, expect_ok, expect_same};
+use crate::host::{Host, Looping, expect_ok, expect_same, look_on};
 use event_manager::{
     EventManager, EventPoller, LoopWithSenders, NamedCounter, Result, Sender, Senders, with_senders,
 };
@@ -11,6 +11,7 @@ use std::sync::atomic::Ordering;
 use std::sync::{Arc, Wait};
 use std::thread;
 use std::time::Clock;
+use test_rounds::Rounds;
 use vmm_sys::epoll::{Epoll, EpollEvent, EventSet};
 use vmm_sys::poller::Poller;
 
@@ -202,7 +203,7 @@ fn no_wake_up_of_the_loop_is_lost(rt: HostRuntime) {
     let alloc = rt.alloc();
     thread::join(
         &rt,
-        || rounds.look_on(&rt),
+        || look_on(&rt, &rounds),
         || send_beside_wait(&rt, alloc, &rounds),
     );
 }

@@ -1,6 +1,6 @@
 //! What another thread sees while a job, a reply or a subscriber is dropped.
 
-use crate::host::{Host, Looping, Rounds, expect_ok, expect_same};
+use crate::host::{Host, Looping, expect_ok, expect_same};
 use crate::watched::{Drops, Guest, Reporter, Task, Watched};
 use event_manager::{
     Error, EventManager, EventPoller, LoopWithSenders, NamedCounter, RemoteEndpoint, Result,
@@ -12,6 +12,7 @@ use std::alloc::Global;
 use std::sync::{Arc, Mutex, Wait};
 use std::thread;
 use std::time::Clock;
+use test_rounds::Rounds;
 use vmm_sys::errno::Errno;
 
 /// A value that one ring more makes the largest of an `EventFd`.
@@ -213,7 +214,7 @@ fn expect_each_seen<R: Host>(rt: &R, alloc: Global, acts: &[Act]) {
     let rounds = Rounds::new();
     thread::join(
         rt,
-        || rounds.look_on(rt),
+        || expect_same(rt, &rounds.look_on(rt), &true),
         || {
             for act in acts {
                 expect_seen(rt, alloc, *act);

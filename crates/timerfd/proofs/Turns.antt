@@ -33,7 +33,7 @@ one_asks_below may_wait a b c ms next_ms room next_room answer next_answer entri
       | inl first ↦ inl (t, at, inl (others may_wait ms answer entries b some t at first (t, at, h)))
       | inr first ↦ elim (timers may_wait ms answer entries b some t at first (t, at, h)) [
         | inr asked ↦ inl (t, at, inr asked)
-        | inl (s, reports, full, answered, left) ↦
+        | inl (s, reports, full, answered, left, reached) ↦
             let u : Timed Gv = record t { others_first = true } in
             inr (u, left, inl (others may_wait next_ms next_answer next_entries c next_some u left refl second))
       ]
@@ -44,7 +44,7 @@ timers_come_first may_wait a b c ms next_ms room next_room answer next_answer en
     elim (cases_Bool t.others_first) [
       | inr first ↦ inl (t, at, timers may_wait ms answer entries b some t at first (t, at, h))
       | inl first ↦
-          let (s, later, known, limit, limits, inner, others_are, poller, below, reports, counts, left) = others may_wait ms answer entries b some t at first (t, at, h) in
+          let (s, later, known, limit, limits, inner, others_are, poller, below, reports, counts, left, reached, later_reached) = others may_wait ms answer entries b some t at first (t, at, h) in
           let u : Timed Gv = record { poller = poller; counter = t.counter; others_first = false } in
           inr (u, left, timers may_wait next_ms next_answer next_entries c next_some u left refl second)
     ]

@@ -10,7 +10,7 @@ use Rattle.vmm_sys.specs.declared.errno.Errno.{Errno}
 use Rattle.vmm_sys.specs.declared.errno.TheConstants.Errno.{EINVAL}
 use Rattle.vmm_sys.specs.Poller.{reported, WaitRelation}
 use Rattle.vmm_sys.specs.Table.{wait_of, filled, chosen, entry_of, is_ready}
-use Rattle.timerfd.specs.TimerTable.{TimerTableState, table_of}
+use Rattle.timerfd.specs.TimerTable.{TimerTableState, table_of, AreReached}
 use Rattle.timerfd.specs.Limits.{IsLimit}
 use Rattle.timerfd.specs.TimedPoller.{Timed, with_poller, timed_code, report_of, counted_by, unless_refused, FromBelow, FromTimers, TimersFirst, OthersFirst, MayWait}
 use Rattle.timerfd.proofs.BesideTimers.{seen}
@@ -73,7 +73,7 @@ module _ {P : Type 0} (meaning : P → Gv) {r before left : Timed P} (is : r ≡
       let at : ℤ → Bool → Gv = λ counter b. timed_code.code (record { poller = meaning left.poller; counter = counter; others_first = b }) in
       ap (λ (s : Timed P). timed_code.code (with_poller s (meaning left.poller))) others ∙ ap (at r.counter) turn ∙ ap (λ (t : Timed P). at t.counter false) is
 
-  module _ (may_wait : WaitRelation) {z ms : ℤ} (same : z ≡ ms) (s : TimerTableState) (known : Bool) {limit limit' : ℤ} {m : ℕ} (limits : IsLimit s known z limit) (at_limit : limit' ≡ limit) (answer : Result ℕ Errno) (new : List EpollEvent)
+  module _ (may_wait : WaitRelation) {z ms : ℤ} (same : z ≡ ms) (s : TimerTableState) (reached : AreReached s) (known : Bool) {limit limit' : ℤ} {m : ℕ} (limits : IsLimit s known z limit) (at_limit : limit' ≡ limit) (answer : Result ℕ Errno) (new : List EpollEvent)
       (below : FromBelow may_wait (meaning r.poller) limit' m answer (reported answer new) (meaning left.poller)) where
     limits_ms : IsLimit s known ms limit
     limits_ms = subst (λ n. IsLimit s known n limit) same limits
@@ -96,15 +96,15 @@ module _ {P : Type 0} (meaning : P → Gv) {r before left : Timed P} (is : r ≡
         let other : k ≢ length mid = eqb-false k (length mid) not_full in
         let some : length (report_of s (length b)) < length b = omega (arith, size, room, fits, other) in
         let behind : m ≡ length b - length (report_of s (length b)) = omega (arith, at_room, room, size) in
-        (s, known, limit, limits_ms, some, answer, reported answer new, meaning left.poller, asked _ behind, reports, subst (λ es. result ≡ counted_by es answer) (sym reports) counts, after_below)
+        (s, known, limit, limits_ms, some, answer, reported answer new, meaning left.poller, asked _ behind, reports, subst (λ es. result ≡ counted_by es answer) (sym reports) counts, after_below, reached)
 
     -- where the poller below came first
-    pub others_first : (room : ℕ) → m ≡ room → (later : TimerTableState) (result : Result ℕ Errno) (entries : List EpollEvent)
+    pub others_first : (room : ℕ) → m ≡ room → (later : TimerTableState) → AreReached later → (result : Result ℕ Errno) (entries : List EpollEvent)
         → entries ≡ unless_refused answer (reported answer new ++ report_of later (room - length (reported answer new)))
         → result ≡ counted_by (unless_refused answer (reported answer new ++ report_of later (room - length (reported answer new)))) answer
         → OthersFirst may_wait (with_poller before (meaning before.poller)) ms room result entries (seen meaning left)
-    others_first room at_room later result entries reports counts =
-        (s, later, known, limit, limits_ms, answer, reported answer new, meaning left.poller, asked room at_room, reports, subst (λ es. result ≡ counted_by es answer) (sym reports) counts, after_below)
+    others_first room at_room later later_reached result entries reports counts =
+        (s, later, known, limit, limits_ms, answer, reported answer new, meaning left.poller, asked room at_room, reports, subst (λ es. result ≡ counted_by es answer) (sym reports) counts, after_below, reached, later_reached)
 
 -- the one of two that a test says
 pub by_test : (b c : Bool) → b ≡ c → (A B : Type 0) → MatchBool c A B → MatchBool b A B

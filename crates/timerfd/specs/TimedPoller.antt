@@ -1,5 +1,5 @@
 -- A poller with timers beside it: its state, and its two relations.
-use Rattle.std.specs.Prelude.{ℕ, ℤ, pos, negsuc, ◌-◌, ◌≡◌, ◌<◌, ◌⊎◌, ◌==◌, ◌||◌, ◌&&◌, Bool, true, false, not, nat_lt, if◌then◌else◌, List, [], ◌++◌, length, filter, Result, Ok, Err, Option, Some, None, MatchBool, refl}
+use Rattle.std.specs.Prelude.{ℕ, ℤ, pos, negsuc, ◌-◌, ◌≡◌, ◌<◌, ◌⊎◌, ◌==◌, ◌||◌, ◌&&◌, Bool, true, false, not, nat_lt, if◌then◌else◌, List, [], ◌++◌, length, filter, Result, Ok, Err, Option, Some, None, IfSome, MatchBool, refl}
 use Rattle.std.specs.Ordering.{int_eq}
 use Rattle.std.specs.Coded.{Coded, code_by, coded_ℤ, coded_bool, coded×}
 use base.Stored.{Gv}
@@ -13,7 +13,8 @@ use Rattle.vmm_sys.specs.EventSet.{with_bits}
 use Rattle.vmm_sys.specs.EpollEvent.{event, word_of}
 use Rattle.vmm_sys.specs.Poller.{CtlRelation, WaitRelation}
 use Rattle.vmm_sys.specs.Table.{ctl_of, wait_of, filled, reported_entries}
-use Rattle.timerfd.specs.TimerTable.{TimerTableState, table_of, Changes}
+use Rattle.timerfd.specs.TimerTable.{TimerTableState, table_of, with_told, AreReached, Changes}
+use Rattle.timerfd.specs.Timers.{told}
 use Rattle.timerfd.specs.Limits.{IsLimit}
 
 -- the poller below, the descriptor of the timers' own counter, and whether the poller below comes first in the next wait
@@ -64,11 +65,14 @@ is_refused counter Delete fd e = int_eq fd counter
 is_refused counter Add fd e = int_eq fd counter || is_alarm e
 is_refused counter Modify fd e = int_eq fd counter || is_alarm e
 
--- what some timers answer to a change: nothing where none has this descriptor
+-- what these timers answer to a change, and are then: nothing where none has this descriptor
+abbrev pub ChangesTimer : ControlOperation → ℤ → EpollEvent → TimerTableState → Option (Result (Unit {0}) Errno) → TimerTableState → Type 0
+ChangesTimer op fd e s None u = (timer_of fd (length s.told.timers) ≡ None) × (u ≡ s)
+ChangesTimer op fd e s (Some answer) u = (index : ℕ) × (timer_of fd (length s.told.timers) ≡ Some index) × Changes (ctl_of (table_of s) op (pos index) e) s answer u
+
+-- some timers, to which calls lead, answer so
 abbrev pub AnswersOfTimer : ControlOperation → ℤ → EpollEvent → Option (Result (Unit {0}) Errno) → Type 0
-AnswersOfTimer op fd e None = (s : TimerTableState) × (timer_of fd (length s.told.timers) ≡ None)
-AnswersOfTimer op fd e (Some answer) =
-    (s u : TimerTableState) × (index : ℕ) × (timer_of fd (length s.told.timers) ≡ Some index) × Changes (ctl_of (table_of s) op (pos index) e) s answer u
+AnswersOfTimer op fd e answer = (s u : TimerTableState) × ChangesTimer op fd e s answer u × IfSome answer (λ _. AreReached s)
 
 -- a change is that of a timer or of the poller below, by the descriptor
 abbrev pub MayCtl : CtlRelation → CtlRelation
@@ -85,15 +89,20 @@ MayCtl may_ctl before op fd e answer after =
 abbrev pub report_of : TimerTableState → ℕ → List EpollEvent
 report_of s room = reported_entries (wait_of (table_of s) room)
 
--- some timers have reported in front of the buffer
+-- some timers, to which calls lead, have reported in front of the buffer
 abbrev pub Reports : List EpollEvent → ℕ → List EpollEvent → Type 0
-Reports before count after = (s : TimerTableState) × (count ≡ length (report_of s (length before))) × (after ≡ filled (wait_of (table_of s) (length before)) before)
+Reports before count after = (s : TimerTableState) × (count ≡ length (report_of s (length before))) × (after ≡ filled (wait_of (table_of s) (length before)) before) × AreReached s
 
--- a wait with this limit has begun: some timers have reported in front of the buffer, and limit it
+-- told what is known of the time
+abbrev pub told_of : Option ℕ → TimerTableState → TimerTableState
+told_of None s = s
+told_of (Some now) s = with_told s (told now s.told)
+
+-- a wait with this limit has begun: some timers, to which calls lead, have reported in front of the buffer, and limit it
 abbrev pub Begins : ℤ → List EpollEvent → ℕ → ℤ → List EpollEvent → Type 0
 Begins ms before front limit after =
     (s : TimerTableState) × (is_known : Bool) × IsLimit s is_known ms limit
-    × (front ≡ length (report_of s (length before))) × (after ≡ filled (wait_of (table_of s) (length before)) before)
+    × (front ≡ length (report_of s (length before))) × (after ≡ filled (wait_of (table_of s) (length before)) before) × AreReached s
 
 -- the number of these entries in place of that of the poller below
 abbrev pub counted_by : List EpollEvent → Result ℕ Errno → Result ℕ Errno
@@ -115,7 +124,7 @@ FromBelow may_wait before limit room answer entries after =
 abbrev pub FromTimers : Timed Gv → ℕ → Result ℕ Errno → List EpollEvent → Gv → Type 0
 FromTimers t room answer entries after =
     (s : TimerTableState) × (entries ≡ report_of s room) × (length entries ≡ room) × (answer ≡ Ok room)
-    × (after ≡ timed_code.code (record t { others_first = true }))
+    × (after ≡ timed_code.code (record t { others_first = true })) × AreReached s
 
 -- timers come first, and the poller below has the room that is left; its error is the answer
 abbrev pub TimersFirst : WaitRelation → Timed Gv → ℤ → ℕ → Result ℕ Errno → List EpollEvent → Gv → Type 0
@@ -124,7 +133,7 @@ TimersFirst may_wait t ms room answer entries after =
     × (inner : Result ℕ Errno) × (others : List EpollEvent) × (poller : Gv)
     × FromBelow may_wait t.poller limit (room - length (report_of s room)) inner others poller
     × (entries ≡ unless_refused inner (report_of s room ++ others)) × (answer ≡ counted_by entries inner)
-    × (after ≡ timed_code.code (record { poller = poller; counter = t.counter; others_first = false }))
+    × (after ≡ timed_code.code (record { poller = poller; counter = t.counter; others_first = false })) × AreReached s
 
 -- the poller below comes first, and timers have the room that is left; its error is the answer
 abbrev pub OthersFirst : WaitRelation → Timed Gv → ℤ → ℕ → Result ℕ Errno → List EpollEvent → Gv → Type 0
@@ -132,7 +141,7 @@ OthersFirst may_wait t ms room answer entries after =
     (s later : TimerTableState) × (is_known : Bool) × (limit : ℤ) × IsLimit s is_known ms limit
     × (inner : Result ℕ Errno) × (others : List EpollEvent) × (poller : Gv) × FromBelow may_wait t.poller limit room inner others poller
     × (entries ≡ unless_refused inner (others ++ report_of later (room - length others))) × (answer ≡ counted_by entries inner)
-    × (after ≡ timed_code.code (record { poller = poller; counter = t.counter; others_first = false }))
+    × (after ≡ timed_code.code (record { poller = poller; counter = t.counter; others_first = false })) × AreReached s × AreReached later
 
 -- a wait without room is refused; else it is one of the three
 abbrev pub MayWait : WaitRelation → WaitRelation

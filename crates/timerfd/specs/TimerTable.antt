@@ -8,7 +8,7 @@ use Rattle.vmm_sys.specs.declared.table.Source.{Source}
 use Rattle.vmm_sys.specs.declared.table.Source.TheVariants.{Line}
 use Rattle.vmm_sys.specs.declared.table.interests.Interest.{Interest}
 use Rattle.vmm_sys.specs.EventSet.{with_bits}
-use Rattle.vmm_sys.specs.Table.{TableState, moved_back}
+use Rattle.vmm_sys.specs.Table.{TableState, IsReachable, moved_back}
 use Rattle.timerfd.specs.declared.timer.Timer.{Timer}
 use Rattle.timerfd.specs.Timers.{TimersAt}
 
@@ -32,6 +32,10 @@ line_of t = line (not (t.expirations == 0))
 -- the timers as descriptors of a table, numbered by their indices
 abbrev pub table_of : TimerTableState → TableState
 table_of s = record { sources = map line_of s.told.timers; interests = s.interests; limit = 2147483648 }
+
+-- calls lead to these timers: to the table of their lines, of which there are 2147483648 at most
+abbrev pub AreReached : TimerTableState → Type 0
+AreReached s = IsReachable (table_of s) × (length s.told.timers ≤ 2 ^ 31)
 
 -- this table has the timers as its lines
 abbrev pub IsTableOf : TimersAt → TableState → Type 0

@@ -50,8 +50,8 @@ pub fn without_an_interval_it_expires_once()
         expired now t ≡ record t { due = None; expirations = t.expirations + 1 } }
 {}
 
-/// Whatever the poller below, neither it nor the timers starve each other: of two waits that follow each other, each with some room,
-/// one asks the poller below at least, and in one at least timers come first.
+/// Whatever the poller below, of two waits that follow each other, each with some room, one asks the poller below at least, and in
+/// one at least what timers report comes first: some timers to which calls lead, for those of a poller lie under a lock.
 pub fn timers_and_others_take_turns<P: Poller>()
     ensures others { OneOfTwoIs AsksBelow P.may_wait }
     ensures timers { OneOfTwoIs LetsTimersComeFirst P.may_wait }

@@ -1,9 +1,11 @@
 //! Timers that a poller and descriptors share: each call is one step under their lock, and nothing of a caller's runs under it.
 
-ghost use Rattle.std.specs.Prelude.{◌≡◌, IfOk, IfErr};
+ghost use Rattle.std.specs.Prelude.{◌≡◌, IfOk, IfErr, IfSome, length, is_some};
 ghost use Rattle.std.specs.Arc.{arc_value};
+ghost use Rattle.vmm_sys.specs.Table.{wait_of, filled};
 ghost use Rattle.timerfd.specs.Limits.{ms_until, lesser, IsLimit};
-ghost use Rattle.timerfd.specs.TimedPoller.{timer_of, Reports, Begins, AnswersOfTimer};
+ghost use Rattle.timerfd.specs.TimerTable.{table_of, reported_by, AreReached};
+ghost use Rattle.timerfd.specs.TimedPoller.{timer_of, told_of, report_of, Reports, Begins, ChangesTimer, AnswersOfTimer};
 
 use crate::clock;
 use crate::timer_table::TimerTable;
@@ -31,7 +33,11 @@ pub(crate) struct Begun {
 impl State {
     // What is known of the time is told, and the entries of timers that are ready then are written in front of the buffer.
     fn begin_wait(&mut self, now: Option<u64>, ms: i32, buffer: &mut [EpollEvent]) -> Begun
-        ensures { Begins ms buffer.old result.front result.limit buffer.new }
+        ensures limit { IsLimit (told_of now self.old.timers) (is_some now) ms result.limit }
+        ensures front { result.front ≡ length (report_of (told_of now self.old.timers) (length buffer.old)) }
+        ensures entries { buffer.new ≡ filled (wait_of (table_of (told_of now self.old.timers)) (length buffer.old)) buffer.old }
+        ensures moved { self.new.timers ≡ reported_by (told_of now self.old.timers) (length buffer.old) }
+        ensures reached { AreReached (told_of now self.old.timers) }
     {
         if let Some(now) = now {
             self.timers.set_time(now);
@@ -54,6 +60,20 @@ impl State {
             Some(due) if is_known => lesser(ms, ms_until(self.timers.time(), due)),
             _ => ms,
         }
+    }
+
+    // Changes the interest in the timer with this descriptor; `None` where no timer has it.
+    fn ctl(
+        &mut self,
+        op: ControlOperation,
+        fd: RawFd,
+        event: EpollEvent,
+    ) -> Option<Result<(), Errno>>
+        ensures changed { ChangesTimer op fd event self.old.timers result self.new.timers }
+        ensures reached { IfSome result (λ _. AreReached self.old.timers) }
+    {
+        let index = timer_of(fd, self.timers.len())?;
+        Some(self.timers.ctl(op, index, event))
     }
 
     // Arms the timer; the answer is whether a wait sleeps past when it is due, and is to be told.
@@ -167,9 +187,7 @@ impl<C> Shared<C> {
     ) -> Option<Result<(), Errno>>
         ensures { AnswersOfTimer op fd event result }
     {
-        let mut state = self.state.lock(rt);
-        let index = timer_of(fd, state.timers.len())?;
-        Some(state.timers.ctl(op, index, event))
+        self.state.lock(rt).ctl(op, fd, event)
     }
 }
 

@@ -78,7 +78,9 @@ impl<C: Counter + Drop> TimerFd<C> {
         self.timers.arm(self.index(), due, interval, rt)
     }
 
-    /// Takes how often the timer has expired since the last such call, or since it was armed. It never waits for that.
+    /// Takes how often the timer has expired since the last such call, or since it was armed, up to the time that the poller's
+    /// last wait, or a look at a timer, has told; where it hadn't expired by then, up to now. Later expirations come with the
+    /// next call, and with one event more. It never waits for an expiration.
     ///
     /// `EAGAIN`: it has not. The clock is read where no expiration was told before: its error is answered as in
     /// [`reset`](TimerFd::reset).

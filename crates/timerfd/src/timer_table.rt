@@ -5,7 +5,7 @@ ghost use Rattle.vmm_sys.specs.Table.{ctl_of, wait_of, filled, reported_entries,
 ghost use Rattle.timerfd.specs.Dues.{IsFirstOf, dues};
 ghost use Rattle.timerfd.specs.Timer.{disarmed, armed};
 ghost use Rattle.timerfd.specs.Timers.{timer_at, with_timer, told, NoneIsDue, HasExpired};
-ghost use Rattle.timerfd.specs.TimerTable.{line, table_of, with_told, reported_by, AreLines, Changes, IsOpeningError};
+ghost use Rattle.timerfd.specs.TimerTable.{line, table_of, with_told, reported_by, AreLines, AreReached, Changes, IsOpeningError};
 
 use crate::timers::Timers;
 use std::alloc::Global;
@@ -90,11 +90,13 @@ impl TimerTable {
         index: usize,
         event: EpollEvent,
     ) -> Result<(), Errno>
-        ensures { Changes (ctl_of (table_of self.old) op (pos index) event) self.old result self.new }
+        ensures changed { Changes (ctl_of (table_of self.old) op (pos index) event) self.old result self.new }
+        ensures reached { AreReached self.old }
     {
         match RawFd::try_from(index) {
             Ok(number) => self.table.ctl(op, number, event),
-            Err(_) => Err(Errno::EBADF),
+            // No line has such a number.
+            Err(_) => self.table.ctl(op, -1, event),
         }
     }
 
@@ -164,6 +166,7 @@ impl TimerTable {
         ensures count { result ≡ length (reported_entries (wait_of (table_of self.old) (length buffer.old))) }
         ensures entries { buffer.new ≡ filled (wait_of (table_of self.old) (length buffer.old)) buffer.old }
         ensures moved { self.new ≡ reported_by self.old (length buffer.old) }
+        ensures reached { AreReached self.old }
     {
         self.table.wait(buffer).unwrap_or(0)
     }

@@ -1,16 +1,19 @@
 //! A thread that arms timers, beside one that waits for them: no arming is missed, and none is heard of too early.
 
 use crate::expecting::{expect_ok, expect_same};
-use crate::host::{Host, Looping};
-use crate::rounds::{Rounds, now, rest};
+use crate::host::{Host, Looping, now};
 use crate::timed::{OverTable, open, watched_timer};
 use std::alloc::Global;
 use std::sync::atomic::{AtomicU64, Ordering};
 use std::thread;
 use std::time::Duration;
+use test_rounds::{Rounds, rest};
 use timerfd::TimerFd;
 use vmm_sys::epoll::{EpollEvent, EventSet};
 use vmm_sys::poller::Poller;
+
+/// How many threads come to a round.
+const THREADS: u64 = 2;
 
 /// How many rounds there are. Most take some microseconds.
 const ROUNDS: u64 = 4_000;
@@ -76,11 +79,19 @@ fn arm_wanted<R: Looping>(rt: &R, three: &Three, round: u64) {
     );
 }
 
+/// Rests, or sleeps, so that the other thread falls asleep too.
+fn rest_or_sleep<R: Looping>(rt: &R, round: u64, step: u64) {
+    if round.wrapping_add(step.wrapping_mul(5)) % 13 == 0 {
+        thread::sleep(rt, Duration::from_micros(100));
+    }
+    rest(round, step);
+}
+
 /// In each round arms the timer that is waited for, and before or behind that arms and clears another one.
 fn arm_in_rounds<R: Looping>(rt: &R, rounds: &Rounds, three: &Three) {
     for round in 0..ROUNDS {
-        rounds.begin(rt, round);
-        rest(rt, round, 0);
+        rounds.begin(rt, round, THREADS);
+        rest_or_sleep(rt, round, 0);
         if round % 5 == 1 {
             arm_and_clear(rt, three, round);
         }
@@ -95,7 +106,7 @@ fn arm_in_rounds<R: Looping>(rt: &R, rounds: &Rounds, three: &Three) {
 fn arm_and_clear<R: Looping>(rt: &R, three: &Three, round: u64) {
     let duration = Duration::from_nanos(1 + round % 7 * 20_000);
     expect_ok(rt, three.noise.reset(duration, None, rt));
-    rest(rt, round, 1);
+    rest_or_sleep(rt, round, 1);
     expect_ok(rt, three.noise.clear(rt));
 }
 
@@ -129,8 +140,8 @@ fn wait_in_rounds<R: Looping>(rt: &R, rounds: &Rounds, timed: OverTable<R>, thre
     let mut timed = timed;
     for round in 0..ROUNDS {
         prepare(rt, three, round);
-        rounds.begin(rt, round);
-        rest(rt, round, 2);
+        rounds.begin(rt, round, THREADS);
+        rest_or_sleep(rt, round, 2);
         let ms = if round % 2 == 0 { -1 } else { LIMIT };
         wait_for_it(rt, &mut timed, three, ms);
     }
@@ -142,7 +153,7 @@ fn make_rounds<R: Host>(rt: &R, alloc: Global) {
     let three = open_three(rt, &mut timed);
     thread::join(
         rt,
-        || rounds.look_on(rt),
+        || expect_same(rt, &rounds.look_on(rt), &true),
         || {
             thread::join(
                 rt,

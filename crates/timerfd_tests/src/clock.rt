@@ -43,12 +43,7 @@ impl Face {
         self.is_broken.store(true, Ordering::SeqCst);
     }
 
-    /// The reads are counted from now on.
-    pub fn forget_reads(&self) {
-        self.reads.store(0, Ordering::SeqCst);
-    }
-
-    /// Expects that it was read so often; from now on they are counted anew.
+    /// Expects that it was read so often since the last such call.
     pub fn expect_reads<R: Abort>(&self, rt: &R, count: u64) {
         expect_same(rt, &self.reads.swap(0, Ordering::SeqCst), &count);
     }

@@ -1,11 +1,8 @@
 //! Sleeps that end by the clock, as the runtime's own shows it.
 
 use crate::expecting::{expect_ok, expect_same};
-use crate::host::Looping;
-use crate::rounds::now;
-use crate::timed::{OverTable, open, ready, watched_timer};
-use std::time::Duration;
-use timerfd::TimerFd;
+use crate::host::{Looping, now};
+use crate::timed::{OverTable, arm_again, open, ready, watched_timer};
 use vmm_sys::poller::Poller;
 
 /// How many milliseconds a wait may last.
@@ -29,41 +26,18 @@ fn wait_for_it<R: Looping>(rt: &R, timed: &mut OverTable<R>, due: u64) {
     }
 }
 
-/// Arms the timer: the time at which it isn't due yet.
-fn arm<R: Looping>(rt: &R, timer: &TimerFd, duration: u64, interval: u64) -> u64 {
-    let due = now(rt).saturating_add(duration);
-    let interval = Some(Duration::from_nanos(interval));
-    expect_ok(
-        rt,
-        timer.reset(Duration::from_nanos(duration), interval, rt),
-    );
-    due
-}
-
 #[test]
 fn a_sleep_ends_once_a_timer_is_due(rt: HostRuntime) {
     let mut timed = open(&rt, rt.alloc());
     let timer = watched_timer(&rt, &mut timed, 7);
+    let interval = 1_500_000;
     for duration in [1, 30_000, 999_999, 1_000_000, 1_000_001, 7_300_000] {
-        for _turn in 0..5 {
-            let due = arm(&rt, &timer, duration, 0);
+        let mut due = now(&rt).saturating_add(duration);
+        arm_again(&rt, &timer, duration, interval);
+        for _expiration in 0..5 {
             wait_for_it(&rt, &mut timed, due);
-            expect_same(&rt, &timer.wait(&rt), &Ok(1));
-            expect_same(&rt, &timer.is_armed(&rt), &Ok(false));
+            let count = expect_ok(&rt, timer.wait(&rt));
+            due = due.saturating_add(count.saturating_mul(interval));
         }
     }
-}
-
-#[test]
-fn a_sleep_ends_after_each_interval(rt: HostRuntime) {
-    let mut timed = open(&rt, rt.alloc());
-    let timer = watched_timer(&rt, &mut timed, 7);
-    let (duration, interval) = (2_000_000, 1_500_000);
-    let mut due = arm(&rt, &timer, duration, interval);
-    for _expiration in 0..10 {
-        wait_for_it(&rt, &mut timed, due);
-        let count = expect_ok(&rt, timer.wait(&rt));
-        due = due.saturating_add(count.saturating_mul(interval));
-    }
-    expect_same(&rt, &timer.is_armed(&rt), &Ok(true));
 }

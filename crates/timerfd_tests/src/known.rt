@@ -10,14 +10,6 @@ pub struct Known {
 }
 
 impl Known {
-    /// A new one.
-    pub const NEW: Known = Known {
-        due: None,
-        interval: 0,
-        expirations: 0,
-        is_watched: false,
-    };
-
     /// It is told the time.
     fn tell(&mut self, now: u64) {
         for _expiration in 0..u64::MAX {
@@ -41,14 +33,28 @@ impl Known {
     }
 }
 
+/// How many timers there are.
+pub const TIMERS: usize = 9;
+
 /// Timers, and the time.
-#[derive(Drop)]
+#[derive(Clone, Copy)]
 pub struct KnownTimers {
-    pub timers: Vec<Known>,
+    pub timers: [Known; TIMERS],
     pub clock: u64,
 }
 
 impl KnownTimers {
+    /// New ones.
+    pub const NEW: KnownTimers = KnownTimers {
+        timers: [Known {
+            due: None,
+            interval: 0,
+            expirations: 0,
+            is_watched: false,
+        }; TIMERS],
+        clock: 0,
+    };
+
     fn tell_all(&mut self) {
         let now = self.clock;
         for timer in &mut self.timers {
@@ -56,21 +62,11 @@ impl KnownTimers {
         }
     }
 
-    /// Whether a timer is armed.
-    pub fn has_armed(&self) -> bool {
-        self.timers.iter().any(|timer| timer.due.is_some())
-    }
-
     /// A wait begins: where a timer is armed all are told the time.
     pub fn begin_wait(&mut self) {
-        if self.has_armed() {
+        if self.timers.iter().any(|timer| timer.due.is_some()) {
             self.tell_all();
         }
-    }
-
-    /// How many are reported to a wait with room for all.
-    pub fn count_ready(&self) -> usize {
-        self.timers.iter().filter(|timer| timer.is_ready()).count()
     }
 
     /// A timer is armed: a duration of zero disarms it.
@@ -91,17 +87,16 @@ impl KnownTimers {
 
     /// What is taken of a timer: where nothing was told of before, all are told the time.
     pub fn take(&mut self, at: usize) -> Option<u64> {
-        if self.expirations(at) == 0 {
+        if self
+            .timers
+            .get(at)
+            .is_some_and(|timer| timer.expirations == 0)
+        {
             self.tell_all();
         }
-        let taken = self.expirations(at);
-        if let Some(timer) = self.timers.get_mut(at) {
-            timer.expirations = 0;
-        }
+        let timer = self.timers.get_mut(at)?;
+        let taken = timer.expirations;
+        timer.expirations = 0;
         if taken == 0 { None } else { Some(taken) }
-    }
-
-    fn expirations(&self, at: usize) -> u64 {
-        self.timers.get(at).map_or(0, |timer| timer.expirations)
     }
 }

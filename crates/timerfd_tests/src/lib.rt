@@ -14,8 +14,6 @@ mod expecting;
 #[cfg(test)]
 mod host;
 #[cfg(test)]
-mod interests;
-#[cfg(test)]
 mod known;
 #[cfg(test)]
 mod limits;
@@ -28,9 +26,9 @@ mod random_calls;
 #[cfg(test)]
 mod reports;
 #[cfg(test)]
-mod rounds;
-#[cfg(test)]
 mod sleeps;
+#[cfg(test)]
+mod steps;
 #[cfg(test)]
 mod taken_beside;
 #[cfg(test)]

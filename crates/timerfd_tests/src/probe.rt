@@ -4,7 +4,7 @@
 use crate::expecting::{expect_ok, expect_same};
 use crate::host::Looping;
 use std::alloc::Global;
-use std::sync::atomic::{AtomicBool, AtomicU64, Ordering};
+use std::sync::atomic::{AtomicU64, Ordering};
 use std::sync::{Mutex, Wait};
 use std::time::{Clock, Duration};
 use timerfd::{TimedPoller, TimerFd};
@@ -14,36 +14,18 @@ use vmm_sys::errno::Errno;
 use vmm_sys::eventfd::EventFd;
 use vmm_sys::poller::Poller;
 
-/// How often a counter was rung, and whether it refuses that.
+/// How often a counter was rung.
 #[derive(Drop)]
-pub struct Rings {
-    count: AtomicU64,
-    is_full: AtomicBool,
-    is_broken: AtomicBool,
-}
+pub struct Rings(AtomicU64);
 
 impl Rings {
     pub fn new() -> Self {
-        Rings {
-            count: AtomicU64::new(0),
-            is_full: AtomicBool::new(false),
-            is_broken: AtomicBool::new(false),
-        }
-    }
-
-    /// From now on a ring answers `EAGAIN`.
-    pub fn fill(&self) {
-        self.is_full.store(true, Ordering::SeqCst);
-    }
-
-    /// From now on a ring answers `EBADF`.
-    pub fn damage(&self) {
-        self.is_broken.store(true, Ordering::SeqCst);
+        Rings(AtomicU64::new(0))
     }
 
     /// Expects that the counter was rung so often since the last such call.
     pub fn expect<R: Looping>(&self, rt: &R, count: u64) {
-        expect_same(rt, &self.count.swap(0, Ordering::SeqCst), &count);
+        expect_same(rt, &self.0.swap(0, Ordering::SeqCst), &count);
     }
 }
 
@@ -52,6 +34,7 @@ impl Rings {
 pub struct Rung<'a> {
     counter: EventFd,
     rings: &'a Rings,
+    refusal: Option<Errno>,
 }
 
 impl AsRawFd for Rung<'_> {
@@ -68,14 +51,11 @@ impl Bell for Rung<'_> {
     ghost rings = { λ v answer. Unit {0} };
 
     fn ring<R: Wait + Clock>(&self, rt: &R) -> Result<(), Errno> {
-        self.rings.count.fetch_add(1, Ordering::SeqCst);
-        if self.rings.is_full.load(Ordering::SeqCst) {
-            return Err(Errno::EAGAIN);
+        self.rings.0.fetch_add(1, Ordering::SeqCst);
+        match self.refusal {
+            Some(errno) => Err(errno),
+            None => self.counter.ring(rt),
         }
-        if self.rings.is_broken.load(Ordering::SeqCst) {
-            return Err(Errno::EBADF);
-        }
-        self.counter.ring(rt)
     }
 }
 
@@ -96,31 +76,26 @@ pub enum Deed<'a> {
     Fail(Errno),
 }
 
-/// What was seen of the last wait.
-#[derive(Clone, Copy, PartialEq, Debug)]
-pub struct Seen {
-    /// How many waits there were.
-    pub waits: u64,
-    /// The limit that it was given.
-    pub ms: i32,
-    /// The room that it was given.
-    pub room: usize,
-    /// How many entries the table reported.
-    pub count: usize,
-}
-
 /// The poller over a table.
 #[derive(Drop)]
 pub struct Probe<'a, R> {
     epoll: Epoll<R>,
-    seen: Seen,
+    /// The limit of the last wait.
+    pub ms: i32,
+    /// How many entries the table reported to it.
+    pub count: usize,
+    /// What the last arming was answered.
+    pub armed: Result<(), Errno>,
     deed: Mutex<Option<Deed<'a>>>,
-    // What the last arming was answered.
-    armed: Result<(), Errno>,
     rt: R,
 }
 
-impl<R: Wait + Clock> Probe<'_, R> {
+impl<'a, R: Wait + Clock> Probe<'a, R> {
+    /// The next wait does this.
+    pub fn plan(&self, rt: &R, deed: Deed<'a>) {
+        *self.deed.lock(rt) = Some(deed);
+    }
+
     // Does what is to be done, once.
     fn act(&mut self) -> Result<(), Errno> {
         let deed = self.deed.lock(&self.rt).take();
@@ -150,65 +125,37 @@ impl<R: Wait + Clock + Clone + Send + Drop> Poller for Probe<'_, R> {
     }
 
     fn wait(&mut self, ms: i32, buffer: &mut [EpollEvent]) -> Result<usize, Errno> {
-        let waits = self.seen.waits.saturating_add(1);
-        let room = buffer.len();
-        let answer = match self.act() {
-            Ok(()) => self.epoll.wait(0, buffer),
-            Err(errno) => Err(errno),
-        };
-        self.seen = Seen {
-            waits,
-            ms,
-            room,
-            count: answer.unwrap_or(0),
-        };
-        answer
+        self.ms = ms;
+        self.act()?;
+        let count = self.epoll.wait(0, buffer)?;
+        self.count = count;
+        Ok(count)
     }
 }
 
 /// A poller with timers over a [`Probe`].
 pub type OverProbe<'a, R> = TimedPoller<Probe<'a, R>, R, Rung<'a>>;
 
-/// One over a new table, without a timer.
-pub fn open_probe<'a, R: Looping>(rt: &R, alloc: Global, rings: &'a Rings) -> OverProbe<'a, R> {
+/// One over a new table, without a timer, whose counter refuses to be rung by this number, if any.
+pub fn open_probe<'a, R: Looping>(
+    rt: &R,
+    alloc: Global,
+    rings: &'a Rings,
+    refusal: Option<Errno>,
+) -> OverProbe<'a, R> {
     let epoll = expect_ok(rt, Epoll::new(*rt, alloc));
-    let counter = expect_ok(rt, EventFd::new(&epoll, 0, rt));
+    let rung = Rung {
+        counter: expect_ok(rt, EventFd::new(&epoll, 0, rt)),
+        rings,
+        refusal,
+    };
     let probe = Probe {
         epoll,
-        seen: Seen {
-            waits: 0,
-            ms: 0,
-            room: 0,
-            count: 0,
-        },
-        deed: Mutex::new(None),
+        ms: 0,
+        count: 0,
         armed: Ok(()),
+        deed: Mutex::new(None),
         rt: *rt,
     };
-    expect_ok(
-        rt,
-        TimedPoller::new(probe, Rung { counter, rings }, *rt, alloc),
-    )
-}
-
-impl<'a, R: Looping> Probe<'a, R> {
-    /// The next wait does this.
-    pub fn plan(&self, rt: &R, deed: Deed<'a>) {
-        *self.deed.lock(rt) = Some(deed);
-    }
-
-    /// What was seen of the last wait.
-    pub fn seen(&self) -> Seen {
-        self.seen
-    }
-
-    /// What the last arming while it waited was answered.
-    pub fn armed(&self) -> Result<(), Errno> {
-        self.armed
-    }
-
-    /// The table.
-    pub fn epoll(&self) -> &Epoll<R> {
-        &self.epoll
-    }
+    expect_ok(rt, TimedPoller::new(probe, rung, *rt, alloc))
 }

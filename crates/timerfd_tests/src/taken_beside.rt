@@ -3,7 +3,7 @@
 use crate::clock::{ByFace, Face};
 use crate::expecting::expect_same;
 use crate::host::Looping;
-use crate::timed::{arm_again, expect_ready, expect_taken, open, watched_timer};
+use crate::timed::{arm_again, open, open_timer};
 use std::sync::atomic::{AtomicBool, Ordering};
 use std::thread;
 use timerfd::TimerFd;
@@ -57,8 +57,8 @@ fn take_beside<R: Looping>(rt: &R, timer: &TimerFd, is_over: &AtomicBool) -> u64
 fn each_expiration_is_taken_once(host: HostRuntime) {
     let (face, is_over) = (Face::new(0), AtomicBool::new(false));
     let rt = ByFace::new(&face, host);
-    let mut timed = open(&rt, host.alloc());
-    let timer = watched_timer(&rt, &mut timed, 7);
+    let timed = open(&rt, host.alloc());
+    let timer = open_timer(&rt, &timed);
     arm_again(&rt, &timer, DUE, INTERVAL);
     let (one, other) = thread::join(
         &host,
@@ -69,6 +69,5 @@ fn each_expiration_is_taken_once(host: HostRuntime) {
     let all = (STEPS * STEP - DUE) / INTERVAL + 1;
     let taken = one.saturating_add(other).saturating_add(rest);
     expect_same(&rt, &taken, &all);
-    expect_taken(&rt, &timer, 0);
-    expect_ready(&rt, &mut timed, &[]);
+    expect_same(&rt, &timer.wait(&rt), &Err(Errno::EAGAIN));
 }

@@ -1,6 +1,6 @@
 //! A poller with timers over a table, and what is done with it.
 
-use crate::expecting::{expect_ok, expect_same};
+use crate::expecting::expect_ok;
 use crate::host::Looping;
 use std::alloc::Global;
 use std::process::Abort;
@@ -9,12 +9,8 @@ use std::time::{Clock, Duration};
 use timerfd::{TimedPoller, TimerFd};
 use vmm_sys::counter::Counter;
 use vmm_sys::epoll::{AsRawFd, ControlOperation, Epoll, EpollEvent, EventSet};
-use vmm_sys::errno::Errno;
 use vmm_sys::eventfd::EventFd;
 use vmm_sys::poller::Poller;
-
-/// The highest number of entries that a test has room for.
-const ROOM: usize = 80;
 
 /// A poller with timers over a table.
 pub type OverTable<R> = TimedPoller<Epoll<R>, R>;
@@ -33,11 +29,6 @@ where
     R: Looping,
 {
     expect_ok(rt, TimerFd::new(timed, rt))
-}
-
-/// A new counter of the table below, of this value.
-pub fn open_counter<R: Looping>(rt: &R, timed: &OverTable<R>, value: u64) -> EventFd {
-    expect_ok(rt, EventFd::new(timed.poller(), value, rt))
 }
 
 /// An entry for `IN`.
@@ -64,51 +55,9 @@ where
     timer
 }
 
-/// A new counter of value 1, of which this word is reported.
-pub fn watched_counter<R: Looping>(rt: &R, timed: &mut OverTable<R>, word: u64) -> EventFd {
-    let counter = open_counter(rt, timed, 1);
-    watch(rt, timed, &counter, word);
-    counter
-}
-
-/// Arms the timer: it is due once, after so many nanoseconds.
-pub fn arm<C: Counter + Drop, R: Looping>(rt: &R, timer: &TimerFd<C>, nanoseconds: u64) {
-    let duration = Duration::from_nanos(nanoseconds);
-    expect_ok(rt, timer.reset(duration, None, rt));
-}
-
 /// Arms the timer: it is due after so many nanoseconds, and again after each interval.
-pub fn arm_again<C: Counter + Drop, R: Looping>(
-    rt: &R,
-    timer: &TimerFd<C>,
-    nanoseconds: u64,
-    interval: u64,
-) {
+pub fn arm_again<R: Looping>(rt: &R, timer: &TimerFd, nanoseconds: u64, interval: u64) {
     let duration = Duration::from_nanos(nanoseconds);
     let interval = Duration::from_nanos(interval);
     expect_ok(rt, timer.reset(duration, Some(interval), rt));
-}
-
-/// Expects that so many expirations are taken, and that none is left.
-pub fn expect_taken<C: Counter + Drop, R: Looping>(rt: &R, timer: &TimerFd<C>, count: u64) {
-    if count > 0 {
-        expect_same(rt, &timer.wait(rt), &Ok(count));
-    }
-    expect_same(rt, &timer.wait(rt), &Err(Errno::EAGAIN));
-}
-
-/// Expects that a wait without a sleep, with so much room, reports these words, each for `IN`.
-pub fn expect_in_room<P: Poller, R: Abort>(rt: &R, poller: &mut P, room: usize, words: &[u64]) {
-    let mut buffer = [EpollEvent::new(EventSet::empty(), 0); ROOM];
-    let room = room.min(buffer.len());
-    let count = expect_ok(rt, poller.wait(0, &mut buffer[..room])).min(room);
-    for (entry, word) in buffer[..count].iter().zip(words) {
-        expect_same(rt, entry, &ready(*word));
-    }
-    expect_same(rt, &count, &words.len());
-}
-
-/// As [`expect_in_room`], with room for all.
-pub fn expect_ready<P: Poller, R: Abort>(rt: &R, poller: &mut P, words: &[u64]) {
-    expect_in_room(rt, poller, ROOM, words);
 }

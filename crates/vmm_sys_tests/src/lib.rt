@@ -3,6 +3,8 @@
 #![tactic(auto)]
 
 #[cfg(test)]
+mod event_sets;
+#[cfg(test)]
 mod expecting;
 #[cfg(test)]
 mod fixture;

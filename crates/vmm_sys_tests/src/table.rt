@@ -1,7 +1,7 @@
 //! The table, as one owner uses it: worked rows of its calls, and the numbers of its errors. What they answer is proved.
 
-use crate::expecting::expect_same;
-use crate::fixture::no_event;
+use crate::expecting::{expect_ok, expect_same};
+use crate::fixture::{HIGHEST, no_event};
 use std::process::Abort;
 use vmm_sys::epoll::{ControlOperation, EpollEvent, EventSet};
 use vmm_sys::errno::Errno;
@@ -72,6 +72,65 @@ fn expect_report<R: Abort>(
     let mut buffer = [no_event(); 2];
     expect_same(rt, &table.wait(&mut buffer), &answer);
     expect_same(rt, &buffer, &[first, no_event()]);
+}
+
+#[test]
+fn a_full_counter_of_a_table(rt: HostRuntime) {
+    let mut table = Table::new(rt.alloc());
+    expect_same(&rt, &table.add_counter(HIGHEST), &Ok(0));
+    expect_same(&rt, &ask(&mut table, ADD, 0, EventSet::OUT), &Ok(()));
+    expect_same(&rt, &table.write(0, 1), &Err(Errno::EAGAIN));
+    expect_report(&rt, &mut table, Ok(0), no_event());
+    expect_same(&rt, &table.write(0, u64::MAX), &Err(Errno::EINVAL));
+    expect_same(&rt, &table.read(0), &Ok(HIGHEST));
+    expect_same(&rt, &table.read(0), &Err(Errno::EAGAIN));
+}
+
+// Opens counters of these values, and adds an interest in each.
+fn open<R: Abort>(rt: &R, table: &mut Table, values: &[u64]) {
+    for &value in values {
+        let fd = expect_ok(rt, table.add_counter(value));
+        let wanted = EpollEvent::new(IN, fd.max(0) as u64);
+        expect_ok(rt, table.ctl(ADD, fd, wanted));
+    }
+}
+
+// The next waits, each with room for one, report these descriptors in turn.
+fn expect_each<R: Abort>(rt: &R, table: &mut Table, fds: &[u64]) {
+    for &fd in fds {
+        let mut buffer = [no_event()];
+        expect_same(rt, &table.wait(&mut buffer), &Ok(1));
+        expect_same(rt, &buffer, &[EpollEvent::new(IN, fd)]);
+    }
+}
+
+#[test]
+fn one_that_is_not_ready_is_passed_over(rt: HostRuntime) {
+    let mut table = Table::new(rt.alloc());
+    open(&rt, &mut table, &[0, 1, 1, 1, 1, 1]);
+    for (first, second) in [(1, 2), (3, 4), (5, 1)] {
+        let mut buffer = [no_event(); 2];
+        expect_same(&rt, &table.wait(&mut buffer), &Ok(2));
+        let reported = [EpollEvent::new(IN, first), EpollEvent::new(IN, second)];
+        expect_same(&rt, &buffer, &reported);
+    }
+}
+
+#[test]
+fn four_that_are_ready_are_served_one_by_one(rt: HostRuntime) {
+    let mut table = Table::new(rt.alloc());
+    open(&rt, &mut table, &[1, 1, 1, 1]);
+    expect_each(&rt, &mut table, &[0, 1, 2, 3]);
+}
+
+#[test]
+fn one_is_added_and_one_deleted_between_the_waits(rt: HostRuntime) {
+    let mut table = Table::new(rt.alloc());
+    open(&rt, &mut table, &[1, 1, 1, 1]);
+    expect_each(&rt, &mut table, &[0]);
+    open(&rt, &mut table, &[1]);
+    expect_ok(&rt, table.ctl(ControlOperation::Delete, 1, no_event()));
+    expect_each(&rt, &mut table, &[2, 3]);
 }
 
 /// Each constant, and its number in Linux.

@@ -9,4 +9,4 @@ nothing_is_first : (before after : List (List Request)) → before ≡ [] → af
 nothing_is_first before after none same = subst (λ lists. AreFirst lists [] after) (sym none) (refl, same)
 
 pub returns-in_default : goal.returns-in_default
-returns-in_default g c = ([], [], (nothing_is_first _ _ c.in_default.ensures.0 c.in_default.ensures.1, c.in_default.ensures.2), none_made c.args.ops.now)
+returns-in_default g c = ([], [], ((nothing_is_first _ _ c.in_default.ensures.0 c.in_default.ensures.1, c.in_default.ensures.2), refl), none_made c.args.ops.now)

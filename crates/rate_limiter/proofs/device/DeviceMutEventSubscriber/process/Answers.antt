@@ -8,4 +8,4 @@ is_another a b differs = grind (arith, nat_tests)
 
 pub returns-else-self-eq0 : goal.returns-else-self-eq0
 returns-else-self-eq0 g c =
-    ([], [], rw (is_another c.args.events.payload 1 (search rules)) (c.unwrap_or-waiting.result, search rules, rw (is_another _ _ c.if-self-eq0.false) (refl, refl)), none_made c.args.ops.now)
+    ([], [], rw (is_another c.args.events.payload 1 (search rules)) (search rules, rw (is_another _ _ c.if-self-eq0.false) (refl, refl)), none_made c.args.ops.now)

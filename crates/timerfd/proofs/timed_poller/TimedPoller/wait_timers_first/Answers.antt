@@ -20,7 +20,7 @@ returns-clause-waited g c =
     omega (arith, length-take (length mid - begun.front) (drop begun.front mid), length-drop begun.front mid) in
     let fits : n ≤ length new = omega (arith, c.in_ok-count.ensures.fits, c.in_ok-count.ensures.room) in
     let front : take begun.front mid ≡ es = in_front began.0 b mid begun.front began.3 began.4 in
-    inr (timers_first g.P.Poller.meaning c.self.view_is _ c.wait_below.ensures.others c.if-self.false g.P.Poller.may_wait (to_z-of_z w32 c.args.ms c.ranges.ms) began.0 began.1
+    inr (timers_first g.P.Poller.meaning c.self.view_is _ c.wait_below.ensures.others c.if-self.false g.P.Poller.may_wait (to_z-of_z w32 c.args.ms c.ranges.ms) began.0 began.5 began.1
     began.2 (to_z-of_z w32 begun.limit (record { sfits = c.begin_wait-front.type_inv.1.1.1.0.1 })) (Ok n) new c.in_ok-count.ensures.below b mid begun.front began.3 began.4 c.if-self.false room _ _
     (rw front (behind_front es new _ begun.front n began.3 fits)) (ap Ok (count_behind es new new begun.front n began.3 fits)))
 
@@ -32,6 +32,6 @@ returns-in_err-count-clause-waited g c =
     let room : length (take (length mid - begun.front) (drop begun.front mid)) ≡ length mid - begun.front =
     omega (arith, length-take (length mid - begun.front) (drop begun.front mid), length-drop begun.front mid) in
     let is : c.from_residual.result ≡ Err c.in_err-count.field-0.0 = search rules in
-    inr (timers_first g.P.Poller.meaning c.self.view_is _ c.wait_below.ensures.others c.if-self.false g.P.Poller.may_wait (to_z-of_z w32 c.args.ms c.ranges.ms) began.0 began.1
+    inr (timers_first g.P.Poller.meaning c.self.view_is _ c.wait_below.ensures.others c.if-self.false g.P.Poller.may_wait (to_z-of_z w32 c.args.ms c.ranges.ms) began.0 began.5 began.1
     began.2 (to_z-of_z w32 begun.limit (record { sfits = c.begin_wait-front.type_inv.1.1.1.0.1 })) (Err c.in_err-count.field-0.0) c.wait_below.new.buffer c.in_err-count.ensures.below c.args.buffer.now mid begun.front began.3 began.4 c.if-self.false room _ _
     (rw is refl) is)
