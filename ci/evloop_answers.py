@@ -10,6 +10,7 @@ import re
 from typing import NamedTuple
 
 ENDPOINT = 9
+HIGHEST_PRIORITY = 3
 # How many events of a report a run takes.
 MOST = 256
 OUT_OF_MEMORY = "event_manager: out of memory"
@@ -125,6 +126,8 @@ def requests(words):
     found = []
     while words:
         of_one, words = words[: LENGTHS[words[0]]], words[LENGTHS[words[0]] :]
+        if of_one[0] == "addp" and int(of_one[4]) > HIGHEST_PRIORITY:
+            raise ValueError(f"no priority is {of_one[4]}")
         found.append(Request(of_one[0], int(of_one[1]), int(of_one[4]) if of_one[0] == "addp" else 0))
     return found
 

@@ -27,9 +27,15 @@ const DEFAULT_CAPACITY: usize = 256;
 /// It takes no jobs, so it needs no counter, no ledger and no handle: its poller waits. Each run waits once and hands each
 /// event of the report to the subscriber that owns its descriptor at its turn. Ours; the Rust crate's manager always has
 /// an endpoint, as `EventManager` has.
-#[derive(Drop)]
 pub struct EventLoop<S, P = BoxedPoller> {
     registry: Registry<S, P>,
+}
+
+// Not derived: then who owns one has a call to prove, and not a drop of all that is in it.
+impl<S: Drop, P: Drop> Drop for EventLoop<S, P> {
+    fn drop(self) {
+        let EventLoop { registry: _ } = self;
+    }
 }
 
 impl<S: MutEventSubscriber, P: EventPoller> EventLoop<S, P> {

@@ -43,13 +43,21 @@ fn answer<J: Drop, Q: Drop, N: Naming>(
 ///
 /// The queue of a manager that was dropped without [`close`](crate::EventManager::close) stays open: sends are still
 /// accepted, nobody runs the jobs, and a `call_blocking` waits for ever. `close` is the way out.
-#[derive(Drop)]
 pub struct RemoteEndpoint<S: MutEventSubscriber, J: Job<S>, N: NamedCounter> {
     pub(crate) channel: Arc<Channel<S, J, N>>,
 }
 
+// Not derived: then who owns one has a call to prove, and not a drop of all that is in it.
+impl<S: MutEventSubscriber, J: Job<S>, N: NamedCounter> Drop for RemoteEndpoint<S, J, N> {
+    fn drop(self) {
+        let RemoteEndpoint { channel: _ } = self;
+    }
+}
+
 impl<S: MutEventSubscriber, J: Job<S>, N: NamedCounter> RemoteEndpoint<S, J, N> {
-    /// Sends a job, which the loop runs once, in the order of the tickets, after a later batch. The ticket may be dropped.
+    /// Sends a job, which the loop runs once, in the order of the tickets, behind a batch: that which is under way, where its
+    /// report has a ring already, or a later one. So it may run before what its sender wrote or kicked beforehand is reported.
+    /// The ticket may be dropped.
     ///
     /// Refused, in this order, the queue as it was and the job dropped: `ChannelSend` where the manager was closed;
     /// `TicketsUsedUp` where 9223372036854775807 tickets were issued; `OutOfMemory`; `EventFd` with the number with which

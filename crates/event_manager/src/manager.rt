@@ -29,10 +29,21 @@ pub(crate) const DEFAULT_CAPACITY: usize = 256;
 /// `N` is the type of the counter that wakes it, and names the ledgers of its tickets and of its taken jobs:
 /// [`with_ledgers`](crate::with_ledgers) makes both.
 /// Where no jobs are needed, `J` is [`NoJob`](crate::jobs::NoJob).
-#[derive(Drop)]
 pub struct EventManager<S: MutEventSubscriber, J: Job<S>, N: NamedCounter, P = BoxedPoller> {
     registry: Registry<S, P>,
     channel: EventManagerChannel<S, J, N>,
+}
+
+// Not derived: then who owns one has a call to prove, and not a drop of all that is in it.
+impl<S: MutEventSubscriber + Drop, J: Job<S>, N: NamedCounter, P: Drop> Drop
+    for EventManager<S, J, N, P>
+{
+    fn drop(self) {
+        let EventManager {
+            registry: _,
+            channel: _,
+        } = self;
+    }
 }
 
 impl<S: MutEventSubscriber, J: Job<S>, N: NamedCounter, P: EventPoller> EventManager<S, J, N, P> {
