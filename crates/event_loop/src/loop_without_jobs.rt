@@ -93,7 +93,8 @@ impl<S: MutEventSubscriber, P: EventPoller> EventLoop<S, P> {
         ensures subscribers { result.0 ≡ (seen_of self).registry.values }
         ensures poller { result.1 ≡ (seen_of self).poller }
     {
-        self.registry.into_parts()
+        let EventLoop { registry } = self;
+        registry.into_parts()
     }
 
     /// [`run_with_timeout`](EventLoop::run_with_timeout) without a limit.
