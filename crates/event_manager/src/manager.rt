@@ -36,8 +36,7 @@ pub struct EventManager<S: MutEventSubscriber, J: Job<S>, N: NamedCounter, P = B
 
 // Not derived: then who owns one has a call to prove, and not a drop of all that is in it.
 impl<S: MutEventSubscriber + Drop, J: Job<S>, N: NamedCounter, P: Drop> Drop
-    for EventManager<S, J, N, P>
-{
+    for EventManager<S, J, N, P> {
     fn drop(self) {
         let EventManager {
             registry: _,
