@@ -19,5 +19,7 @@ pub mod LoopOutputs
 pub mod OneStep
 pub mod Histories
 pub mod ProjectedHistory
+pub mod TracesWithoutJobs
+pub mod Lives
 pub use Rattle.event_loop.proofs.ExchangeLemmas
 pub use Rattle.event_loop.proofs.RequestsSoFar
