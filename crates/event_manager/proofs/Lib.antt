@@ -6,7 +6,6 @@ pub mod PendingAfter
 pub mod ProjectedDispatch
 pub mod ProjectedExchanges
 pub mod ProjectedSteps
-pub mod ProjectedTrace
 pub mod Soundness
 pub mod LentSteps
 pub mod Accounts
@@ -18,5 +17,9 @@ pub mod TraceSoFar
 pub mod CallsApart
 pub mod LoopOutputs
 pub mod OneStep
+pub mod Histories
+pub mod ProjectedHistory
+pub mod TracesWithoutJobs
+pub mod Lives
 pub use Rattle.event_loop.proofs.ExchangeLemmas
 pub use Rattle.event_loop.proofs.RequestsSoFar

@@ -3,7 +3,7 @@ use Rattle.std.proofs.Common.{◌≡◌, ◌≢◌, ℕ, Bool, true, false, ◌|
 use Rattle.std.specs.FinMap.{FinMap, get}
 use Rattle.std.proofs.lemmas.Bool.Decides.{eqb_tells}
 use Rattle.event_loop.specs.Prelude.{Event, owner_of, PollerCall, Exchanges, removes, Serves, Registry, Delivery, Nobody, To, Position, exchanges_of, is_id, is_removed, still_pending, events_of, with_pending, IsFor, IsDelivery, AreDispatched}
-use Rattle.event_manager.specs.Projection.{owned_by, only_values, projected_registrations, projected_registry, receiver_of, asks_to_add, adds}
+use Rattle.event_manager.specs.Projection.{owned_by, only_values, projected_registrations, receiver_of, asks_to_add, adds}
 use Rattle.std.proofs.lemmas.List.Elements.{All-nil, All-cons}
 use Rattle.dispatch_tables.proofs.DispatchOrders.{nil_cons, head_is, tail_is}
 use Rattle.event_manager.proofs.FiniteMaps.{only_values-insert}
@@ -147,7 +147,7 @@ module _ {V : Type 0} (serves : Serves V) (i : ℕ) (mine : ℕ → Bool) (n : �
 
   -- all positions
   pub record DispatchProjected (before : Registry V) (pending : List Event) (removed : List (Position V)) (shown : List (Position V)) (after : Registry V) : Type 0 where
-    pub fits : AreDispatched serves (projected_with i n pending before) removed shown (projected_registry i n after)
+    pub fits : AreDispatched serves (projected_with i n pending before) removed shown (projected_with i n [] after)
     pub still : IsMine i mine after.registrations.owners
     pub next : after.next ≡ before.next
 
@@ -165,7 +165,7 @@ module _ {V : Type 0} (serves : Serves V) (i : ℕ) (mine : ℕ → Bool) (n : �
 
   pub projected_dispatch : (pending : List Event) (before : Registry V) (earlier removed : List (Position V)) (real shown : List (Position V)) (after : Registry V) → Woven i mine real shown → IsMine i mine before.registrations.owners → IsClaimed (positions_exchanges i real) → ((fd : ℕ) (j : ℕ) → j ≢ i → adds fd (positions_exchanges j real) ≡ true → mine fd ≡ false) → Agree earlier removed → AreDispatched serves before earlier real after → DispatchProjected before pending removed shown after
   projected_dispatch pending before earlier removed [] [] after ends m claimed foreign agree is = record {
-    fits = ap (projected_registry i n) is;
+    fits = ap (projected_with i n []) is;
     still = subst (λ (r : Registry V). IsMine i mine r.registrations.owners) (sym is) m;
     next = ap (λ (r : Registry V). r.next) is;
   }
@@ -185,7 +185,7 @@ module _ {V : Type 0} (serves : Serves V) (i : ℕ) (mine : ℕ → Bool) (n : �
       (λ fd j differ t. foreign fd j differ (adds_then fd (delivery_exchanges j d.delivery) (positions_exchanges j real) t))
       (agree_skip earlier removed d agree one.apart) more
       in
-      record { fits = subst (λ r. AreDispatched serves r removed shown (projected_registry i n after)) (one.same pending) rest.fits; still = rest.still; next = rest.next ∙ one.next }
+      record { fits = subst (λ r. AreDispatched serves r removed shown (projected_with i n [] after)) (one.same pending) rest.fits; still = rest.still; next = rest.next ∙ one.next }
   projected_dispatch pending before earlier removed real (_ ∷ shown) after (added d there nobody w) m claimed foreign agree h =
       let rest = projected_dispatch (still_pending removed (events_of shown)) before earlier (removed ++ only_position i d ∷ []) real shown after w m claimed foreign (agree_add earlier removed (only_position i d) agree nobody) h in
       record {

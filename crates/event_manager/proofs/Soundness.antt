@@ -1,14 +1,16 @@
 -- What holds of every state that a trace reaches, and of the ids that it gives.
-use Rattle.std.proofs.Common.{◌≡◌, ◌≢◌, ℕ, ◌+◌, ◌<◌, ◌==◌, cond, Bool, true, false, not, refl, sym, ◌∙◌, ap, subst, Some, None, Option, ◌⊎◌, inl, inr, nat_cmp, List, [], ◌∷◌, ◌++◌, true≢false, eq-eqb, arith, Ok, Err, Result, append_assoc, lt_irrefl, is_eq, Equal}
+use Rattle.std.proofs.Common.{◌≡◌, ◌≢◌, ℕ, ℤ, ◌+◌, ◌<◌, ◌==◌, cond, Bool, true, false, not, refl, sym, ◌∙◌, ap, subst, Some, None, Option, ◌⊎◌, inl, inr, nat_cmp, List, [], ◌∷◌, ◌++◌, true≢false, eq-eqb, arith, Ok, Err, Result, lt_irrefl, is_eq, Equal}
 use Rattle.std.specs.FinMap.{FinMap, get, insert, remove, get-insert, get-remove, get-empty, empty}
 use Rattle.std.specs.Cmp.{nat_cmp_total, nat_cmp_is}
 use Rattle.std.specs.Ordering.{eq_by_cmp}
 use Rattle.std.proofs.lemmas.Bool.Decides.{eqb_tells}
-use Rattle.event_loop.specs.Prelude.{Event, Registrations, Owns, IsFree, PollerCall, Answer, Exchanges, Fits, by_manager, by_poller, by_agreement, ExchangesFit, ReachesPoller, registrations_after, Begins, Serves, Registry, LoopStep, Joined, NotJoined, Left, Replaced, Requested, Refused, Steps, is_id, without_owner, HasId, LacksId, AreBelow, May, Delivery, Nobody, To, Position, with_pending, IsDelivery, AreDispatched, is_removed, still_pending, events_of, ManagerState, JobRun, IsIteration, AreRun, AllSteps, Ownership, OwnerMap, owner_of}
+use Rattle.event_loop.specs.Prelude.{Event, Registrations, Owns, IsFree, PollerCall, Answer, Exchanges, Fits, by_manager, by_poller, by_agreement, ExchangesFit, ReachesPoller, registrations_after, Begins, Serves, Registry, LoopStep, Joined, NotJoined, Left, Replaced, Requested, Refused, Steps, is_id, without_owner, HasId, LacksId, AreBelow, May, Delivery, Nobody, To, Position, with_pending, IsDelivery, AreDispatched, is_removed, still_pending, events_of, ManagerState, Ownership, OwnerMap, owner_of}
 use Rattle.event_loop.specs.declared.events.Request.{Request}
 use Rattle.event_loop.specs.declared.events.Request.TheVariants.{Add, AddWithPriority, Modify, Remove}
-use Rattle.event_manager.specs.Trace.{Effect, Stepped, Iterated, TraceEntry, HasEffect, IsTrace, new_state}
-use Rattle.event_manager.specs.Guarantees.{IsSound, steps_of_effect, steps_of, AreGiven, AreRefusedTo, RemovedStayGone}
+use Rattle.event_manager.specs.Trace.{TraceEntry, IsTrace, new_state}
+use Rattle.event_manager.specs.History.{Turn, Made, Waited, IsTurn, IsHistory, history_of}
+use Rattle.event_manager.proofs.Histories.{trace_is_history}
+use Rattle.event_manager.specs.Guarantees.{IsSound, AreGiven, AreRefusedTo, RemovedStayGone}
 use Rattle.vmm_sys.specs.declared.errno.Errno.{Errno}
 use Rattle.dispatch_tables.specs.declared.priority.Priority.{Priority}
 use Rattle.dispatch_tables.specs.declared.priority.Priority.TheVariants.{Lowest}
@@ -19,7 +21,6 @@ use Rattle.dispatch_tables.proofs.Owning.{from_insert, from_remove, owner_id}
 use Rattle.event_manager.proofs.HeldIds.{removed_value, below_insert, below_joined, below_removed}
 use Rattle.event_manager.proofs.Isolation.{insert_other_value, remove_other_value}
 use Rattle.event_manager.proofs.FiniteMaps.{entered}
-use Rattle.std.specs.List.{flat_map}
 
 -- what the exchanges of id i do to the owners
 record OwnersAfter (i : ℕ) (before after : Registrations) : Type 0 where
@@ -184,7 +185,7 @@ module _ {V : Type 0} where
   next_positions serves before earlier [] after is = ap (λ (r : Registry V). r.next) is
   next_positions serves before earlier (d ∷ positions) after (mid, out, more) = next_positions serves mid (earlier ++ d ∷ []) positions after more ∙ next_delivery serves (left before earlier positions) (is_removed d.event.fd earlier) d.event d.delivery mid out
 
-  given_step : (begins : Begins V) (before : Registry V) (step : LoopStep V) (after : Registry V) → Steps begins before step after → AreGiven before.next (step ∷ []) after.next
+  given_step : (begins : Begins V) (before : Registry V) (step : LoopStep V) (after : Registry V) → Steps begins before step after → AreGiven before.next (Made step ∷ []) after.next
   given_step begins before (Joined value id exchanges calls held) after (registrations, capacity, is, fits, beg, e) = (is, ap (λ (r : Registry V). r.next) e)
   given_step begins before (NotJoined value error) after h = ap (λ (r : Registry V). r.next) h.1
   given_step begins before (Left id value calls) after (fds, has, is_owner, deletes, e) = ap (λ (r : Registry V). r.next) e
@@ -192,14 +193,15 @@ module _ {V : Type 0} where
   given_step begins before (Requested id exchanges calls) after (value, registrations, has, fits, e) = ap (λ (r : Registry V). r.next) e
   given_step begins before (Refused id) after h = ap (λ (r : Registry V). r.next) h.1
 
-  given_join : (a b c : ℕ) (xs ys : List (LoopStep V)) → AreGiven a xs b → AreGiven b ys c → AreGiven a (xs ++ ys) c
+  given_join : (a b c : ℕ) (xs ys : List (Turn V)) → AreGiven a xs b → AreGiven b ys c → AreGiven a (xs ++ ys) c
   given_join a b c [] ys h k = subst (λ n. AreGiven n ys c) h k
-  given_join a b c (Joined value id exchanges calls held ∷ xs) ys h k = (h.0, given_join (a + 1) b c xs ys h.1 k)
-  given_join a b c (NotJoined value error ∷ xs) ys h k = given_join a b c xs ys h k
-  given_join a b c (Left id value calls ∷ xs) ys h k = given_join a b c xs ys h k
-  given_join a b c (Replaced id old new ∷ xs) ys h k = given_join a b c xs ys h k
-  given_join a b c (Requested id exchanges calls ∷ xs) ys h k = given_join a b c xs ys h k
-  given_join a b c (Refused id ∷ xs) ys h k = given_join a b c xs ys h k
+  given_join a b c (Made (Joined value id exchanges calls held) ∷ xs) ys h k = (h.0, given_join (a + 1) b c xs ys h.1 k)
+  given_join a b c (Made (NotJoined value error) ∷ xs) ys h k = given_join a b c xs ys h k
+  given_join a b c (Made (Left id value calls) ∷ xs) ys h k = given_join a b c xs ys h k
+  given_join a b c (Made (Replaced id old new) ∷ xs) ys h k = given_join a b c xs ys h k
+  given_join a b c (Made (Requested id exchanges calls) ∷ xs) ys h k = given_join a b c xs ys h k
+  given_join a b c (Made (Refused id) ∷ xs) ys h k = given_join a b c xs ys h k
+  given_join a b c (Waited ms waited positions ∷ xs) ys h k = given_join a b c xs ys h k
 
   -- what is gone
   pub record IsGone (i : ℕ) (r : Registry V) : Type 0 where
@@ -215,7 +217,7 @@ module _ {V : Type 0} where
   differs : (i id : ℕ) (r : Registry V) (v : V) → IsGone i r → HasId r id v → id ≢ i
   differs i id r v g has = λ e. some_none v (get r.values id) (ap (get r.values) e ∙ g.lacks) has
 
-  gone_step : (begins : Begins V) (i : ℕ) (before : Registry V) (step : LoopStep V) (after : Registry V) → IsGone i before → Steps begins before step after → ((steps : List (LoopStep V)) → AreRefusedTo i steps → AreRefusedTo i (step ∷ steps)) × IsGone i after
+  gone_step : (begins : Begins V) (i : ℕ) (before : Registry V) (step : LoopStep V) (after : Registry V) → IsGone i before → Steps begins before step after → ((history : List (Turn V)) → AreRefusedTo i history → AreRefusedTo i (Made step ∷ history)) × IsGone i after
   gone_step begins i before (Joined value id exchanges calls held) after g (registrations, capacity, is, fits, beg, e) =
       let differ : id ≢ i = λ t. lt_irrefl before.next (subst (λ k. k < before.next) (sym t ∙ is) g.given) in
       (λ steps rest. (differ, rest), gone_at i after _ e (record { lacks = lacks_insert i id before.values held (λ t. differ (sym t)) g.lacks; given = (let b = g.given in omega arith) }))
@@ -241,7 +243,7 @@ module _ {V : Type 0} where
   left_is_gone begins before id value calls after s (fds, has, is_owner, deletes, e) = gone_at id after _ e (record { lacks = removed_value id before.values; given = s id value has })
 
   -- each step's removal stays, where what follows refuses all that is gone after it
-  stays_gone : (begins : Begins V) (before : Registry V) (step : LoopStep V) (after : Registry V) (steps : List (LoopStep V)) → AreBelow before.next before.values → Steps begins before step after → ((i : ℕ) → IsGone i after → AreRefusedTo i steps) → RemovedStayGone steps → RemovedStayGone (step ∷ steps)
+  stays_gone : (begins : Begins V) (before : Registry V) (step : LoopStep V) (after : Registry V) (history : List (Turn V)) → AreBelow before.next before.values → Steps begins before step after → ((i : ℕ) → IsGone i after → AreRefusedTo i history) → RemovedStayGone history → RemovedStayGone (Made step ∷ history)
   stays_gone begins before (Joined value id exchanges calls held) after steps s h k gone = gone
   stays_gone begins before (NotJoined value error) after steps s h k gone = gone
   stays_gone begins before (Left id value calls) after steps s h k gone = (k id (left_is_gone begins before id value calls after s h), gone)
@@ -249,18 +251,14 @@ module _ {V : Type 0} where
   stays_gone begins before (Requested id exchanges calls) after steps s h k gone = gone
   stays_gone begins before (Refused id) after steps s h k gone = gone
 
--- the steps of jobs, one after another
-abbrev pub steps_of_jobs : {V J R : Type 0} → List (JobRun V J R) → List (LoopStep V)
-steps_of_jobs jobs = flat_map (λ job_run. job_run.steps) jobs
-
-module _ {V J R : Type 0} (begins : Begins V) (serves : Serves V) (may : May V J R) where
-  -- what the steps between two registries are, and what stays true
-  pub record Follows (before : Registry V) (steps : List (LoopStep V)) (after : Registry V) : Type 0 where
+module _ {V : Type 0} (begins : Begins V) (serves : Serves V) where
+  -- what the turns between two registries are, and what stays true
+  pub record Follows (before : Registry V) (history : List (Turn V)) (after : Registry V) : Type 0 where
     pub sound : IsSound before → IsSound after
-    pub given : AreGiven before.next steps after.next
-    pub gone : (i : ℕ) → IsGone i before → AreRefusedTo i steps × IsGone i after
+    pub given : AreGiven before.next history after.next
+    pub gone : (i : ℕ) → IsGone i before → AreRefusedTo i history × IsGone i after
     pub below : AreBelow before.next before.values → AreBelow after.next after.values
-    pub removed : AreBelow before.next before.values → RemovedStayGone steps
+    pub removed : AreBelow before.next before.values → RemovedStayGone history
 
   follows_none : (before after : Registry V) → after ≡ before → Follows before [] after
   follows_none before after e = record {
@@ -272,48 +270,33 @@ module _ {V J R : Type 0} (begins : Begins V) (serves : Serves V) (may : May V J
   }
 
   -- one step first
-  follows_cons : (before : Registry V) (step : LoopStep V) (mid : Registry V) (steps : List (LoopStep V)) (after : Registry V) → Steps begins before step mid → Follows mid steps after → Follows before (step ∷ steps) after
-  follows_cons before step mid steps after h k = record {
+  follows_cons : (before : Registry V) (step : LoopStep V) (mid : Registry V) (history : List (Turn V)) (after : Registry V) → Steps begins before step mid → Follows mid history after → Follows before (Made step ∷ history) after
+  follows_cons before step mid history after h k = record {
     sound = λ s. k.sound (sound_step begins before step mid s h);
-    given = given_join before.next mid.next after.next (step ∷ []) steps (given_step begins before step mid h) k.given;
-    gone = λ i g. let a = gone_step begins i before step mid g h in let b = k.gone i a.1 in (a.0 steps b.0, b.1);
+    given = given_join before.next mid.next after.next (Made step ∷ []) history (given_step begins before step mid h) k.given;
+    gone = λ i g. let a = gone_step begins i before step mid g h in let b = k.gone i a.1 in (a.0 history b.0, b.1);
     below = λ b. k.below (below_step begins before step mid b h);
-    removed = λ b. stays_gone begins before step mid steps b h (λ i g. (k.gone i g).0) (k.removed (below_step begins before step mid b h));
+    removed = λ b. stays_gone begins before step mid history b h (λ i g. (k.gone i g).0) (k.removed (below_step begins before step mid b h));
   }
 
-  -- what leads to any continuation
-  follows_positions_then : (before : Registry V) (positions : List (Position V)) (mid : Registry V) (steps : List (LoopStep V)) (after : Registry V) → AreDispatched serves before [] positions mid → Follows mid steps after → Follows before steps after
-  follows_positions_then before positions mid steps after h k = record {
+  -- a wait first
+  follows_wait : (before : Registry V) (ms : ℤ) (waited : Result (List Event) Errno) (positions : List (Position V)) (mid : Registry V) (history : List (Turn V)) (after : Registry V) → IsTurn begins serves before (Waited ms waited positions) mid → Follows mid history after → Follows before (Waited ms waited positions ∷ history) after
+  follows_wait before ms (Ok report) positions mid history after (order, h) k = record {
     sound = λ s. k.sound (sound_positions serves before [] positions mid s h);
-    given = subst (λ n. AreGiven n steps after.next) (next_positions serves before [] positions mid h) k.given;
+    given = subst (λ n. AreGiven n history after.next) (next_positions serves before [] positions mid h) k.given;
     gone = λ i g. k.gone i (gone_positions serves i before [] positions mid g h);
     below = λ b. k.below (below_positions serves before [] positions mid b h);
     removed = λ b. k.removed (below_positions serves before [] positions mid b h);
   }
+  follows_wait before ms (Err errno) positions mid history after (none, is) k = subst (λ r. Follows r (Waited ms (Err errno) positions ∷ history) after) is (record { sound = k.sound; given = k.given; gone = k.gone; below = k.below; removed = k.removed })
 
-  follows_steps : (before : Registry V) (steps : List (LoopStep V)) (mid : Registry V) (more : List (LoopStep V)) (after : Registry V) → AllSteps begins before steps mid → Follows mid more after → Follows before (steps ++ more) after
-  follows_steps before [] mid more after is k = subst (λ r. Follows r more after) is k
-  follows_steps before (step ∷ steps) mid more after (next, h, others) k = follows_cons before step next (steps ++ more) after h (follows_steps next steps mid more after others k)
+  history_follows : (before : Registry V) (history : List (Turn V)) (after : Registry V) → IsHistory begins serves before history after → Follows before history after
+  history_follows before [] after is = follows_none before after is
+  history_follows before (Made step ∷ history) after (mid, did, more) = follows_cons before step mid history after did (history_follows mid history after more)
+  history_follows before (Waited ms waited positions ∷ history) after (mid, did, more) = follows_wait before ms waited positions mid history after did (history_follows mid history after more)
 
-  follows_jobs : (before : ManagerState V) (jobs : List (JobRun V J R)) (mid : ManagerState V) (more : List (LoopStep V)) (after : Registry V) → AreRun begins serves may before jobs mid → Follows mid.registry more after → Follows before.registry (steps_of_jobs jobs ++ more) after
-  follows_jobs before [] mid more after is k = subst (λ (s : ManagerState V). Follows s.registry more after) is k
-  follows_jobs before (job_run ∷ jobs) mid more after (next, ticket, chosen, steps, others) k =
-      subst (λ xs. Follows before.registry xs after) (sym (append_assoc job_run.steps (steps_of_jobs jobs) more))
-      (follows_steps before.registry job_run.steps next (steps_of_jobs jobs ++ more) after steps (follows_jobs (record { registry = next; taken = before.taken + 1 }) jobs mid more after others k))
-
-  follows_wait : (before : ManagerState V) (waited : Result (List Event) Errno) (positions : List (Position V)) (jobs : List (JobRun V J R)) (mid : ManagerState V) (more : List (LoopStep V)) (after : Registry V) → IsIteration begins serves may before waited positions jobs mid → Follows mid.registry more after → Follows before.registry (steps_of_jobs jobs ++ more) after
-  follows_wait before (Ok report) positions jobs mid more after (dispatched, dispatch, idle, job_run) k =
-      follows_positions_then before.registry positions dispatched (steps_of_jobs jobs ++ more) after dispatch.1 (follows_jobs (record before { registry = dispatched }) jobs mid more after job_run k)
-  follows_wait before (Err errno) positions jobs mid more after (no_positions, no_jobs, is) k =
-      subst (λ js. Follows before.registry (steps_of_jobs js ++ more) after) (sym no_jobs) (subst (λ (s : ManagerState V). Follows s.registry more after) is k)
-
-  follows_effect : (before : ManagerState V) (effect : Effect V J R) (mid : ManagerState V) (more : List (LoopStep V)) (after : Registry V) → HasEffect begins serves may before effect mid → Follows mid.registry more after → Follows before.registry (steps_of_effect effect ++ more) after
-  follows_effect before (Stepped step) mid more after h k = follows_cons before.registry step mid.registry more after h.0 k
-  follows_effect before (Iterated iteration) mid more after h k = follows_wait before iteration.waited iteration.positions iteration.jobs mid more after h k
-
-  pub trace_follows : (before : ManagerState V) (trace : List (TraceEntry V J R)) (after : ManagerState V) → IsTrace begins serves may before trace after → Follows before.registry (steps_of trace) after.registry
-  trace_follows before [] after is = follows_none before.registry after.registry (ap (λ (s : ManagerState V). s.registry) is)
-  trace_follows before (entry ∷ trace) after (mid, made, has_effect, more) = follows_effect before entry.effect mid (steps_of trace) after.registry has_effect (trace_follows mid trace after more)
+pub trace_follows : {V J R : Type 0} (begins : Begins V) (serves : Serves V) (may : May V J R) (before : ManagerState V) (trace : List (TraceEntry V J R)) (after : ManagerState V) → IsTrace begins serves may before trace after → Follows begins serves before.registry (history_of trace) after.registry
+trace_follows begins serves may before trace after h = history_follows begins serves before.registry (history_of trace) after.registry (trace_is_history begins serves may before trace after h)
 
 -- a new manager
 pub new_is_sound : {V : Type 0} (endpoint : ℕ) → IsSound {V = V} (new_state endpoint).registry

@@ -16,7 +16,9 @@ use Rattle.event_manager.specs.declared.calls.Reply.TheVariants as reply
 use Rattle.event_loop.proofs.ExchangeLemmas.{leads_join}
 use Rattle.event_manager.proofs.Isolation.{isolated_step, isolated_delivery, left_frees}
 use Rattle.event_manager.proofs.Soundness.{trace_follows}
-use Rattle.event_manager.proofs.ProjectedTrace.{non_interference}
+use Rattle.event_manager.specs.History.{history_of}
+use Rattle.event_manager.proofs.Histories.{trace_is_history}
+use Rattle.event_manager.proofs.ProjectedHistory.{non_interference}
 
 -- call and reply of each step are those of the call that made it
 module _ {V : Type 0} (J R : Type 0) where
@@ -87,7 +89,7 @@ module _ {S J R P : Type 0} (begins : Begins S) (serves : Serves S) (may : May S
         below = (below, follows.below below);
         removed = follows.removed below;
         sound = follows.sound;
-        non_interference = non_interference begins serves may before trace after is;
+        non_interference = non_interference begins serves before.registry (history_of trace) after.registry (trace_is_history begins serves may before trace after is);
         isolated_step = λ from step onto h. isolated_step begins from step onto h;
         isolated_delivery = λ from removed event delivery onto h. isolated_delivery serves from removed event delivery onto h;
         leave_frees = λ from onto i value calls h. left_frees begins from onto i value calls h;

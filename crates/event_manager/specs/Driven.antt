@@ -2,8 +2,9 @@
 use Rattle.std.specs.Prelude.{◌≡◌, ℕ, Bool, false, List, map}
 use Rattle.event_loop.specs.Prelude.{Event, PollerCall, Controls, Waits, Leads, Begins, Serves, Registry, LoopStep, Steps, AreBelow, Left, is_id, id_of, May, Delivery, IsDelivery, ManagerState, LoopState, manager_state}
 use Rattle.event_manager.specs.Trace.{TraceEntry, IsTrace, calls_of_trace}
+use Rattle.event_manager.specs.History.{history_of}
 use Rattle.event_manager.specs.Projection.{NonInterference, receiver_of}
-use Rattle.event_manager.specs.Guarantees.{IsSound, AreGiven, RemovedStayGone, IsUntouched, FreesExactly, steps_of}
+use Rattle.event_manager.specs.Guarantees.{IsSound, AreGiven, RemovedStayGone, IsUntouched, FreesExactly}
 use Rattle.event_manager.specs.declared.calls.Call.{Call}
 use Rattle.event_manager.specs.declared.calls.Reply.{Reply}
 
@@ -18,16 +19,16 @@ module _ {S J R : Type 0} (begins : Begins S) (serves : Serves S) (may : May S J
       pub led : Leads controls waits before.poller (calls_of_trace before.capacity trace) after.poller
       pub same_capacity : after.capacity ≡ before.capacity
 
-  -- Of a trace: ids are given in order, each once; each held id is below the next, before and after; what was removed is refused
-  -- from then on; each owner is held, and the endpoint is never owned; a projection to an id that is apart is itself a trace, up to
-  -- the id's own part of the state after. Of any step, and of any event's delivery: the other ids keep their value, descriptors and
-  -- pending events; any leave frees exactly its descriptors.
+  -- Of a trace, by its history, which has the steps of its jobs: ids are given in order, each once; each held id is below the
+  -- next, before and after; what was removed is refused from then on; each owner is held, and the endpoint is never owned; a
+  -- projection to an id that is apart is itself a history, up to the id's own part of the registry after. Of any step, and of any
+  -- event's delivery: the other ids keep their value, descriptors and pending events; any leave frees exactly its descriptors.
   pub record IsGuaranteed (before : ManagerState S) (trace : List (TraceEntry S J R)) (after : ManagerState S) : Type 0 where
-    pub given : AreGiven before.registry.next (steps_of trace) after.registry.next
+    pub given : AreGiven before.registry.next (history_of trace) after.registry.next
     pub below : AreBelow before.registry.next before.registry.values × AreBelow after.registry.next after.registry.values
-    pub removed : RemovedStayGone (steps_of trace)
+    pub removed : RemovedStayGone (history_of trace)
     pub sound : IsSound before.registry → IsSound after.registry
-    pub non_interference : NonInterference begins serves may before trace after
+    pub non_interference : NonInterference begins serves before.registry (history_of trace) after.registry
     pub isolated_step : (from : Registry S) (step : LoopStep S) (onto : Registry S) → Steps begins from step onto → (j : ℕ) → is_id j (id_of step) ≡ false → IsUntouched j from onto
     pub isolated_delivery : (from : Registry S) (removed : Bool) (event : Event) (delivery : Delivery S) (onto : Registry S)
         → IsDelivery serves from removed event delivery onto → (j : ℕ) → is_id j (receiver_of delivery) ≡ false → IsUntouched j from onto

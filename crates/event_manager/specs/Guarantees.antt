@@ -1,10 +1,10 @@
 -- What users rely on, of every trace.
 use Rattle.std.specs.Prelude.{◌≡◌, ◌≢◌, ℕ, ◌+◌, List, [], ◌∷◌, filter, None, IfSome, if◌then◌else◌, Ok, Err}
-use Rattle.std.specs.List.{AllZip, flat_map}
+use Rattle.std.specs.List.{AllZip}
 use Rattle.std.specs.FinMap as map
-use Rattle.event_loop.specs.Prelude.{Event, owner_of, Registrations, Owns, IsFree, Registry, LoopStep, Joined, Left, Refused, HasId, is_id, id_of}
+use Rattle.event_loop.specs.Prelude.{Event, owner_of, Registrations, Owns, IsFree, Registry, Joined, Left, Refused, HasId, is_id, id_of}
 use Rattle.event_loop.specs.declared.error.Error.TheVariants.{InvalidId}
-use Rattle.event_manager.specs.Trace.{Effect, Stepped, Iterated, TraceEntry}
+use Rattle.event_manager.specs.History.{Turn, Made, Waited}
 use Rattle.event_manager.specs.Projection.{owned_by}
 use Rattle.event_manager.specs.declared.calls.Call.{Call}
 use Rattle.event_manager.specs.declared.calls.Call.TheVariants as call
@@ -27,31 +27,24 @@ pub record IsSound {V : Type 0} (registry : Registry V) : Type 0 where
   pub owners : (fd : ℕ) (i : ℕ) → Owns i registry.registrations fd → (value : V) × HasId registry i value
   pub endpoint_free : IsFree registry.registrations registry.registrations.endpoint
 
--- all steps of a trace, those of its jobs too
-abbrev pub steps_of_effect : {V J R : Type 0} → Effect V J R → List (LoopStep V)
-steps_of_effect (Stepped step) = step ∷ []
-steps_of_effect (Iterated iteration) = flat_map (λ job_run. job_run.steps) iteration.jobs
-
-abbrev pub steps_of : {V J R : Type 0} → List (TraceEntry V J R) → List (LoopStep V)
-steps_of trace = flat_map (λ entry. steps_of_effect entry.effect) trace
-
 -- the ids that joins gave are the numbers from the first up to the last, in order, each once
-abbrev pub AreGiven : {V : Type 0} → ℕ → List (LoopStep V) → ℕ → Type 0
+abbrev pub AreGiven : {V : Type 0} → ℕ → List (Turn V) → ℕ → Type 0
 AreGiven first [] last = last ≡ first
-AreGiven first (Joined value id exchanges calls held ∷ steps) last = (id ≡ first) × AreGiven (first + 1) steps last
-AreGiven first (step ∷ steps) last = AreGiven first steps last
+AreGiven first (Made (Joined value id exchanges calls held) ∷ history) last = (id ≡ first) × AreGiven (first + 1) history last
+AreGiven first (turn ∷ history) last = AreGiven first history last
 
 -- the steps name i only where they are refused
-abbrev pub AreRefusedTo : {V : Type 0} → ℕ → List (LoopStep V) → Type 0
+abbrev pub AreRefusedTo : {V : Type 0} → ℕ → List (Turn V) → Type 0
 AreRefusedTo i [] = Unit {0}
-AreRefusedTo i (Refused id ∷ steps) = AreRefusedTo i steps
-AreRefusedTo i (step ∷ steps) = IfSome (id_of step) (λ id. id ≢ i) × AreRefusedTo i steps
+AreRefusedTo i (Made (Refused id) ∷ history) = AreRefusedTo i history
+AreRefusedTo i (Made step ∷ history) = IfSome (id_of step) (λ id. id ≢ i) × AreRefusedTo i history
+AreRefusedTo i (Waited ms waited positions ∷ history) = AreRefusedTo i history
 
 -- who left is refused in the steps that follow
-abbrev pub RemovedStayGone : {V : Type 0} → List (LoopStep V) → Type 0
+abbrev pub RemovedStayGone : {V : Type 0} → List (Turn V) → Type 0
 RemovedStayGone [] = Unit {0}
-RemovedStayGone (Left id value calls ∷ steps) = AreRefusedTo id steps × RemovedStayGone steps
-RemovedStayGone (step ∷ steps) = RemovedStayGone steps
+RemovedStayGone (Made (Left id value calls) ∷ history) = AreRefusedTo id history × RemovedStayGone history
+RemovedStayGone (turn ∷ history) = RemovedStayGone history
 
 -- By its reply id i is unknown at the call: one of that id is refused with InvalidId, and no join is given it.
 abbrev pub IsUnknown : {V : Type 0} → ℕ → Call V → Reply V → Type 0

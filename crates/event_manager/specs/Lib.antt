@@ -45,6 +45,9 @@ pub mod Endpoint
 pub mod JobRuns
 pub mod SingleCall
 pub mod Driven
+pub mod History
+pub mod TraceProjection
+pub mod Life
 pub use Rattle.event_loop.specs.declared.boxed_subscriber.StepInput
 pub use Rattle.event_loop.specs.declared.error.Error
 pub use Rattle.event_loop.specs.declared.events.Request

@@ -16,11 +16,15 @@ ghost use Rattle.event_loop.specs.Dispatch.{Position, Delivery, is_removed, stil
 ghost use Rattle.event_loop.specs.Iteration.{ManagerState};
 ghost use Rattle.event_manager.specs.Trace.{TraceEntry, HasEffect, IsTrace, new_state};
 ghost use Rattle.event_manager.specs.Projection.{NonInterference, receiver_of};
-ghost use Rattle.event_manager.specs.Guarantees.{AreGiven, steps_of, RemovedStayGone, RemovedStayUnknown, IsSound, IsUntouched, FreesExactly};
+ghost use Rattle.event_manager.specs.Guarantees.{AreGiven, RemovedStayGone, RemovedStayUnknown, IsSound, IsUntouched, FreesExactly};
 ghost use Rattle.event_loop.specs.LoopState.{LoopState};
 ghost use Rattle.event_manager.specs.declared.calls.Call.{Call};
 ghost use Rattle.event_manager.specs.declared.calls.Reply.{Reply};
 ghost use Rattle.event_manager.specs.Driven.{IsDriven};
+ghost use Rattle.event_manager.specs.History.{Turn, IsHistory, history_of};
+ghost use Rattle.event_manager.specs.TraceProjection.{TracesProject};
+ghost use Rattle.event_manager.specs.Life.{Lives, life_of};
+ghost use Rattle.std.specs.FinMap.{get};
 ghost use Rattle.event_manager.specs.WakeUps.{WakeState, AreSteps, NoJobWaitsUnheard, new_wake_state};
 ghost use Rattle.event_manager.specs.Example.{any_begins, any_serves, any_may, joins, iterates};
 ghost use Rattle.dispatch_tables.specs.Ownership.{class_in};
@@ -48,12 +52,27 @@ pub enum WakeStep<J> {
     Close,
 }
 
-/// Non-interference: of a trace in which no job ran, a projection to each id that is apart from its neighbours (no
-/// other id owns at the start, or adds with success, a descriptor that the id owns at the start or asks to add) is
-/// itself a trace, with the same replies to that id, the same deliveries and exchanges, and the same value at the end.
+/// Non-interference: each trace, with the steps of its jobs, is a history of its registry; two histories in a row are one; and of
+/// a history, a projection to each id that is apart from its neighbours (no other id owns at the start, or adds with success, a
+/// descriptor that the id owns at the start or asks to add) is itself a history, with the same steps for that id, the same waits,
+/// the same deliveries and exchanges, and the same value at the end. Of a trace in which no job ran there is such a projection with
+/// its calls and replies.
 pub fn non_interference<S: MutEventSubscriber, J: Job<S>>()
-    ensures { (before : ManagerState S) (trace : List (TraceEntry S J J.Reply)) (after : ManagerState S) →
-        IsTrace S.begins S.serves J.may before trace after → NonInterference S.begins S.serves J.may before trace after }
+    ensures traces { (before : ManagerState S) (trace : List (TraceEntry S J J.Reply)) (after : ManagerState S) →
+        IsTrace S.begins S.serves J.may before trace after → IsHistory S.begins S.serves before.registry (history_of trace) after.registry }
+    ensures joined { (before : Registry S) (history : List (Turn S)) (between : Registry S) (more : List (Turn S)) (after : Registry S) →
+        IsHistory S.begins S.serves before history between → IsHistory S.begins S.serves between more after → IsHistory S.begins S.serves before (history ++ more) after }
+    ensures projected { (before : Registry S) (history : List (Turn S)) (after : Registry S) →
+        IsHistory S.begins S.serves before history after → NonInterference S.begins S.serves before history after }
+    ensures without_jobs { (before : ManagerState S) (trace : List (TraceEntry S J J.Reply)) (after : ManagerState S) →
+        IsTrace S.begins S.serves J.may before trace after → TracesProject S.begins S.serves J.may before trace after }
+{}
+
+/// What happens to one id in a history is a life of its own: the value that it holds at the end comes from the one at the start by
+/// the joins, deliveries, replacements and leaves of that id alone, each as the subscriber's relations say.
+pub fn lives_are_its_own<S: MutEventSubscriber>()
+    ensures { (i : ℕ) (before : Registry S) (history : List (Turn S)) (after : Registry S) →
+        IsHistory S.begins S.serves before history after → Lives S.begins S.serves (get before.values i) (life_of i history) (get after.values i) }
 {}
 
 /// In every trace the ids that joins give follow each other from the next id on, each once; and where each held id is below
@@ -61,9 +80,9 @@ pub fn non_interference<S: MutEventSubscriber, J: Job<S>>()
 /// alone, each later call of an id that a call removed is answered `InvalidId`.
 pub fn ids_are_given_once<S: MutEventSubscriber, J: Job<S>>()
     ensures given { (before : ManagerState S) (trace : List (TraceEntry S J J.Reply)) (after : ManagerState S) →
-        IsTrace S.begins S.serves J.may before trace after → AreGiven before.registry.next (steps_of trace) after.registry.next }
+        IsTrace S.begins S.serves J.may before trace after → AreGiven before.registry.next (history_of trace) after.registry.next }
     ensures removed { (before : ManagerState S) (trace : List (TraceEntry S J J.Reply)) (after : ManagerState S) →
-        IsTrace S.begins S.serves J.may before trace after → AreBelow before.registry.next before.registry.values → RemovedStayGone (steps_of trace) }
+        IsTrace S.begins S.serves J.may before trace after → AreBelow before.registry.next before.registry.values → RemovedStayGone (history_of trace) }
     ensures unknown { (before : ManagerState S) (trace : List (TraceEntry S J J.Reply)) (after : ManagerState S) →
         IsTrace S.begins S.serves J.may before trace after → AreBelow before.registry.next before.registry.values →
         RemovedStayUnknown (map (λ entry. entry.call) trace) (map (λ entry. entry.reply) trace) }
