@@ -1,16 +1,18 @@
 //! The lines of a script, made one after another: a call at most, and what it answers is printed.
 
-ghost use Rattle.std.specs.Prelude.{◌≡◌, [], ◌∷◌, IfErr, OnOk, slice_get};
+ghost use Rattle.std.specs.Prelude.{◌≡◌, ℕ, List, Option, [], ◌∷◌, IfErr, OnOk, slice_get};
 ghost use Rattle.std.specs.Option.{option_flatten};
 ghost use Rattle.std.specs.Vec.Iter.{into_iter_items};
 ghost use Rattle.event_manager.specs.Manager.{state_of};
 ghost use Rattle.evloop.specs.Lines.{IsFaultOfLine, IsLineRun, IsRun, TakesNext, done_of};
 ghost use Rattle.evloop_script.specs.Printed.{written_by};
+ghost use Rattle.evloop_script.specs.declared.script.Call.TheVariants.{Join, Ask, Leave, Run};
 
 use crate::calls::make_call;
 use event_manager::laws::driven_lists_join;
 use event_manager::{
-    Call, Error, EventManager, EventPoller, Job, NamedCounter, Reply, SubscriberId, SubscriberOps,
+    Call, Error, EventManager, EventPoller, Job, NamedCounter, Reply, Request, SubscriberId,
+    SubscriberOps,
 };
 use evloop_script::fault::Fault;
 use evloop_script::output::{Out, OutputLine, Printer};
@@ -50,6 +52,133 @@ fn done<T: Drop>(answer: Result<T, Error>) -> Result<(), Error>
     }
 }
 
+// A subscriber joins.
+fn make_join<'a, R, O, J, N, P>(
+    rt: &R,
+    alloc: Global,
+    manager: &mut EventManager<Subscriber<'a, O>, J, N, P>,
+    name: &'a str,
+    requests: Vec<Request>,
+    ids: &mut Vec<Option<SubscriberId>>,
+    reactions: &mut IntoIter<Reactions>,
+    printer: &mut Printer<O>,
+) -> Result<(), Fault>
+where
+    R: Wait + Clock,
+    O: Out + Drop,
+    J: Job<Subscriber<'a, O>>,
+    N: NamedCounter,
+    P: EventPoller,
+    ensures made { IsLineRun J.may P.controls P.waits
+        (record { ids = ids.old.items; reactions = into_iter_items reactions.old; written = written_by O.contents printer.old }) (Join name.entry requests) result
+        (record { ids = ids.new.items; reactions = into_iter_items reactions.new; written = written_by O.contents printer.new }) (state_of manager.old) (state_of manager.new) }
+    ensures faults { IfErr result IsFaultOfLine }
+{
+    let own = next_of(alloc, reactions);
+    let subscriber = Subscriber::new(name, requests, own, printer.try_clone(alloc)?);
+    let Reply::Added(answer) = make_call(rt, alloc, manager, Call::Add(subscriber))? else {
+        unreachable!()
+    };
+    printer.print(&OutputLine::Joined { name, answer })?;
+    Ok(ids.push(answer.ok())?)
+}
+
+// Requests are made under the id of a join.
+fn make_ask<'a, R, O, J, N, P>(
+    rt: &R,
+    alloc: Global,
+    manager: &mut EventManager<Subscriber<'a, O>, J, N, P>,
+    name: &'a str,
+    ids: &[Option<SubscriberId>],
+    join: usize,
+    requests: Vec<Request>,
+    printer: &mut Printer<O>,
+) -> Result<(), Fault>
+where
+    R: Wait + Clock,
+    O: Out + Drop,
+    J: Job<Subscriber<'a, O>>,
+    N: NamedCounter,
+    P: EventPoller,
+    ensures made { (reactions : List Reactions) → IsLineRun J.may P.controls P.waits
+        (record { ids = ids.now; reactions = reactions; written = written_by O.contents printer.old }) (Ask name.entry join requests) result
+        (record { ids = ids.now; reactions = reactions; written = written_by O.contents printer.new }) (state_of manager.old) (state_of manager.new) }
+    ensures faults { IfErr result IsFaultOfLine }
+{
+    // Its contract says that each held id is below the next.
+    let _next = manager.next_id();
+    let Some(id) = id_of(ids, join) else {
+        let error = Error::InvalidId;
+        return printer.print(&OutputLine::AskRefused { name, error });
+    };
+    let asked = requests.clone()?;
+    match make_call(rt, alloc, manager, Call::Ask(id, requests))? {
+        Reply::Asked(Ok(answers)) => {
+            print_replies(name, &asked, &answers, printer);
+            Ok(())
+        }
+        Reply::Asked(Err(error)) => printer.print(&OutputLine::AskRefused { name, error }),
+        _ => unreachable!(),
+    }
+}
+
+// The subscriber of a join leaves.
+fn make_leave<'a, R, O, J, N, P>(
+    rt: &R,
+    alloc: Global,
+    manager: &mut EventManager<Subscriber<'a, O>, J, N, P>,
+    name: &'a str,
+    ids: &[Option<SubscriberId>],
+    join: usize,
+    printer: &mut Printer<O>,
+) -> Result<(), Fault>
+where
+    R: Wait + Clock,
+    O: Out + Drop,
+    J: Job<Subscriber<'a, O>>,
+    N: NamedCounter,
+    P: EventPoller,
+    ensures made { (reactions : List Reactions) → IsLineRun J.may P.controls P.waits
+        (record { ids = ids.now; reactions = reactions; written = written_by O.contents printer.old }) (Leave name.entry join) result
+        (record { ids = ids.now; reactions = reactions; written = written_by O.contents printer.new }) (state_of manager.old) (state_of manager.new) }
+    ensures faults { IfErr result IsFaultOfLine }
+{
+    let _next = manager.next_id();
+    let Some(id) = id_of(ids, join) else {
+        let answer = Err(Error::InvalidId);
+        return printer.print(&OutputLine::Left { name, answer });
+    };
+    let Reply::Removed(left) = make_call(rt, alloc, manager, Call::Remove(id))? else {
+        unreachable!()
+    };
+    let answer = done(left);
+    printer.print(&OutputLine::Left { name, answer })
+}
+
+// The loop runs once.
+fn make_run<'a, R, O, J, N, P>(
+    rt: &R,
+    alloc: Global,
+    manager: &mut EventManager<Subscriber<'a, O>, J, N, P>,
+    printer: &mut Printer<O>,
+) -> Result<(), Fault>
+where
+    R: Wait + Clock,
+    O: Out + Drop,
+    J: Job<Subscriber<'a, O>>,
+    N: NamedCounter,
+    P: EventPoller,
+    ensures made { (ids : List (Option ℕ)) (reactions : List Reactions) → IsLineRun J.may P.controls P.waits
+        (record { ids = ids; reactions = reactions; written = written_by O.contents printer.old }) Run result
+        (record { ids = ids; reactions = reactions; written = written_by O.contents printer.new }) (state_of manager.old) (state_of manager.new) }
+    ensures faults { IfErr result IsFaultOfLine }
+{
+    let Reply::Ran(answer) = make_call(rt, alloc, manager, Call::Run(-1))? else {
+        unreachable!()
+    };
+    printer.print(&OutputLine::Ran { answer })
+}
+
 // Makes one line.
 fn make_line<'a, R, O, J, N, P>(
     rt: &R,
@@ -71,54 +200,17 @@ where
         (record { ids = ids.new.items; reactions = into_iter_items reactions.new; written = written_by O.contents printer.new }) (state_of manager.old) (state_of manager.new) }
     ensures faults { IfErr result IsFaultOfLine }
 {
-    // Its contract says that each held id is below the next.
-    let _next = manager.next_id();
     match line {
         Line::Join { name, requests } => {
-            let own = next_of(alloc, reactions);
-            let subscriber = Subscriber::new(name, requests, own, printer.try_clone(alloc)?);
-            let Reply::Added(answer) = make_call(rt, alloc, manager, Call::Add(subscriber))? else {
-                unreachable!()
-            };
-            printer.print(&OutputLine::Joined { name, answer })?;
-            Ok(ids.push(answer.ok())?)
+            make_join(rt, alloc, manager, name, requests, ids, reactions, printer)
         }
         Line::Ask {
             name,
             join,
             requests,
-        } => {
-            let Some(id) = id_of(ids, join) else {
-                let error = Error::InvalidId;
-                return printer.print(&OutputLine::AskRefused { name, error });
-            };
-            let asked = requests.clone()?;
-            match make_call(rt, alloc, manager, Call::Ask(id, requests))? {
-                Reply::Asked(Ok(answers)) => {
-                    print_replies(name, &asked, &answers, printer);
-                    Ok(())
-                }
-                Reply::Asked(Err(error)) => printer.print(&OutputLine::AskRefused { name, error }),
-                _ => unreachable!(),
-            }
-        }
-        Line::Leave { name, join } => {
-            let Some(id) = id_of(ids, join) else {
-                let answer = Err(Error::InvalidId);
-                return printer.print(&OutputLine::Left { name, answer });
-            };
-            let Reply::Removed(left) = make_call(rt, alloc, manager, Call::Remove(id))? else {
-                unreachable!()
-            };
-            let answer = done(left);
-            printer.print(&OutputLine::Left { name, answer })
-        }
-        Line::Run => {
-            let Reply::Ran(answer) = make_call(rt, alloc, manager, Call::Run(-1))? else {
-                unreachable!()
-            };
-            printer.print(&OutputLine::Ran { answer })
-        }
+        } => make_ask(rt, alloc, manager, name, ids, join, requests, printer),
+        Line::Leave { name, join } => make_leave(rt, alloc, manager, name, ids, join, printer),
+        Line::Run => make_run(rt, alloc, manager, printer),
     }
 }
 
