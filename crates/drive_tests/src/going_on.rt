@@ -3,12 +3,11 @@
 ghost use Rattle.event_manager.specs.EventLoop.{seen_of};
 ghost use Rattle.event_manager.specs.Manager.{state_of};
 ghost use Rattle.event_manager.specs.Kept.{AllGoOn, HeldGoOn};
-ghost use Rattle.event_loop.specs.Registry.{AreBelow};
 ghost use Rattle.drive_tests.specs.Meters.{no_less};
 
 use event_manager::{
     Action, ActionOn, EventLoop, EventManager, EventOps, EventPoller, Events, MutEventSubscriber,
-    NamedCounter, Result,
+    NamedCounter, Result, SubscriberOps,
 };
 use std::sync::Wait;
 use std::time::Clock;
@@ -68,7 +67,9 @@ pub fn run_manager<N: NamedCounter, P: EventPoller, R: Wait + Clock>(
     meters: &mut EventManager<Meter, ActionOn<Advance>, N, P>,
     rt: &R,
 ) -> Result<usize>
-    ensures { AreBelow (state_of meters.old).registry.next (state_of meters.old).registry.values → HeldGoOn no_less (state_of meters.old).registry (state_of meters.new).registry }
+    ensures { HeldGoOn no_less (state_of meters.old).registry (state_of meters.new).registry }
 {
+    // Its contract says that each held id is below the next.
+    let _next = meters.next_id();
     meters.run_with_timeout(0, rt)
 }
