@@ -1,6 +1,6 @@
 -- What each service of a subscriber keeps, a run of a loop keeps: for contracts of one's own, whose relation between values is a
 -- parameter here. It is reflexive and transitive, and each service has it.
-use Rattle.std.proofs.Common.{◌≡◌, ◌<◌, ℕ, ◌+◌, ℤ, refl, sym, ◌∙◌, ap, subst, arith, inl, inr, Some, None, Option, map, List, [], ◌∷◌, ◌++◌, append_assoc, Ok, Err, Result, lt_irrefl, All}
+use Rattle.std.proofs.Common.{◌≡◌, ◌<◌, ℕ, ◌+◌, ℤ, Bool, refl, sym, ◌∙◌, ap, subst, arith, inl, inr, Some, None, Option, map, List, [], ◌∷◌, ◌++◌, append_assoc, Ok, Err, Result, lt_irrefl, All}
 use Rattle.std.specs.FinMap.{get}
 use Rattle.std.specs.List.{flat_map}
 use Rattle.std.proofs.lemmas.Bool.Decides.{eqb_tells}
@@ -76,7 +76,7 @@ module _ {V : Type 0} (begins : Begins V) (serves : Serves V) (goes : V → V �
   none_comes : (life : List (LifeStep V)) (last : Option V) → IsStead goes life → Lives begins serves None life last → last ≡ None
   none_comes [] last stead is = is
   none_comes (Begun value exchanges held ∷ life) last stead lives = absurd stead
-  none_comes (Served event exchanges held ∷ life) last stead (value, is, more) = let no : ⊥ = cc in absurd no
+  none_comes (Served event exchanges held ∷ life) last stead (value, is, serving, more) = let no : ⊥ = cc in absurd no
   none_comes (Changed old new ∷ life) last stead (is, more) = let no : ⊥ = cc in absurd no
   none_comes (Ended value ∷ life) last stead (is, more) = let no : ⊥ = cc in absurd no
 
@@ -113,10 +113,10 @@ module _ {V : Type 0} (begins : Begins V) (serves : Serves V) (goes : V → V �
   one_goes_on before removed event Nobody after is id v has = (v, subst (λ r. HasId r id v) (sym is.1) has, same v)
   one_goes_on before removed event (To i exchanges calls held) after (value, registrations, owner, serving, fits, is) id v has = elim (eqb_tells id i) [
     | inl t ↦
-      let at : get before.values i ≡ Some v = ap (get before.values) (sym t.1) ∙ has in
-      let s : Some value ≡ Some v = sym owner.2 ∙ at in
-      let is_it : value ≡ v = cc in
-      (held, subst (λ r. HasId r id held) (sym is) (inserted_at i id before.values held (sym t.1)), subst (λ u. goes u held) is_it (served value event exchanges held serving))
+        let at : get before.values i ≡ Some v = ap (get before.values) (sym t.1) ∙ has in
+        let s : Some value ≡ Some v = sym owner.2 ∙ at in
+        let is_it : value ≡ v = cc in
+        (held, subst (λ r. HasId r id held) (sym is) (inserted_at i id before.values held (sym t.1)), subst (λ u. goes u held) is_it (served value event exchanges held serving))
     | inr t ↦ (v, subst (λ r. HasId r id v) (sym is) (insert_other_value i id before.values held t.1 ∙ has), same v)
   ]
 
