@@ -3,6 +3,7 @@
 
 #[cfg(test)]
 mod expecting;
+pub mod going_on;
 pub mod leaving;
 #[cfg(test)]
 mod lists;

@@ -23,7 +23,7 @@ module _ {V J R : Type 0} (begins : Begins V) (serves : Serves V) (may : May V J
       (steps_history begins serves before.registry job_run.steps mid steps)
       (jobs_history (record { registry = mid; taken = before.taken + 1 }) jobs after more)
 
-  wait_history : (before : ManagerState V) (ms : _) (waited : Result (List Event) Errno) (positions : List (Position V)) (jobs : List (JobRun V J R)) (after : ManagerState V) → IsIteration begins serves may before waited positions jobs after
+  pub wait_history : (before : ManagerState V) (ms : _) (waited : Result (List Event) Errno) (positions : List (Position V)) (jobs : List (JobRun V J R)) (after : ManagerState V) → IsIteration begins serves may before waited positions jobs after
       → IsHistory begins serves before.registry (Waited ms waited positions ∷ flat_map (λ job_run. map Made job_run.steps) jobs) after.registry
   wait_history before ms (Ok report) positions jobs after (mid, dispatch, none, ran) = (mid, dispatch, jobs_history (record before { registry = mid }) jobs after ran)
   wait_history before ms (Err errno) positions jobs after (no_positions, none, e) = rw none (before.registry, (no_positions, refl), ap (λ (s : ManagerState V). s.registry) e)

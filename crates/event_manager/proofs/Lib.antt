@@ -21,5 +21,6 @@ pub mod Histories
 pub mod ProjectedHistory
 pub mod TracesWithoutJobs
 pub mod Lives
+pub mod Kept
 pub use Rattle.event_loop.proofs.ExchangeLemmas
 pub use Rattle.event_loop.proofs.RequestsSoFar

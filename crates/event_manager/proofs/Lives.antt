@@ -14,7 +14,7 @@ module _ {V : Type 0} where
   inserted_value : (k : ℕ) (values : FinMap nat_cmp V) (v : V) → get (insert values k v) k ≡ Some v
   inserted_value k values v = get-insert nat_cmp_total values k v k ∙ ap (λ r. cond (is_eq r) (Some v) (get values k)) (sym (nat_cmp_is k k Equal refl))
 
-  inserted_at : (k i : ℕ) (values : FinMap nat_cmp V) (v : V) → k ≡ i → get (insert values k v) i ≡ Some v
+  pub inserted_at : (k i : ℕ) (values : FinMap nat_cmp V) (v : V) → k ≡ i → get (insert values k v) i ≡ Some v
   inserted_at k i values v e = subst (λ j. get (insert values k v) j ≡ Some v) e (inserted_value k values v)
 
   removed_at : (k i : ℕ) (values : FinMap nat_cmp V) → k ≡ i → get (remove values k) i ≡ None

@@ -290,7 +290,7 @@ module _ {V : Type 0} (begins : Begins V) (serves : Serves V) where
   }
   follows_wait before ms (Err errno) positions mid history after (none, is) k = subst (λ r. Follows r (Waited ms (Err errno) positions ∷ history) after) is (record { sound = k.sound; given = k.given; gone = k.gone; below = k.below; removed = k.removed })
 
-  history_follows : (before : Registry V) (history : List (Turn V)) (after : Registry V) → IsHistory begins serves before history after → Follows before history after
+  pub history_follows : (before : Registry V) (history : List (Turn V)) (after : Registry V) → IsHistory begins serves before history after → Follows before history after
   history_follows before [] after is = follows_none before after is
   history_follows before (Made step ∷ history) after (mid, did, more) = follows_cons before step mid history after did (history_follows mid history after more)
   history_follows before (Waited ms waited positions ∷ history) after (mid, did, more) = follows_wait before ms waited positions mid history after did (history_follows mid history after more)

@@ -48,6 +48,7 @@ pub mod Driven
 pub mod History
 pub mod TraceProjection
 pub mod Life
+pub mod Kept
 pub use Rattle.event_loop.specs.declared.boxed_subscriber.StepInput
 pub use Rattle.event_loop.specs.declared.error.Error
 pub use Rattle.event_loop.specs.declared.events.Request

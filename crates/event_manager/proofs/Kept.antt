@@ -1,0 +1,139 @@
+-- What each service of a subscriber keeps, a run of a loop keeps: for contracts of one's own, whose relation between values is a
+-- parameter here. It is reflexive and transitive, and each service has it.
+use Rattle.std.proofs.Common.{◌≡◌, ◌<◌, ℕ, ◌+◌, ℤ, Bool, refl, sym, ◌∙◌, ap, subst, arith, inl, inr, Some, None, Option, map, List, [], ◌∷◌, ◌++◌, append_assoc, Ok, Err, Result, lt_irrefl, All}
+use Rattle.std.specs.FinMap.{get}
+use Rattle.std.specs.List.{flat_map}
+use Rattle.std.proofs.lemmas.Bool.Decides.{eqb_tells}
+use Rattle.std.proofs.lemmas.List.Elements.{All-nil, All-cons, All-head, All-tail}
+use Rattle.std.proofs.lemmas.List.Concat.{flat_map-append}
+use Rattle.vmm_sys.specs.declared.errno.Errno.{Errno}
+use Rattle.event_loop.specs.declared.error.Error.{Error}
+use Rattle.event_loop.specs.Prelude.{Event, Exchanges, Begins, Serves, Controls, Waits, Registry, LoopStep, Joined, NotJoined, Left, Replaced, Requested, Refused, HasId, AreBelow, May, Delivery, Nobody, To, Position, with_pending, still_pending, events_of, is_removed, IsDelivery, AreDispatched, ManagerState, manager_state, JobRun, IsIteration, AreRun, LoopState, no_job, IsLoopIteration}
+use Rattle.event_manager.specs.History.{Turn, Made, Waited, IsHistory}
+use Rattle.event_manager.specs.Guarantees.{AreGiven}
+use Rattle.event_manager.specs.Life.{LifeStep, Begun, Served, Changed, Ended, Lives, life_of_step, life_of_delivery, life_of_turn, life_of}
+use Rattle.event_manager.specs.Actions.{IsDoneTo}
+use Rattle.event_manager.specs.Kept.{AllGoOn, HeldGoOn, StepGoesOn, JobsGoOn}
+use Rattle.event_manager.proofs.Isolation.{insert_other_value}
+use Rattle.event_manager.proofs.Histories.{wait_history}
+use Rattle.event_manager.proofs.Soundness.{history_follows}
+use Rattle.event_manager.proofs.Lives.{inserted_at, history_lives}
+
+module _ {V : Type 0} (goes : V → V → Type 0) where
+  -- of jobs that do an action to one subscriber
+  pub actions_go_on : {A T J : Type 0} (does : A → V → T → V → Type 0) (id_of : J → ℕ) (action_of : J → A) → ((action : A) (old : V) (reply : T) (new : V) → does action old reply new → goes old new)
+      → JobsGoOn goes (λ (job : J) steps reply. IsDoneTo does (id_of job) (action_of job) steps reply)
+  actions_go_on does id_of action_of keeps job steps (Ok reply) (old, new, is, did) = rw is (All-cons (StepGoesOn goes) (Replaced (id_of job) old new) [] (keeps (action_of job) old reply new did) (All-nil (StepGoesOn goes)))
+  actions_go_on does id_of action_of keeps job steps (Err error) (is, unknown) = rw is (All-cons (StepGoesOn goes) (Refused (id_of job)) [] tt (All-nil (StepGoesOn goes)))
+
+  -- nobody joins in the life, and each value that takes another's place goes on from it
+  abbrev IsStead : List (LifeStep V) → Type 0
+  IsStead [] = Unit {0}
+  IsStead (Begun value exchanges held ∷ life) = ⊥
+  IsStead (Served event exchanges held ∷ life) = IsStead life
+  IsStead (Changed old new ∷ life) = goes old new × IsStead life
+  IsStead (Ended value ∷ life) = IsStead life
+
+  module _ (i : ℕ) where
+    delivery_stead : (event : Event) (delivery : Delivery V) (more : List (LifeStep V)) → IsStead more → IsStead (life_of_delivery i event delivery ++ more)
+    delivery_stead event Nobody more h = h
+    delivery_stead event (To id exchanges calls held) more h = elim (eqb_tells id i) [ inl t ↦ rw t.0 h | inr t ↦ rw t.0 h ]
+
+    positions_stead : (positions : List (Position V)) (more : List (LifeStep V)) → IsStead more → IsStead (flat_map (λ position. life_of_delivery i position.event position.delivery) positions ++ more)
+    positions_stead [] more h = h
+    positions_stead (position ∷ positions) more h =
+        let rest = flat_map (λ (position : Position V). life_of_delivery i position.event position.delivery) positions in
+        subst IsStead (sym (append_assoc (life_of_delivery i position.event position.delivery) rest more))
+        (delivery_stead position.event position.delivery (rest ++ more) (positions_stead positions more h))
+
+    -- of steps that give ids from the first on, which is above i
+    steps_stead : (first : ℕ) (steps : List (LoopStep V)) (more : List (Turn V)) (last : ℕ) → i < first → All (StepGoesOn goes) steps → AreGiven first (map Made steps ++ more) last
+        → ((next : ℕ) → i < next → AreGiven next more last → IsStead (life_of i more)) → IsStead (life_of i (map Made steps ++ more))
+    steps_stead first [] more last below go given rest = rest first below given
+    steps_stead first (Joined value id exchanges calls held ∷ steps) more last below go (is, given) rest = elim (eqb_tells id i) [
+      | inl t ↦ absurd (lt_irrefl i (subst (λ k. i < k) (sym is ∙ t.1) below))
+      | inr t ↦ rw t.0 (steps_stead (first + 1) steps more last (omega (arith, below)) (All-tail (StepGoesOn goes) (Joined value id exchanges calls held) steps go) given rest)
+    ]
+    steps_stead first (NotJoined value error ∷ steps) more last below go given rest = steps_stead first steps more last below (All-tail (StepGoesOn goes) (NotJoined value error) steps go) given rest
+    steps_stead first (Left id value calls ∷ steps) more last below go given rest =
+        let k = steps_stead first steps more last below (All-tail (StepGoesOn goes) (Left id value calls) steps go) given rest in
+        elim (eqb_tells id i) [ inl t ↦ rw t.0 k | inr t ↦ rw t.0 k ]
+    steps_stead first (Replaced id old new ∷ steps) more last below go given rest =
+        let k = steps_stead first steps more last below (All-tail (StepGoesOn goes) (Replaced id old new) steps go) given rest in
+        elim (eqb_tells id i) [ inl t ↦ rw t.0 (All-head (StepGoesOn goes) (Replaced id old new) steps go, k) | inr t ↦ rw t.0 k ]
+    steps_stead first (Requested id exchanges calls ∷ steps) more last below go given rest = steps_stead first steps more last below (All-tail (StepGoesOn goes) (Requested id exchanges calls) steps go) given rest
+    steps_stead first (Refused id ∷ steps) more last below go given rest = steps_stead first steps more last below (All-tail (StepGoesOn goes) (Refused id) steps go) given rest
+
+    jobs_stead : {J R : Type 0} (begins : Begins V) (serves : Serves V) (may : May V J R) → JobsGoOn goes may → (before : ManagerState V) (jobs : List (JobRun V J R)) (after : ManagerState V) → AreRun begins serves may before jobs after
+        → (first last : ℕ) → i < first → AreGiven first (flat_map (λ job_run. map Made job_run.steps) jobs) last → IsStead (life_of i (flat_map (λ job_run. map Made job_run.steps) jobs))
+    jobs_stead begins serves may go before [] after is first last below given = tt
+    jobs_stead begins serves may go before (job_run ∷ jobs) after (mid, ticket, chosen, steps, more) first last below given =
+        steps_stead first job_run.steps (flat_map (λ job_run. map Made job_run.steps) jobs) last below (go job_run.job job_run.steps job_run.reply chosen) given
+        (λ next under given. jobs_stead begins serves may go (record { registry = mid; taken = before.taken + 1 }) jobs after more next last under given)
+
+module _ {V : Type 0} (begins : Begins V) (serves : Serves V) (goes : V → V → Type 0) (same : (v : V) → goes v v) (both : (u v w : V) → goes u v → goes v w → goes u w)
+    (served : (v : V) (event : Event) (exchanges : Exchanges) (w : V) → serves v event exchanges w → goes v w) where
+  none_comes : (life : List (LifeStep V)) (last : Option V) → IsStead goes life → Lives begins serves None life last → last ≡ None
+  none_comes [] last stead is = is
+  none_comes (Begun value exchanges held ∷ life) last stead lives = absurd stead
+  none_comes (Served event exchanges held ∷ life) last stead (value, is, serving, more) = let no : ⊥ = cc in absurd no
+  none_comes (Changed old new ∷ life) last stead (is, more) = let no : ⊥ = cc in absurd no
+  none_comes (Ended value ∷ life) last stead (is, more) = let no : ⊥ = cc in absurd no
+
+  life_goes_on : (v : V) (life : List (LifeStep V)) (w : V) → IsStead goes life → Lives begins serves (Some v) life (Some w) → goes v w
+  life_goes_on v [] w stead is = let e : w ≡ v = cc in subst (λ x. goes v x) (sym e) (same v)
+  life_goes_on v (Begun value exchanges held ∷ life) w stead lives = absurd stead
+  life_goes_on v (Served event exchanges held ∷ life) w stead (value, is, serving, more) =
+      let e : value ≡ v = cc in
+      both v held w (subst (λ x. goes x held) e (served value event exchanges held serving)) (life_goes_on held life w stead more)
+  life_goes_on v (Changed old new ∷ life) w (change, stead) (is, more) =
+      let e : old ≡ v = cc in
+      both v new w (subst (λ x. goes x new) e change) (life_goes_on new life w stead more)
+  life_goes_on v (Ended value ∷ life) w stead (is, more) = let gone : Some w ≡ None = none_comes life (Some w) stead more in let no : ⊥ = cc in absurd no
+
+  -- of a run of a manager, whose jobs go on too: who is held before and after has gone on
+  pub manager_goes_on : {J R P : Type 0} (may : May V J R) → JobsGoOn goes may → (controls : Controls P) (waits : Waits P) (before : LoopState V P) (ms : ℤ) (result : Result ℕ Error) (after : LoopState V P)
+      → AreBelow before.registry.next before.registry.values → IsLoopIteration begins serves may controls waits before ms result after → HeldGoOn goes before.registry after.registry
+  manager_goes_on {J} {R} may go controls waits before ms result after below did id v w has had =
+      let it = did.iteration in
+      let history : List (Turn V) = Waited it.ms it.waited it.positions ∷ flat_map (λ job_run. map Made job_run.steps) it.jobs in
+      let is : IsHistory begins serves before.registry history after.registry = wait_history begins serves may (manager_state before) it.ms it.waited it.positions it.jobs (manager_state after) did.iterated in
+      let given : AreGiven before.registry.next history after.registry.next = (history_follows begins serves before.registry history after.registry is).given in
+      let stead = jobs_by it.waited did.iterated given in
+      let lives = history_lives begins serves id before.registry history after.registry is in
+      life_goes_on v (life_of id history) w (positions_stead goes id it.positions (life_of id (flat_map (λ job_run. map Made job_run.steps) it.jobs)) stead)
+      (subst (λ held. Lives begins serves (Some v) (life_of id history) held) had (subst (λ held. Lives begins serves held (life_of id history) (get after.registry.values id)) has lives))
+    where
+      jobs_by : (waited : Result (List Event) Errno) → IsIteration begins serves may (manager_state before) waited did.iteration.positions did.iteration.jobs (manager_state after)
+          → AreGiven before.registry.next (flat_map (λ job_run. map Made job_run.steps) did.iteration.jobs) after.registry.next → IsStead goes (life_of id (flat_map (λ job_run. map Made job_run.steps) did.iteration.jobs))
+      jobs_by (Ok report) (mid, dispatch, none, ran) given = jobs_stead goes id begins serves may go (record (manager_state before) { registry = mid }) did.iteration.jobs (manager_state after) ran before.registry.next after.registry.next (below id v has) given
+      jobs_by (Err errno) (no_positions, no_jobs, is) given = rw no_jobs tt
+
+  one_goes_on : (before : Registry V) (removed : Bool) (event : Event) (delivery : Delivery V) (after : Registry V) → IsDelivery serves before removed event delivery after → AllGoOn goes before after
+  one_goes_on before removed event Nobody after is id v has = (v, subst (λ r. HasId r id v) (sym is.1) has, same v)
+  one_goes_on before removed event (To i exchanges calls held) after (value, registrations, owner, serving, fits, is) id v has = elim (eqb_tells id i) [
+    | inl t ↦
+        let at : get before.values i ≡ Some v = ap (get before.values) (sym t.1) ∙ has in
+        let s : Some value ≡ Some v = sym owner.2 ∙ at in
+        let is_it : value ≡ v = cc in
+        (held, subst (λ r. HasId r id held) (sym is) (inserted_at i id before.values held (sym t.1)), subst (λ u. goes u held) is_it (served value event exchanges held serving))
+    | inr t ↦ (v, subst (λ r. HasId r id v) (sym is) (insert_other_value i id before.values held t.1 ∙ has), same v)
+  ]
+
+  all_go_on : (before : Registry V) (earlier positions : List (Position V)) (after : Registry V) → AreDispatched serves before earlier positions after → AllGoOn goes before after
+  all_go_on before earlier [] after is id v has = (v, subst (λ r. HasId r id v) (sym is) has, same v)
+  all_go_on before earlier (position ∷ positions) after (mid, delivered, more) id v has =
+      let first = one_goes_on (with_pending (still_pending earlier (events_of positions)) before) (is_removed position.event.fd earlier) position.event position.delivery mid delivered id v has in
+      let others = all_go_on mid (earlier ++ position ∷ []) positions after more id first.0 first.1 in
+      (others.0, others.1, both v first.0 others.0 first.2 others.2)
+
+  iteration_goes_on : (before : ManagerState V) (waited : Result (List Event) Errno) (positions : List (Position V)) (jobs : List (JobRun V ⊥ (Unit {0}))) (after : ManagerState V) → IsIteration begins serves no_job before waited positions jobs after → AllGoOn goes before.registry after.registry
+  iteration_goes_on before (Err errno) positions jobs after is id v has = (v, subst (λ m. HasId m.registry id v) (sym is.2) has, same v)
+  iteration_goes_on before (Ok report) positions (job_run ∷ jobs) after is id v has = absurd job_run.job
+  iteration_goes_on before (Ok report) positions [] after is id v has =
+      let d = all_go_on before.registry [] positions is.0 is.1.1 id v has in
+      (d.0, subst (λ m. HasId m.registry id d.0) (sym is.3) d.1, d.2)
+
+  -- of a run of a loop without jobs: who is held stays, and has gone on
+  pub loop_goes_on : {P : Type 0} (controls : Controls P) (waits : Waits P) (before : LoopState V P) (ms : ℤ) (result : Result ℕ Error) (after : LoopState V P) → IsLoopIteration begins serves no_job controls waits before ms result after → AllGoOn goes before.registry after.registry
+  loop_goes_on controls waits before ms result after did = iteration_goes_on _ did.iteration.waited did.iteration.positions did.iteration.jobs _ did.iterated
