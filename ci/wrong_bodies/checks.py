@@ -39,15 +39,15 @@ class Lanes:
     def __init__(self):
         self.processors = tries.Processors()
         self.free = threading.Semaphore(max(1, min(self.processors.there(), memory() // MEMORY)))
-        self.changing, self.running, self.is_over = threading.Lock(), set(), False
+        self.changing, self.running, self.is_over, self.took = threading.Lock(), set(), False, {}
 
-    def run(self, words, folder):
-        """What a command says in a folder, and whether it is content."""
+    def run(self, words, folder, what):
+        """What a command says in a folder, and whether it is content; its time is counted for what it does."""
         with self.free:
             self.processors.wait_for_one()
-            return self.run_now(words, folder)
+            return self.run_now(words, folder, what)
 
-    def run_now(self, words, folder):
+    def run_now(self, words, folder, what):
         """As `run`, whatever else runs."""
         how = {"stdin": subprocess.DEVNULL, "stdout": subprocess.PIPE, "stderr": subprocess.STDOUT, "text": True, "errors": "replace"}
         with self.changing:
@@ -55,12 +55,20 @@ class Lanes:
                 raise Ended
             process = subprocess.Popen(words, cwd=folder, **how)
             self.running.add(process)
-        said, _ = process.communicate()
+        said = process.stdout.read()
+        _, status, used = os.wait4(process.pid, 0)
+        process.returncode = os.waitstatus_to_exitcode(status)
         with self.changing:
             self.running.discard(process)
             if self.is_over:
                 raise Ended
+            self.took.setdefault(what, []).append(used.ru_utime + used.ru_stime)
         return said, process.returncode == 0
+
+    def lines(self):
+        """How many commands ran for each thing that was done, and the minutes of processor that they took, the most first."""
+        for what, took in sorted(self.took.items(), key=lambda it: -sum(it[1])):
+            yield f"{what}: {len(took)} checks, {sum(took) / 60:.1f} minutes of processor"
 
     def end(self, *_):
         """Ends all that runs."""
@@ -118,7 +126,7 @@ def libraries_of_ci(room, crate, told):
     write(f"{room}/crates.txt", "".join(lines_of(libraries)))
     for it in libraries:
         copy_parts(it, f"{room}/crates/{it}")
-    return LANES.run_now(["rt", "ci"], room)
+    return LANES.run_now(["rt", "ci"], room, "libraries")
 
 
 def words_of(crate, top):
@@ -139,7 +147,7 @@ class Copy:
     """A copy of a crate, in which bodies are changed, over the libraries that are built below a folder."""
 
     def __init__(self, folder, crate, top):
-        self.folder, self.words, self.texts = folder, words_of(crate, top), {}
+        self.folder, self.crate, self.words, self.texts = folder, crate, words_of(crate, top), {}
         copy_parts(crate, folder)
 
     def lay(self, edit):
@@ -153,6 +161,7 @@ class Copy:
             write(f"{self.folder}/{file}", text)
         self.texts = {}
 
-    def check(self, functions=()):
-        """What a check of these functions says, or of all, and whether it is content."""
-        return LANES.run([*self.words, *(word for it in sorted(functions) for word in ("--only", it))], self.folder)
+    def check(self, functions, what):
+        """What a check of these functions says, or of all where there is none, and whether it is content."""
+        words = [*self.words, *(word for it in sorted(functions) for word in ("--only", it))]
+        return LANES.run(words, self.folder, f"{self.crate}, {what}")

@@ -55,3 +55,18 @@ def lines_of(text, name):
         if it[2] == name:
             end = re.compile(rf"^{it[1]}\}}", re.M).search(text, it.start())
             yield text.count("\n", 0, it.start()) + 1, text.count("\n", 0, end.start() if end else len(text)) + 1
+
+
+def body_of(text, name):
+    """The lines of the functions of a name in the text of a file."""
+    lines = text.splitlines()
+    return "\n".join("\n".join(lines[first - 1 : last]) for first, last in lines_of(text, name))
+
+
+def may_call(body, path):
+    """Whether there may be a call of the function of a path in a body, by the names alone."""
+    above, name = path.split("::")[-2:]
+    if above.islower():
+        return re.search(rf"(?<!\.)\b{name}\b", body) is not None
+    types = re.findall(rf"\b(\w+)(?:::<[^()]*>)?::{name}\b", body)
+    return re.search(rf"\.{name}\b", body) is not None or any(it == "Self" or above.startswith(it) for it in types)

@@ -3,8 +3,8 @@
 use crate::account::Account;
 use crate::order::{Order, Told};
 use event_manager::{
-    ActionOn, Error, EventManager, EventPoller, LoopWithSenders, NamedCounter, RemoteEndpoint,
-    Result, Sender, SubscriberId, SubscriberOps,
+    ActionOn, Error, EventPoller, LoopWithSenders, NamedCounter, RemoteEndpoint, Result, Sender,
+    SubscriberId, TrackedManager,
 };
 use std::alloc::Global;
 use std::sync::Wait;
@@ -24,7 +24,7 @@ impl<R: Wait + Clock + Copy + Drop> LoopWithSenders<Account<R>, ActionOn<Order>,
         &mut self,
         rt: &R,
         alloc: Global,
-        manager: &mut EventManager<Account<R>, ActionOn<Order>, N, P>,
+        manager: &mut TrackedManager<Account<R>, ActionOn<Order>, N, P>,
     ) -> Result<Vec<Customer>> {
         let first = Account::new(&self.counter, *rt).map_err(Error::EventFd)?;
         let removed = manager.add_subscriber(first)?;

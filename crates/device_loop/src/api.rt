@@ -2,8 +2,11 @@
 
 ghost use Rattle.device_loop.specs.Answers.{IsAnswer};
 
+use crate::block::Block;
 use crate::console::Console;
 use crate::net::Net;
+use crate::pause::SetPaused;
+use crate::ring::RingName;
 use crate::statistics::Statistics;
 use crate::vmm::Vmm;
 use event_manager::{
@@ -14,8 +17,11 @@ use std::fmt;
 use std::sync::{Arc, Wait};
 use std::time::Clock;
 
-/// Who is in the loop: a network device, which a vCPU's thread shares; a console; what ends the machine.
-pub type Device<R> = Either<Arc<Locked<Net<R>, R>>, Either<Console<R>, Vmm<R>>>;
+/// Who is in the loop: a network device, which a vCPU's thread shares; a console; a block device; what ends the machine.
+pub type Device<Q, R> = Either<
+    Arc<Locked<Net<R>, R>>,
+    Either<Console<R>, Either<Block<Q, R>, Vmm<R>>>,
+>;
 
 /// What is asked of a device.
 #[derive(Clone, Copy)]
@@ -35,6 +41,8 @@ pub enum ApiReply {
     Updated,
     /// The id of a device that was plugged in.
     PluggedIn(SubscriberId),
+    /// The device is paused, or goes on.
+    Paused(bool),
 }
 
 impl fmt::Display for ApiReply {
@@ -43,14 +51,16 @@ impl fmt::Display for ApiReply {
             ApiReply::Statistics(statistics) => write!(f, "{statistics}"),
             ApiReply::Updated => write!(f, "updated"),
             ApiReply::PluggedIn(id) => write!(f, "plugged in as {}", id.number()),
+            ApiReply::Paused(true) => write!(f, "paused"),
+            ApiReply::Paused(false) => write!(f, "goes on"),
         }
     }
 }
 
 // What a device answers. `InvalidId`: it has no statistics, or no rate limiter.
-fn answer<R: Wait + Drop, W: Wait>(
+fn answer<Q: RingName, R: Wait + Drop, W: Wait>(
     action: ApiAction,
-    device: &Device<R>,
+    device: &Device<Q, R>,
     rt: &W,
 ) -> Result<ApiReply>
     ensures { IsAnswer action device.now result }
@@ -66,11 +76,14 @@ fn answer<R: Wait + Drop, W: Wait>(
         (ApiAction::GetStatistics, Either::Second(Either::First(console))) => {
             console.statistics().map(ApiReply::Statistics)
         }
+        (ApiAction::GetStatistics, Either::Second(Either::Second(Either::First(block)))) => {
+            block.statistics().map(ApiReply::Statistics)
+        }
         _ => Err(Error::InvalidId),
     }
 }
 
-impl<R: Wait + Drop> Action<Device<R>> for ApiAction {
+impl<Q: RingName, R: Wait + Drop> Action<Device<Q, R>> for ApiAction {
     type Reply = Result<ApiReply>;
 
     ghost use Rattle.std.specs.Prelude.{◌≡◌};
@@ -79,21 +92,23 @@ impl<R: Wait + Drop> Action<Device<R>> for ApiAction {
     // It changes nothing of what the loop holds: of a network device that is a lock.
     ghost does = { λ self v told w. IsAnswer self v told × (w ≡ v) };
 
-    fn act<W: Wait + Clock>(self, device: &mut Device<R>, rt: &W) -> Result<ApiReply> {
+    fn act<W: Wait + Clock>(self, device: &mut Device<Q, R>, rt: &W) -> Result<ApiReply> {
         answer(self, device, rt)
     }
 }
 
 /// A job of the loop.
 #[derive(Drop)]
-pub enum ApiRequest<R> {
+pub enum ApiRequest<Q: RingName, R> {
     /// Something is asked of the device of an id.
     Ask(ActionOn<ApiAction>),
     /// A device is plugged in.
-    PlugIn(AddSubscriber<Device<R>>),
+    PlugIn(AddSubscriber<Device<Q, R>>),
+    /// A block device is paused, or is to go on.
+    SetPaused(SetPaused),
 }
 
-impl<R: Wait + Drop> Job<Device<R>> for ApiRequest<R> {
+impl<Q: RingName, R: Wait + Drop> Job<Device<Q, R>> for ApiRequest<Q, R> {
     type Reply = Result<ApiReply>;
 
     ghost may = { λ self steps reply. Unit {0} };
@@ -102,12 +117,13 @@ impl<R: Wait + Drop> Job<Device<R>> for ApiRequest<R> {
 
     fn call<P: EventPoller, W: Wait + Clock>(
         self,
-        registry: &mut Registry<Device<R>, P>,
+        registry: &mut Registry<Device<Q, R>, P>,
         rt: &W,
     ) -> Result<ApiReply> {
         match self {
             ApiRequest::Ask(question) => question.call(registry, rt)?,
             ApiRequest::PlugIn(device) => device.call(registry, rt).map(ApiReply::PluggedIn),
+            ApiRequest::SetPaused(pause) => pause.call(registry, rt).map(ApiReply::Paused),
         }
     }
 }

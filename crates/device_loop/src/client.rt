@@ -1,18 +1,22 @@
-//! The thread of the API, which plays whoever is at the other ends of the tap and of the console's line too.
+//! The thread of the API, which plays whoever is at the other ends of the tap and of the console's line too, and who fills
+//! the block device's bucket.
 
 use crate::api::{ApiAction, ApiReply, ApiRequest, Device};
 use crate::console::Console;
 use crate::fault::Fault;
+use crate::pause::SetPaused;
+use crate::ring::RingName;
 use crate::shared::Shared;
 use event_manager::{
     ActionOn, AddSubscriber, Either, EventSet, NamedCounter, RemoteEndpoint, SubscriberId,
 };
 use std::sync::Wait;
 use std::time::Clock;
+use vmm_sys::eventfd::EventFd;
 use vmm_sys::line::Line;
 
 /// By which the loop is asked.
-pub type Endpoint<N, R> = RemoteEndpoint<Device<R>, ApiRequest<R>, N>;
+pub type Endpoint<Q, N, R> = RemoteEndpoint<Device<Q, R>, ApiRequest<Q, R>, N>;
 
 /// What the thread of the API has in its hands.
 #[derive(Drop)]
@@ -21,13 +25,17 @@ pub struct Client<'a, R> {
     pub net: SubscriberId,
     /// The other end of its tap.
     pub tap: Line,
+    /// The id of the block device.
+    pub block: SubscriberId,
+    /// What fills that device's bucket.
+    pub refill: EventFd,
     /// What it shares with the other threads.
     pub shared: &'a Shared<R>,
 }
 
 // Asks the device of an id.
-fn ask<N: NamedCounter, R: Wait + Clock + Drop>(
-    endpoint: &Endpoint<N, R>,
+fn ask<Q: RingName, N: NamedCounter, R: Wait + Clock + Drop>(
+    endpoint: &Endpoint<Q, N, R>,
     subscriber: SubscriberId,
     action: ApiAction,
     rt: &R,
@@ -36,13 +44,28 @@ fn ask<N: NamedCounter, R: Wait + Clock + Drop>(
     Ok(endpoint.call_blocking(ApiRequest::Ask(question), rt)??)
 }
 
+// Pauses a block device, or lets it go on.
+fn set_paused<Q: RingName, N: NamedCounter, R: Wait + Clock + Drop>(
+    endpoint: &Endpoint<Q, N, R>,
+    device: SubscriberId,
+    is_paused: bool,
+    rt: &R,
+) -> Result<ApiReply, Fault> {
+    let pause = SetPaused { device, is_paused };
+    Ok(endpoint.call_blocking(ApiRequest::SetPaused(pause), rt)??)
+}
+
 impl<R: Wait + Clock + Print + Copy + Drop> Client<'_, R> {
     // Uses the network device, and prints each time what that has counted.
     //
     // No contract says that a reply counts what was done before. The first one comes behind the batch in which the device is
     // set up, and each later one behind a batch that has what was done before: the jobs of a batch are run once all of it is
     // handed out.
-    fn use_net<N: NamedCounter>(&self, endpoint: &Endpoint<N, R>, rt: &R) -> Result<(), Fault> {
+    fn use_net<Q: RingName, N: NamedCounter>(
+        &self,
+        endpoint: &Endpoint<Q, N, R>,
+        rt: &R,
+    ) -> Result<(), Fault> {
         let ask_net = |action| ask(endpoint, self.net, action, rt);
         println!(rt; "rate limit: {}", ask_net(ApiAction::UpdateRateLimit(5))?)?;
         println!(rt; "net, booted: {}", ask_net(ApiAction::GetStatistics)?)?;
@@ -56,7 +79,11 @@ impl<R: Wait + Clock + Print + Copy + Drop> Client<'_, R> {
     }
 
     // Plugs a console in, and uses it.
-    fn use_console<N: NamedCounter>(&self, endpoint: &Endpoint<N, R>, rt: &R) -> Result<(), Fault> {
+    fn use_console<Q: RingName, N: NamedCounter>(
+        &self,
+        endpoint: &Endpoint<Q, N, R>,
+        rt: &R,
+    ) -> Result<(), Fault> {
         let line = Line::new(&self.shared.epoll, rt)?;
         let console = Either::Second(Either::First(Console::new(&line, *rt)?));
         let plugged_in = endpoint.call_blocking(ApiRequest::PlugIn(AddSubscriber(console)), rt)??;
@@ -78,16 +105,54 @@ impl<R: Wait + Clock + Print + Copy + Drop> Client<'_, R> {
         Ok(())
     }
 
-    // Uses one device after the other.
-    fn use_devices<N: NamedCounter>(&self, endpoint: &Endpoint<N, R>, rt: &R) -> Result<(), Fault> {
-        self.use_net(endpoint, rt)?;
-        self.use_console(endpoint, rt)
+    // Fills the bucket of the block device, pauses it while the guest reads, and prints what it has served.
+    fn use_block<Q: RingName, N: NamedCounter>(
+        &self,
+        endpoint: &Endpoint<Q, N, R>,
+        rt: &R,
+    ) -> Result<(), Fault> {
+        let device = self.block;
+        let ask_block = || ask(endpoint, device, ApiAction::GetStatistics, rt);
+        println!(rt; "block, booted: {}", ask_block()?)?;
+        self.refill.write(1, rt)?;
+        println!(rt; "block, refilled: {}", ask_block()?)?;
+        println!(rt; "block: {}", set_paused(endpoint, device, true, rt)?)?;
+        let _ = self.shared.is_paused.set(rt, ());
+        if !*self.shared.has_read.wait(rt) {
+            return Ok(());
+        }
+        self.refill.write(1, rt)?;
+        println!(rt; "block, paused: {}", ask_block()?)?;
+        println!(rt; "block: {}", set_paused(endpoint, device, false, rt)?)?;
+        println!(rt; "block, at work: {}", ask_block()?)?;
+        Ok(())
     }
 
-    /// Uses the devices once the guest has booted, and shuts it down, whatever came of that.
-    pub fn run<N: NamedCounter>(self, endpoint: &Endpoint<N, R>, rt: &R) -> Result<(), Fault> {
-        let _ = self.shared.has_booted.wait(rt);
-        let used = self.use_devices(endpoint, rt);
+    // Uses one device after the other.
+    fn use_devices<Q: RingName, N: NamedCounter>(
+        &self,
+        endpoint: &Endpoint<Q, N, R>,
+        rt: &R,
+    ) -> Result<(), Fault> {
+        self.use_net(endpoint, rt)?;
+        self.use_console(endpoint, rt)?;
+        self.use_block(endpoint, rt)
+    }
+
+    /// Uses the devices once the guest has booted, and shuts it down, whatever came of that. Where the guest was refused
+    /// something its own thread says so.
+    pub fn run<Q: RingName, N: NamedCounter>(
+        self,
+        endpoint: &Endpoint<Q, N, R>,
+        rt: &R,
+    ) -> Result<(), Fault> {
+        let has_booted = *self.shared.has_booted.wait(rt);
+        let used = if has_booted {
+            self.use_devices(endpoint, rt)
+        } else {
+            Ok(())
+        };
+        let _ = self.shared.is_paused.set(rt, ());
         let _ = self.shared.is_to_shut_down.set(rt, ());
         used
     }

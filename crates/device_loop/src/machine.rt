@@ -1,38 +1,47 @@
 //! The machine: the loop with its devices, and the threads beside it.
 
+ghost use Rattle.std.specs.Prelude.{IfOk};
+ghost use Rattle.device_loop.specs.Runs.{IsServedInOrder};
+
 use crate::api::{ApiRequest, Device};
+use crate::block::Block;
 use crate::client::{Client, Endpoint};
 use crate::fault::Fault;
 use crate::net::Net;
+use crate::report::BlockReport;
+use crate::ring::limiter::Limiter;
+use crate::ring::{Ring, RingName};
 use crate::shared::Shared;
-use crate::vcpu::Vcpu;
+use crate::vcpu::{BlockDriver, Vcpu};
 use crate::vmm::Vmm;
 use event_manager::{
-    Either, Error, EventManager, EventPoller, Locked, LoopWithSenders, NamedCounter, Result,
-    Sender, Senders, SubscriberId, SubscriberOps,
+    Either, Error, EventPoller, Locked, LoopWithSenders, NamedCounter, Result, Sender, Senders,
+    SubscriberId, TrackedManager,
 };
 use std::alloc::Global;
-use std::sync::{Arc, Wait};
+use std::sync::{Arc, Mutex, Wait};
 use std::time::Clock;
+use vmm_sys::eventfd::EventFd;
+use vmm_sys::line::Line;
 
 /// A thread beside the loop.
 #[derive(Drop)]
-pub enum Thread<'a, R> {
+pub enum Thread<'a, Q: RingName, R> {
     /// That of the API.
     Api(Client<'a, R>),
     /// That of a virtual processor.
-    Vcpu(Vcpu<'a, R>),
+    Vcpu(Vcpu<'a, Q, R>),
 }
 
-impl<R: Wait + Clock + Print + Copy + Drop> Sender<
-    Device<R>,
-    ApiRequest<R>,
+impl<Q: RingName, R: Wait + Clock + Print + Copy + Drop> Sender<
+    Device<Q, R>,
+    ApiRequest<Q, R>,
     std::result::Result<(), Fault>,
     R,
-> for Thread<'_, R> {
+> for Thread<'_, Q, R> {
     fn send<N: NamedCounter>(
         self,
-        endpoint: &Endpoint<N, R>,
+        endpoint: &Endpoint<Q, N, R>,
         rt: &R,
     ) -> std::result::Result<(), Fault> {
         match self {
@@ -44,21 +53,28 @@ impl<R: Wait + Clock + Print + Copy + Drop> Sender<
 
 /// The loop's side of the machine.
 #[derive(Drop)]
-pub struct Machine<'a, R> {
+pub struct Machine<'a, Q: RingName, R> {
     shared: &'a Shared<R>,
+    // The ring of the block device, and its limiter, until that is the device's.
+    ring: Arc<Mutex<Ring<Q>>>,
+    limiter: Option<Limiter<Q>>,
     vmm: Option<SubscriberId>,
+    block: Option<SubscriberId>,
     has_exited: bool,
 }
 
 /// The loop of the devices, its jobs and its poller.
-type Loop<N, R, P> = EventManager<Device<R>, ApiRequest<R>, N, P>;
+type Loop<Q, N, R, P> = TrackedManager<Device<Q, R>, ApiRequest<Q, R>, N, P>;
 
-impl<'a, R: Wait + Drop> Machine<'a, R> {
+impl<'a, Q: RingName, R: Wait + Drop> Machine<'a, Q, R> {
     /// A machine without devices.
-    pub fn new(shared: &'a Shared<R>) -> Self {
+    pub fn new(shared: &'a Shared<R>, ring: Arc<Mutex<Ring<Q>>>, limiter: Limiter<Q>) -> Self {
         Machine {
             shared,
+            ring,
+            limiter: Some(limiter),
             vmm: None,
+            block: None,
             has_exited: false,
         }
     }
@@ -69,48 +85,166 @@ impl<'a, R: Wait + Drop> Machine<'a, R> {
     }
 
     // Whether the exit event was served.
-    fn is_to_end<N: NamedCounter, P: EventPoller>(&self, manager: &Loop<N, R, P>) -> Result<bool> {
+    fn is_to_end<N: NamedCounter, P: EventPoller>(
+        &self,
+        manager: &Loop<Q, N, R, P>,
+    ) -> Result<bool> {
         let Some(vmm) = self.vmm else {
             return Ok(false);
         };
         match manager.subscriber(vmm)? {
-            Either::Second(Either::Second(vmm)) => vmm.has_exited(),
+            Either::Second(Either::Second(Either::Second(vmm))) => vmm.has_exited(),
             _ => Ok(false),
         }
     }
 }
 
-impl<'a, R: Wait + Clock + Print + Copy + Send + Drop> LoopWithSenders<
-    Device<R>,
-    ApiRequest<R>,
-    Thread<'a, R>,
-    R,
-> for Machine<'a, R> {
-    fn begin<N: NamedCounter, P: EventPoller>(
+// The network device, as its driver and whoever is at the other end of its tap have it.
+#[derive(Drop)]
+struct NetEnds<R> {
+    id: SubscriberId,
+    net: Arc<Locked<Net<R>, R>>,
+    queue: EventFd,
+    tap: Line,
+}
+
+// The block device, as its driver and whoever fills its bucket have it.
+#[derive(Drop)]
+struct BlockEnds {
+    id: SubscriberId,
+    queue: EventFd,
+    refill: EventFd,
+}
+
+impl<Q: RingName, R: Wait + Clock + Copy + Drop> Machine<'_, Q, R> {
+    // Lets what waits for the exit event join, and answers that event.
+    fn add_vmm<N: NamedCounter, P: EventPoller>(
         &mut self,
+        manager: &mut Loop<Q, N, R, P>,
         rt: &R,
-        alloc: Global,
-        manager: &mut Loop<N, R, P>,
-    ) -> Result<Vec<Thread<'a, R>>> {
-        let shared = self.shared;
-        let vmm = Vmm::new(&shared.epoll, *rt).map_err(Error::EventFd)?;
+    ) -> Result<EventFd> {
+        let vmm = Vmm::new(&self.shared.epoll, *rt).map_err(Error::EventFd)?;
         let exit = vmm.exit.try_clone().map_err(Error::EventFd)?;
-        self.vmm = Some(manager.add_subscriber(Either::Second(Either::Second(vmm)))?);
-        let net = Net::new(&shared.epoll, *rt).map_err(Error::EventFd)?;
+        let device = Either::Second(Either::Second(Either::Second(vmm)));
+        self.vmm = Some(manager.add_subscriber(device)?);
+        Ok(exit)
+    }
+
+    // Lets the network device join.
+    fn add_net<N: NamedCounter, P: EventPoller>(
+        &self,
+        manager: &mut Loop<Q, N, R, P>,
+        alloc: Global,
+        rt: &R,
+    ) -> Result<NetEnds<R>> {
+        let net = Net::new(&self.shared.epoll, *rt).map_err(Error::EventFd)?;
         let (queue, tap) = (
             net.queue.try_clone().map_err(Error::EventFd)?,
             net.tap.try_clone().map_err(Error::EventFd)?,
         );
         let net = Arc::new(alloc, Locked::new(net, *rt))?;
         let id = manager.add_subscriber(Either::First(Arc::try_clone(&net)?))?;
-        let client = Client {
-            net: id,
+        Ok(NetEnds {
+            id,
+            net,
+            queue,
             tap,
+        })
+    }
+
+    // Lets the block device join, with the limiter of the ring.
+    fn add_block<N: NamedCounter, P: EventPoller>(
+        &mut self,
+        manager: &mut Loop<Q, N, R, P>,
+        rt: &R,
+    ) -> Result<BlockEnds> {
+        let limiter = self.limiter.take().ok_or(Error::InvalidId)?;
+        let ring = Arc::try_clone(&self.ring)?;
+        let block = Block::new(&self.shared.epoll, ring, limiter, *rt).map_err(Error::EventFd)?;
+        let (queue, refill) = (
+            block.queue.try_clone().map_err(Error::EventFd)?,
+            block.refill.try_clone().map_err(Error::EventFd)?,
+        );
+        let device = Either::Second(Either::Second(Either::First(block)));
+        let id = manager.add_subscriber(device)?;
+        self.block = Some(id);
+        Ok(BlockEnds { id, queue, refill })
+    }
+
+    // Runs until the exit event is served; or until all threads have ended, and what they wrote was served.
+    fn serve<N: NamedCounter, P: EventPoller>(
+        &mut self,
+        rt: &R,
+        manager: &mut Loop<Q, N, R, P>,
+        senders: &Senders,
+    ) -> Result<()> {
+        for _run in rt.forever() {
+            let have_ended = senders.have_ended();
+            manager.run_with_timeout(if have_ended { 0 } else { -1 }, rt)?;
+            self.has_exited = self.is_to_end(manager)?;
+            if self.has_exited || have_ended {
+                break;
+            }
+        }
+        Ok(())
+    }
+
+    // Takes the limiter of the ring back from the block device.
+    fn take_limiter<N: NamedCounter, P: EventPoller>(
+        &mut self,
+        manager: &mut Loop<Q, N, R, P>,
+    ) -> Result<()> {
+        let id = self.block.ok_or(Error::InvalidId)?;
+        if let Either::Second(Either::Second(Either::First(block))) = manager.remove_subscriber(
+            id,
+        )? {
+            self.limiter = Some(block.into_limiter());
+        }
+        Ok(())
+    }
+
+    /// What came of the block device.
+    pub fn block_report(&mut self, alloc: Global, rt: &R) -> Result<BlockReport>
+        ensures { IfOk result IsServedInOrder }
+    {
+        let Some(limiter) = &mut self.limiter else {
+            return Err(Error::InvalidId);
+        };
+        let mut ring = self.ring.lock(rt);
+        BlockReport::new(limiter, &mut ring, alloc)
+    }
+}
+
+impl<'a, Q: RingName, R: Wait + Clock + Print + Copy + Send + Drop> LoopWithSenders<
+    Device<Q, R>,
+    ApiRequest<Q, R>,
+    Thread<'a, Q, R>,
+    R,
+> for Machine<'a, Q, R> {
+    fn begin<N: NamedCounter, P: EventPoller>(
+        &mut self,
+        rt: &R,
+        alloc: Global,
+        manager: &mut Loop<Q, N, R, P>,
+    ) -> Result<Vec<Thread<'a, Q, R>>> {
+        let exit = self.add_vmm(manager, rt)?;
+        let net = self.add_net(manager, alloc, rt)?;
+        let block = self.add_block(manager, rt)?;
+        let shared = self.shared;
+        let client = Client {
+            net: net.id,
+            tap: net.tap,
+            block: block.id,
+            refill: block.refill,
             shared,
         };
         let vcpu = Vcpu {
-            net,
-            queue,
+            net: net.net,
+            queue: net.queue,
+            block: BlockDriver {
+                ring: Arc::try_clone(&self.ring)?,
+                queue: block.queue,
+            },
             exit,
             shared,
         };
@@ -124,21 +258,13 @@ impl<'a, R: Wait + Clock + Print + Copy + Send + Drop> LoopWithSenders<
         Ok(threads)
     }
 
-    /// Runs until the exit event is served; or until all threads have ended, and what they wrote was served.
     fn run<N: NamedCounter, P: EventPoller>(
         &mut self,
         rt: &R,
-        manager: &mut Loop<N, R, P>,
+        manager: &mut Loop<Q, N, R, P>,
         senders: &Senders,
     ) -> Result<()> {
-        for _run in rt.forever() {
-            let have_ended = senders.have_ended();
-            manager.run_with_timeout(if have_ended { 0 } else { -1 }, rt)?;
-            self.has_exited = self.is_to_end(manager)?;
-            if self.has_exited || have_ended {
-                break;
-            }
-        }
-        Ok(())
+        self.serve(rt, manager, senders)?;
+        self.take_limiter(manager)
     }
 }

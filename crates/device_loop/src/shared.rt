@@ -8,8 +8,12 @@ use vmm_sys::epoll::Epoll;
 pub struct Shared<R> {
     /// An owner of the loop's table: by it they open descriptors.
     pub epoll: Epoll<R>,
-    /// Set once the guest has booted, or will not.
-    pub has_booted: OnceLock<()>,
+    /// Whether the guest has booted.
+    pub has_booted: OnceLock<bool>,
+    /// Set once the block device is paused, or will not be.
+    pub is_paused: OnceLock<()>,
+    /// Whether the guest has read from the paused device.
+    pub has_read: OnceLock<bool>,
     /// Set once the guest is to shut down.
     pub is_to_shut_down: OnceLock<()>,
 }
@@ -20,6 +24,8 @@ impl<R> Shared<R> {
         Shared {
             epoll,
             has_booted: OnceLock::new(),
+            is_paused: OnceLock::new(),
+            has_read: OnceLock::new(),
             is_to_shut_down: OnceLock::new(),
         }
     }

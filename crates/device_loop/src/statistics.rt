@@ -13,6 +13,17 @@ pub struct NetMetrics {
     pub inputs: u64,
 }
 
+/// What a block device has counted.
+#[derive(Clone, Copy, PartialEq, Eq, Debug)]
+pub struct BlockMetrics {
+    /// The tokens that it has.
+    pub tokens: u64,
+    /// The requests that it has served, each for a token.
+    pub served: u64,
+    /// How often its bucket was filled.
+    pub refills: u64,
+}
+
 /// What a device has counted.
 #[derive(Clone, Copy, PartialEq, Eq, Debug)]
 pub enum Statistics {
@@ -20,6 +31,8 @@ pub enum Statistics {
     Net(NetMetrics),
     /// The inputs that a console has served, and whether the other end hung up.
     Console { inputs: u64, hung_up: bool },
+    /// What a block device has.
+    Block(BlockMetrics),
 }
 
 impl fmt::Display for Statistics {
@@ -36,6 +49,13 @@ impl fmt::Display for Statistics {
                 let state = if *hung_up { "hung up" } else { "open" };
                 write!(f, "inputs {inputs}, {state}")
             }
+            Statistics::Block(
+                BlockMetrics {
+                    tokens,
+                    served,
+                    refills,
+                },
+            ) => { write!(f, "served {served}, tokens {tokens}, refills {refills}") }
         }
     }
 }

@@ -1,11 +1,17 @@
 //! Tests of lists of calls, over a script, and a program's own contract over one.
 #![tactic(auto)]
 
+pub mod apart;
+pub mod by_laws;
 #[cfg(test)]
 mod expecting;
 pub mod going_on;
 pub mod leaving;
 #[cfg(test)]
 mod lists;
+#[cfg(test)]
+mod machine_runs;
+#[cfg(test)]
+mod metering;
 #[cfg(test)]
 mod solo;

@@ -36,3 +36,8 @@ module _ {V J R : Type 0} (begins : Begins V) (serves : Serves V) (may : May V J
   trace_is_history before [] after e = ap (λ (s : ManagerState V). s.registry) e
   trace_is_history before (entry ∷ trace) after (mid, made, did, more) =
       histories_join begins serves before.registry (turns_of entry.effect) mid.registry (history_of trace) after.registry (effect_history before entry.effect mid did) (trace_is_history mid trace after more)
+
+  -- two traces in a row are one
+  pub traces_join : (before mid after : ManagerState V) (trace more : List (TraceEntry V J R)) → IsTrace begins serves may before trace mid → IsTrace begins serves may mid more after → IsTrace begins serves may before (trace ++ more) after
+  traces_join before mid after [] more is then = subst (λ s. IsTrace begins serves may s more after) is then
+  traces_join before mid after (first ∷ trace) more (next, says, did, rest) then = (next, says, did, traces_join next mid after trace more rest then)

@@ -1,20 +1,25 @@
 -- What each service of a subscriber keeps, a run of a loop keeps: for contracts of one's own, whose relation between values is a
 -- parameter here. It is reflexive and transitive, and each service has it.
-use Rattle.std.proofs.Common.{◌≡◌, ◌<◌, ℕ, ◌+◌, ℤ, Bool, refl, sym, ◌∙◌, ap, subst, arith, inl, inr, Some, None, Option, map, List, [], ◌∷◌, ◌++◌, append_assoc, Ok, Err, Result, lt_irrefl, All}
-use Rattle.std.specs.FinMap.{get}
+use Rattle.std.proofs.Common.{◌≡◌, ◌<◌, ℕ, ◌+◌, ℤ, Bool, refl, sym, ◌∙◌, ap, subst, arith, inl, inr, Some, None, Option, map, List, [], ◌∷◌, ◌++◌, append_assoc, Ok, Err, Result, lt_irrefl, All, IfOk}
+use Rattle.std.specs.FinMap.{FinMap, get, insert, get-empty}
+use Rattle.std.specs.Ordering.{nat_cmp}
 use Rattle.std.specs.List.{flat_map}
 use Rattle.std.proofs.lemmas.Bool.Decides.{eqb_tells}
 use Rattle.std.proofs.lemmas.List.Elements.{All-nil, All-cons, All-head, All-tail}
 use Rattle.std.proofs.lemmas.List.Concat.{flat_map-append}
+use Rattle.std.proofs.lemmas.Result.{IfOk-weaker}
 use Rattle.vmm_sys.specs.declared.errno.Errno.{Errno}
 use Rattle.event_loop.specs.declared.error.Error.{Error}
-use Rattle.event_loop.specs.Prelude.{Event, Exchanges, Begins, Serves, Controls, Waits, Registry, LoopStep, Joined, NotJoined, Left, Replaced, Requested, Refused, HasId, AreBelow, May, Delivery, Nobody, To, Position, with_pending, still_pending, events_of, is_removed, IsDelivery, AreDispatched, ManagerState, manager_state, JobRun, IsIteration, AreRun, LoopState, no_job, IsLoopIteration}
+use Rattle.event_loop.specs.Prelude.{Event, Exchanges, Begins, Serves, Controls, Waits, Registry, LoopStep, Joined, NotJoined, Left, Replaced, Requested, Refused, HasId, AreBelow, new_registry, Steps, May, Delivery, Nobody, To, Position, with_pending, still_pending, events_of, is_removed, IsDelivery, AreDispatched, ManagerState, manager_state, JobRun, IsIteration, AreRun, AllSteps, LoopState, no_job, IsLoopIteration}
 use Rattle.event_manager.specs.History.{Turn, Made, Waited, IsHistory}
 use Rattle.event_manager.specs.Guarantees.{AreGiven}
 use Rattle.event_manager.specs.Life.{LifeStep, Begun, Served, Changed, Ended, Lives, life_of_step, life_of_delivery, life_of_turn, life_of}
 use Rattle.event_manager.specs.Actions.{IsDoneTo}
-use Rattle.event_manager.specs.Kept.{AllGoOn, HeldGoOn, StepGoesOn, JobsGoOn}
+use Rattle.event_manager.specs.Kept.{AllGoOn, HeldGoOn, StepGoesOn, JobsGoOn, AllHeld, keeps}
+use Rattle.event_manager.specs.Reached.{IsLikeJobs, HasEnded}
+use Rattle.event_manager.specs.Trace.{Effect, Stepped, Iterated, TraceEntry, HasEffect, IsTrace, new_state}
 use Rattle.event_manager.proofs.Isolation.{insert_other_value}
+use Rattle.event_manager.proofs.HeldIds.{from_remove}
 use Rattle.event_manager.proofs.Histories.{wait_history}
 use Rattle.event_manager.proofs.Soundness.{history_follows}
 use Rattle.event_manager.proofs.Lives.{inserted_at, history_lives}
@@ -137,3 +142,75 @@ module _ {V : Type 0} (begins : Begins V) (serves : Serves V) (goes : V → V �
   -- of a run of a loop without jobs: who is held stays, and has gone on
   pub loop_goes_on : {P : Type 0} (controls : Controls P) (waits : Waits P) (before : LoopState V P) (ms : ℤ) (result : Result ℕ Error) (after : LoopState V P) → IsLoopIteration begins serves no_job controls waits before ms result after → AllGoOn goes before.registry after.registry
   loop_goes_on controls waits before ms result after did = iteration_goes_on _ did.iteration.waited did.iteration.positions did.iteration.jobs _ did.iterated
+
+-- a property of values that each init gives, and each service keeps
+module _ {V : Type 0} (begins : Begins V) (serves : Serves V) (good : V → Type 0) (begun : (v : V) (exchanges : Exchanges) (w : V) → begins v exchanges w → good w)
+    (served : (v : V) (event : Event) (exchanges : Exchanges) (w : V) → serves v event exchanges w → good v → good w) where
+  abbrev all_good : Registry V → Type 0
+  all_good registry = AllHeld good registry.values
+
+  insert_good : (values : FinMap nat_cmp V) (id : ℕ) (v : V) → AllHeld good values → good v → AllHeld good (insert values id v)
+  insert_good values id v all is i u at = elim (eqb_tells id i) [
+    | inl t ↦ let s : Some v ≡ Some u = sym (inserted_at id i values v t.1) ∙ at in let e : v ≡ u = cc in subst good e is
+    | inr t ↦ all i u (sym (insert_other_value id i values v (λ s. t.1 (sym s))) ∙ at)
+  ]
+
+  step_good : (before : Registry V) (step : LoopStep V) (after : Registry V) → StepGoesOn (keeps good) step → Steps begins before step after → all_good before → all_good after
+  step_good before (Joined value id exchanges calls held) after go (registrations, room, next, fits, begin, e) all = subst all_good (sym e) (insert_good before.values id held all (begun value exchanges held begin))
+  step_good before (NotJoined value error) after go (why, e) all = subst all_good (sym e) all
+  step_good before (Left id value calls) after go (fds, has, owned, deletes, e) all = subst all_good (sym e) (λ i u at. all i u (from_remove i id before.values u at))
+  step_good before (Replaced id old new) after go (has, e) all = subst all_good (sym e) (insert_good before.values id new all (go (all id old has)))
+  step_good before (Requested id exchanges calls) after go (value, registrations, has, fits, e) all = subst all_good (sym e) all
+  step_good before (Refused id) after go (lacks, e) all = subst all_good (sym e) all
+
+  steps_good : (before : Registry V) (steps : List (LoopStep V)) (after : Registry V) → All (StepGoesOn (keeps good)) steps → AllSteps begins before steps after → all_good before → all_good after
+  steps_good before [] after go e all = subst all_good (sym e) all
+  steps_good before (step ∷ steps) after go (mid, did, rest) all =
+      steps_good mid steps after (All-tail (StepGoesOn (keeps good)) step steps go) rest (step_good before step mid (All-head (StepGoesOn (keeps good)) step steps go) did all)
+
+  delivery_good : (before : Registry V) (removed : Bool) (event : Event) (delivery : Delivery V) (after : Registry V) → IsDelivery serves before removed event delivery after → all_good before → all_good after
+  delivery_good before removed event Nobody after (none, e) all = subst all_good (sym e) all
+  delivery_good before removed event (To id exchanges calls held) after (value, registrations, (owns, stays, has), serving, fits, e) all =
+      subst all_good (sym e) (insert_good before.values id held all (served value event exchanges held serving (all id value has)))
+
+  positions_good : (before : Registry V) (earlier positions : List (Position V)) (after : Registry V) → AreDispatched serves before earlier positions after → all_good before → all_good after
+  positions_good before earlier [] after e all = subst all_good (sym e) all
+  positions_good before earlier (position ∷ positions) after (mid, delivered, more) all = positions_good mid (earlier ++ position ∷ []) positions after more
+      (delivery_good (with_pending (still_pending earlier (events_of positions)) before) (is_removed position.event.fd earlier) position.event position.delivery mid delivered all)
+
+  module _ {J R : Type 0} (may : May V J R) (go : JobsGoOn (keeps good) may) where
+    jobs_good : (before : ManagerState V) (jobs : List (JobRun V J R)) (after : ManagerState V) → AreRun begins serves may before jobs after → all_good before.registry → all_good after.registry
+    jobs_good before [] after e all = subst (λ (s : ManagerState V). all_good s.registry) (sym e) all
+    jobs_good before (job_run ∷ jobs) after (mid, ticket, chosen, steps, more) all = jobs_good (record { registry = mid; taken = before.taken + 1 }) jobs after more
+        (steps_good before.registry job_run.steps mid (go job_run.job job_run.steps job_run.reply chosen) steps all)
+
+    iteration_good : (before : ManagerState V) (waited : Result (List Event) Errno) (positions : List (Position V)) (jobs : List (JobRun V J R)) (after : ManagerState V) → IsIteration begins serves may before waited positions jobs after → all_good before.registry → all_good after.registry
+    iteration_good before (Ok report) positions jobs after (mid, dispatch, none, ran) all = jobs_good (record before { registry = mid }) jobs after ran (positions_good before.registry [] positions mid dispatch.1 all)
+    iteration_good before (Err errno) positions jobs after (no_positions, no_jobs, e) all = subst (λ (s : ManagerState V). all_good s.registry) (sym e) all
+
+    like_jobs_go_on : (step : LoopStep V) → IsLikeJobs may (Stepped step) → StepGoesOn (keeps good) step
+    like_jobs_go_on (Joined value id exchanges calls held) like = tt
+    like_jobs_go_on (NotJoined value error) like = tt
+    like_jobs_go_on (Left id value calls) like = tt
+    like_jobs_go_on (Replaced id old new) (job, reply, chosen) = All-head (StepGoesOn (keeps good)) (Replaced id old new) [] (go job (Replaced id old new ∷ []) reply chosen)
+    like_jobs_go_on (Requested id exchanges calls) like = tt
+    like_jobs_go_on (Refused id) like = tt
+
+    effect_good : (before : ManagerState V) (effect : Effect V J R) (after : ManagerState V) → HasEffect begins serves may before effect after → IsLikeJobs may effect → all_good before.registry → all_good after.registry
+    effect_good before (Stepped step) after (did, same) like all = step_good before.registry step after.registry (like_jobs_go_on step like) did all
+    effect_good before (Iterated iteration) after did like all = iteration_good before iteration.waited iteration.positions iteration.jobs after did all
+
+    trace_good : (before : ManagerState V) (trace : List (TraceEntry V J R)) (after : ManagerState V) → IsTrace begins serves may before trace after → All (λ entry. IsLikeJobs may entry.effect) trace → all_good before.registry → all_good after.registry
+    trace_good before [] after e like all = subst (λ (s : ManagerState V). all_good s.registry) (sym e) all
+    trace_good before (entry ∷ trace) after (mid, matches, did, more) like all = trace_good mid trace after more (All-tail (λ (e : TraceEntry V J R). IsLikeJobs may e.effect) entry trace like)
+        (effect_good before entry.effect mid did (All-head (λ (e : TraceEntry V J R). IsLikeJobs may e.effect) entry trace like) all)
+
+    -- of the subscribers that are handed out in the end
+    pub ended_good : (subscribers : FinMap nat_cmp V) (taken : ℕ) → HasEnded begins serves may subscribers taken → AllHeld good subscribers
+    ended_good subscribers taken ended =
+        let at_first : all_good (new_registry ended.reached.endpoint) = λ i u at. let none : None ≡ Some u = sym (get-empty nat_cmp i) ∙ at in let no : ⊥ = cc in absurd no in
+        subst (AllHeld good) ended.has (trace_good (new_state ended.reached.endpoint) ended.reached.trace ended.state ended.reached.is_trace ended.reached.like_jobs at_first)
+
+    -- of what a run on threads answers
+    pub run_good : {X E : Type 0} (result : Result X E) (subscribers : X → FinMap nat_cmp V) (taken : X → ℕ) → IfOk result (λ ended. HasEnded begins serves may (subscribers ended) (taken ended)) → IfOk result (λ ended. AllHeld good (subscribers ended))
+    run_good result subscribers taken = IfOk-weaker result _ _ (λ ended has. ended_good (subscribers ended) (taken ended) has)

@@ -22,5 +22,7 @@ pub mod ProjectedHistory
 pub mod TracesWithoutJobs
 pub mod Lives
 pub mod Kept
+pub mod ReachedStates
+pub mod Apart
 pub use Rattle.event_loop.proofs.ExchangeLemmas
 pub use Rattle.event_loop.proofs.RequestsSoFar

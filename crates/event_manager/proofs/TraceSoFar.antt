@@ -17,7 +17,7 @@ use Rattle.event_loop.proofs.ExchangeLemmas.{leads_join}
 use Rattle.event_manager.proofs.Isolation.{isolated_step, isolated_delivery, left_frees}
 use Rattle.event_manager.proofs.Soundness.{trace_follows}
 use Rattle.event_manager.specs.History.{history_of}
-use Rattle.event_manager.proofs.Histories.{trace_is_history}
+use Rattle.event_manager.proofs.Histories.{trace_is_history, traces_join}
 use Rattle.event_manager.proofs.ProjectedHistory.{non_interference}
 
 -- call and reply of each step are those of the call that made it
@@ -47,10 +47,6 @@ module _ {S J R P : Type 0} (begins : Begins S) (serves : Serves S) (may : May S
   pub iteration_called : {before after : LoopState S P} {ms : ℤ} {result : Result ℕ Error} → (did : IsLoopIteration begins serves may controls waits before ms result after) → HasCalled begins serves may controls waits before (Iterated did.iteration) after
   iteration_called did = record { had = did.iterated; led = did.led; same_capacity = did.same_capacity }
 
-  traces_join : (before mid after : ManagerState S) (trace more : List (TraceEntry S J R)) → IsTrace begins serves may before trace mid → IsTrace begins serves may mid more after → IsTrace begins serves may before (trace ++ more) after
-  traces_join before mid after [] more is then = subst (λ s. IsTrace begins serves may s more after) is then
-  traces_join before mid after (first ∷ trace) more (next, says, did, rest) then = (next, says, did, traces_join next mid after trace more rest then)
-
   calls_more : (capacity : ℕ) (trace : List (TraceEntry S J R)) (entry : TraceEntry S J R) → calls_of_trace capacity (trace ++ entry ∷ []) ≡ calls_of_trace capacity trace ++ calls_of_effect capacity entry.effect
   calls_more capacity trace entry =
       flat_map-append (λ (e : TraceEntry S J R). calls_of_effect capacity e.effect) trace (entry ∷ []) ∙ ap (λ xs. calls_of_trace capacity trace ++ xs) (append-nil (calls_of_effect capacity entry.effect))
@@ -76,7 +72,7 @@ module _ {S J R P : Type 0} (begins : Begins S) (serves : Serves S) (may : May S
         trace = so_far.trace ++ entry ∷ [];
         calls_are = ap (λ cs. cs ++ left) (map-append (λ (e : TraceEntry S J R). e.call) so_far.trace (entry ∷ [])) ∙ append_assoc (map (λ e. e.call) so_far.trace) (c ∷ []) left ∙ so_far.calls_are;
         replies_are = ap (λ rs. rs ++ r ∷ []) so_far.replies_are ∙ append_assoc old (map (λ e. e.reply) so_far.trace) (r ∷ []) ∙ ap (λ rs. old ++ rs) (sym (map-append (λ (e : TraceEntry S J R). e.reply) so_far.trace (entry ∷ [])));
-        is_trace = traces_join (manager_state before) (manager_state now) (manager_state next) so_far.trace (entry ∷ []) so_far.is_trace (manager_state next, matches, did.had, refl);
+        is_trace = traces_join begins serves may (manager_state before) (manager_state now) (manager_state next) so_far.trace (entry ∷ []) so_far.is_trace (manager_state next, matches, did.had, refl);
         led = subst (λ xs. Leads controls waits before.poller xs next.poller) (sym (calls_more before.capacity so_far.trace entry)) (leads_join controls waits before.poller now.poller next.poller (calls_of_trace before.capacity so_far.trace) (calls_of_effect before.capacity effect) so_far.led led);
         same_capacity = did.same_capacity ∙ so_far.same_capacity;
       }
@@ -120,7 +116,7 @@ module _ {S J R P : Type 0} (begins : Begins S) (serves : Serves S) (may : May S
       let one = first.is_trace_of in
       let two = second.is_trace_of in
       let led = subst (λ k. Leads controls waits between.poller (calls_of_trace k second.trace) after.poller) one.same_capacity two.led in
-      let is_trace = traces_join (manager_state before) (manager_state between) (manager_state after) first.trace second.trace one.is_trace two.is_trace in
+      let is_trace = traces_join begins serves may (manager_state before) (manager_state between) (manager_state after) first.trace second.trace one.is_trace two.is_trace in
       record {
         trace = first.trace ++ second.trace;
         is_trace_of = record {

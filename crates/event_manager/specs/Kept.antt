@@ -1,5 +1,7 @@
 -- What goes on over a run, by a relation between a value before and a value after that a user chooses.
-use Rattle.std.specs.Prelude.{ℕ, List, All}
+use Rattle.std.specs.Prelude.{◌≡◌, ℕ, List, All, Some}
+use Rattle.std.specs.FinMap.{FinMap, get}
+use Rattle.std.specs.Ordering.{nat_cmp}
 use Rattle.event_loop.specs.Prelude.{Registry, HasId, LoopStep, Replaced, May}
 
 -- each id that is held before is held after, and its value has gone on
@@ -17,3 +19,11 @@ StepGoesOn goes step = Unit {0}
 
 abbrev pub JobsGoOn : {V J R : Type 0} → (V → V → Type 0) → May V J R → Type 0
 JobsGoOn {V} {J} {R} goes may = (job : J) (steps : List (LoopStep V)) (reply : R) → may job steps reply → All (StepGoesOn goes) steps
+
+-- each value that is held has the property
+abbrev pub AllHeld : {V : Type 0} → (V → Type 0) → FinMap nat_cmp V → Type 0
+AllHeld {V} good values = (id : ℕ) (v : V) → get values id ≡ Some v → good v
+
+-- what takes the place of a value that has the property has it too
+abbrev pub keeps : {V : Type 0} → (V → Type 0) → V → V → Type 0
+keeps good v w = good v → good w

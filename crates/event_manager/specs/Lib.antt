@@ -49,6 +49,8 @@ pub mod History
 pub mod TraceProjection
 pub mod Life
 pub mod Kept
+pub mod Reached
+pub mod Wants
 pub use Rattle.event_loop.specs.declared.boxed_subscriber.StepInput
 pub use Rattle.event_loop.specs.declared.error.Error
 pub use Rattle.event_loop.specs.declared.events.Request

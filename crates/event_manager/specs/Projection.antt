@@ -72,8 +72,11 @@ IsApart i before history =
     (fd : ℕ) (j : ℕ) → j ≢ i → Owns i before.registrations fd ⊎ IsTrue (asks_to_add fd (exchanges_in i history))
     → ¬ Owns j before.registrations fd × (adds fd (exchanges_in j history) ≡ false)
 
--- Non-interference: a projection of the history to each i that is apart is itself a history.
+-- id i is as if the others were not there: a projection of the history to it is itself a history
+abbrev pub IsAsIfAlone : {V : Type 0} → Begins V → Serves V → ℕ → Registry V → List (Turn V) → Registry V → Type 0
+IsAsIfAlone {V} begins serves i before history after =
+    (projected : List (Turn V)) × IsProjection i history projected × IsHistory begins serves (projected_registry i before) projected (projected_registry i after)
+
+-- Non-interference: each i that is apart is as if the others were not there.
 abbrev pub NonInterference : {V : Type 0} → Begins V → Serves V → Registry V → List (Turn V) → Registry V → Type 0
-NonInterference {V} begins serves before history after =
-    (i : ℕ) → IsApart i before history
-    → (projected : List (Turn V)) × IsProjection i history projected × IsHistory begins serves (projected_registry i before) projected (projected_registry i after)
+NonInterference begins serves before history after = (i : ℕ) → IsApart i before history → IsAsIfAlone begins serves i before history after

@@ -21,14 +21,7 @@ pub record TraceEntry (V J R : Type 0) : Type 0 where
   pub reply : Reply V
   pub effect : Effect V J R
 
--- the call is of this id, and the reply says that nobody has it
-abbrev pub IsRefused : {V : Type 0} → ℕ → Call V → Reply V → Type 0
-IsRefused i (call.Remove id) r = (id ≡ i) × (r ≡ reply.Removed (Err InvalidId))
-IsRefused i (call.Set id value) r = (id ≡ i) × (r ≡ reply.Set (Err InvalidId))
-IsRefused i (call.Ask id requests) r = (id ≡ i) × (r ≡ reply.Asked (Err InvalidId))
-IsRefused i c r = ⊥
-
--- the call and the reply are those of the effect
+-- the call and the reply are those of the effect: of a refused step a call of its id, and the reply that nobody has it
 abbrev pub Matches : {V J R : Type 0} → Effect V J R → Call V → Reply V → Type 0
 Matches (Stepped (Joined value id exchanges calls held)) c r = (c ≡ call.Add value) × (r ≡ reply.Added (Ok id))
 Matches (Stepped (NotJoined value error)) c r = (c ≡ call.Add value) × (r ≡ reply.Added (Err error))
@@ -37,7 +30,10 @@ Matches (Stepped (Replaced id old new)) c r = (c ≡ call.Set id new) × (r ≡ 
 Matches (Stepped (Requested id exchanges calls)) c r =
     (requests : Vec Request Global) × (answers : Vec Answer Global) × (c ≡ call.Ask id requests) × (r ≡ reply.Asked (Ok answers))
     × (requests_of exchanges ≡ requests.items) × (answers_of exchanges ≡ answers.items)
-Matches (Stepped (Refused id)) c r = IsRefused id c r
+Matches (Stepped (Refused id)) (call.Remove i) r = (i ≡ id) × (r ≡ reply.Removed (Err InvalidId))
+Matches (Stepped (Refused id)) (call.Set i value) r = (i ≡ id) × (r ≡ reply.Set (Err InvalidId))
+Matches (Stepped (Refused id)) (call.Ask i requests) r = (i ≡ id) × (r ≡ reply.Asked (Err InvalidId))
+Matches (Stepped (Refused id)) c r = ⊥
 Matches (Iterated iteration) c r = (c ≡ call.Run iteration.ms) × (r ≡ reply.Ran (run_answer iteration.waited))
 
 module _ {V J R : Type 0} (begins : Begins V) (serves : Serves V) (may : May V J R) where

@@ -50,3 +50,7 @@ module _ {J : Type 0} where
   -- while the counter's value is 0 and no take is to come, no job waits, and none was rung for that is still to come
   abbrev pub NoJobWaitsUnheard : WakeState J → Type 0
   NoJobWaitsUnheard state = state.value ≡ 0 → state.take_is_to_come ≡ false → (state.queue.waiting ≡ []) × (state.job_is_to_come ≡ false)
+
+  -- Steps lead to this queue, and no job is to come before or after them: what one did with the lock held.
+  abbrev pub ReachesQueue : WakeState J → QueueState J (Unit {0}) → Type 0
+  ReachesQueue before queue = (steps : List (WakeStep J)) × (after : WakeState J) × AreSteps before steps after × (after.queue ≡ queue) × (after.job_is_to_come ≡ false)

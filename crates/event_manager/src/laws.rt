@@ -4,7 +4,7 @@ ghost use Rattle.std.specs.Hash as fed;
 ghost use Rattle.std.specs.List.{fold};
 ghost use Rattle.std.specs.Ordering.{nat_cmp};
 ghost use Rattle.std.specs.List.Sorted.{IsPermutation};
-ghost use Rattle.std.specs.Prelude.{IsTrue, Bool, ◌↔◌, ◌≡◌, ℕ, false, List, [], ◌∷◌, ◌++◌, map};
+ghost use Rattle.std.specs.Prelude.{IsTrue, Bool, ◌↔◌, ◌≡◌, ℕ, false, List, [], ◌∷◌, ◌++◌, map, None, Result};
 ghost use Rattle.dispatch_tables.specs.Event.{Event};
 ghost use Rattle.event_loop.specs.PollerCall.{PollerCall};
 ghost use Rattle.event_loop.specs.Registrations.{Registrations};
@@ -15,7 +15,7 @@ ghost use Rattle.event_loop.specs.Registry.{Registry, LoopStep, Steps, Left, Are
 ghost use Rattle.event_loop.specs.Dispatch.{Position, Delivery, is_removed, still_pending, with_pending, IsDelivery};
 ghost use Rattle.event_loop.specs.Iteration.{ManagerState};
 ghost use Rattle.event_manager.specs.Trace.{TraceEntry, HasEffect, IsTrace, new_state};
-ghost use Rattle.event_manager.specs.Projection.{NonInterference, receiver_of};
+ghost use Rattle.event_manager.specs.Projection.{NonInterference, IsApart, IsAsIfAlone, receiver_of};
 ghost use Rattle.event_manager.specs.Guarantees.{AreGiven, RemovedStayGone, RemovedStayUnknown, IsSound, IsUntouched, FreesExactly};
 ghost use Rattle.event_loop.specs.LoopState.{LoopState};
 ghost use Rattle.event_manager.specs.declared.calls.Call.{Call};
@@ -24,8 +24,11 @@ ghost use Rattle.event_manager.specs.Driven.{IsDriven};
 ghost use Rattle.event_manager.specs.History.{Turn, IsHistory, history_of};
 ghost use Rattle.event_manager.specs.TraceProjection.{TracesProject};
 ghost use Rattle.event_manager.specs.Life.{Lives, life_of};
+ghost use Rattle.event_manager.specs.Wants.{by_test, AreDisjoint, IsWithin, StaysWithin};
 ghost use Rattle.std.specs.FinMap.{get};
-ghost use Rattle.event_manager.specs.WakeUps.{WakeState, AreSteps, NoJobWaitsUnheard, new_wake_state};
+ghost use Rattle.event_loop.specs.declared.error.Error.{Error};
+ghost use Rattle.event_manager.specs.JobQueue.{QueueState, IsSend};
+ghost use Rattle.event_manager.specs.WakeUps.{WakeState, AreSteps, ReachesQueue, NoJobWaitsUnheard, new_wake_state};
 ghost use Rattle.event_manager.specs.Example.{any_begins, any_serves, any_may, joins, iterates};
 ghost use Rattle.dispatch_tables.specs.Ownership.{class_in};
 
@@ -68,8 +71,23 @@ pub fn non_interference<S: MutEventSubscriber, J: Job<S>>()
         IsTrace S.begins S.serves J.may before trace after → TracesProject S.begins S.serves J.may before trace after }
 {}
 
+/// Who is known beforehand to want only descriptors that no other id may have is as if the others were not there. `wants` says which
+/// descriptors a subscriber of that value may ever ask for, and `claims` which id may have which. Where nobody comes to want or asks to
+/// add more, what joins under an id, takes another's place or is asked from outside is within what that id claims, and so is the
+/// registry at the start: then the registry is so at the end; and where no two ids claim the same descriptor, each is apart from its
+/// neighbours in that history, which so has a projection to each.
+pub fn wants_keep_apart<S: MutEventSubscriber>()
+    ensures kept { (wants : S → ℕ → Bool) (claims : ℕ → ℕ → Bool) (before : Registry S) (history : List (Turn S)) (after : Registry S) →
+        StaysWithin (by_test wants) (by_test claims) S.begins S.serves before history after → IsWithin (by_test wants) (by_test claims) after }
+    ensures apart { (wants : S → ℕ → Bool) (claims : ℕ → ℕ → Bool) (before : Registry S) (history : List (Turn S)) (after : Registry S) → AreDisjoint (by_test claims) →
+        StaysWithin (by_test wants) (by_test claims) S.begins S.serves before history after → (i : ℕ) → IsApart i before history }
+    ensures as_if_alone { (wants : S → ℕ → Bool) (claims : ℕ → ℕ → Bool) (before : Registry S) (history : List (Turn S)) (after : Registry S) → AreDisjoint (by_test claims) →
+        StaysWithin (by_test wants) (by_test claims) S.begins S.serves before history after → (i : ℕ) → IsAsIfAlone S.begins S.serves i before history after }
+{}
+
 /// What happens to one id in a history is a life of its own: the value that it holds at the end comes from the one at the start by
-/// the joins, deliveries, replacements and leaves of that id alone, each as the subscriber's relations say.
+/// the joins, deliveries, replacements and leaves of that id alone: joins and deliveries are as the subscriber's relations say,
+/// and a replacement puts any value in the place of the one before.
 pub fn lives_are_its_own<S: MutEventSubscriber>()
     ensures { (i : ℕ) (before : Registry S) (history : List (Turn S)) (after : Registry S) →
         IsHistory S.begins S.serves before history after → Lives S.begins S.serves (get before.values i) (life_of i history) (get after.values i) }
@@ -152,9 +170,12 @@ pub fn driven_lists_join<S: MutEventSubscriber, J: Job<S>, P: EventPoller>()
 /// No job waits unheard: while the counter's value is 0 and the loop isn't between its clear and its take, no job waits, and no
 /// sender is between its ring and its job. That holds of a new queue and a counter of value 0, and it still holds after any list
 /// of steps, each agreed to or refused, in any order that the queue's lock allows, where nobody but the loop clears that counter.
-/// So a loop that sleeps because the value is 0 sleeps over no job.
+/// So a loop that sleeps because the value is 0 sleeps over no job. Whatever the queue's send answers is such a list of steps; a
+/// take of all that waits, and a close, are one.
 pub fn no_job_waits_unheard<J>()
     ensures new { NoJobWaitsUnheard (new_wake_state {J = J}) }
+    ensures sends { (before : WakeState J) (job : J) (answer : Result ℕ Error) (queue : QueueState J (Unit {0})) → before.job_is_to_come ≡ false →
+        IsSend (λ rung. Unit {0}) before.queue job None answer queue → ReachesQueue before queue }
     ensures kept { (before : WakeState J) (steps : List (WakeStep J)) (after : WakeState J) →
         AreSteps before steps after → NoJobWaitsUnheard before → NoJobWaitsUnheard after }
 {}

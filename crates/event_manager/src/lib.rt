@@ -16,6 +16,7 @@ mod loops;
 mod manager;
 mod named_counter;
 mod senders;
+mod tracked;
 
 pub use calls::{Call, Reply};
 pub use endpoint::RemoteEndpoint;
@@ -36,4 +37,5 @@ pub use loops::{ThreadLoop, with_loops};
 pub use manager::EventManager;
 pub use named_counter::{Named, NamedCounter};
 pub use senders::{Ended, LoopWithSenders, Sender, Senders, with_senders};
+pub use tracked::TrackedManager;
 pub use vmm_sys::counter::{Bell, Counter};

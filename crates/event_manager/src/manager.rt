@@ -1,8 +1,9 @@
 //! The event manager: a loop that waits and dispatches.
 
-ghost use Rattle.std.specs.Prelude.{◌≡◌, ℕ, negsuc, IfErr, IfOk};
+ghost use Rattle.std.specs.Prelude.{◌≡◌, ℕ, List, negsuc, IfErr, IfOk};
+ghost use Rattle.event_loop.specs.Registry.{LoopStep};
 ghost use Rattle.std.specs.Borrow.{sem, LendsSoOk};
-ghost use Rattle.event_loop.specs.LoopState.{IsLoopIteration, with_value};
+ghost use Rattle.event_loop.specs.LoopState.{HaveStepped, IsLoopIteration, with_value};
 ghost use Rattle.event_loop.specs.Requests.{StandsFor, with_ops};
 ghost use Rattle.event_manager.specs.Manager.{state_of, endpoint_of, IsMade};
 
@@ -139,6 +140,13 @@ impl<S: MutEventSubscriber, J: Job<S>, N: NamedCounter, P: EventPoller> EventMan
     /// Whether jobs wait.
     pub(crate) fn has_waiting_jobs<R: Wait>(&self, rt: &R) -> bool {
         self.channel.has_waiting_jobs(rt)
+    }
+
+    /// Does a job at once, which has no ticket.
+    pub(crate) fn call_here<R: Wait + Clock>(&mut self, job: J, rt: &R) -> J::Reply
+        ensures { (steps : List (LoopStep S)) × J.may job steps result × HaveStepped S.begins P.controls P.waits (state_of self.old) steps (state_of self.new) }
+    {
+        job.call(&mut self.registry, rt)
     }
 
     /// Closes the queue as [`close`](EventManager::close) does, and hands out the subscribers by id and the poller, which is

@@ -1,14 +1,16 @@
 //! A loop, and those who send jobs to it from threads of their own.
 
-ghost use Rattle.std.specs.Prelude.{◌≡◌};
+ghost use Rattle.std.specs.Prelude.{◌≡◌, IfOk, IfSome};
+ghost use Rattle.event_manager.specs.Reached.{HasEnded};
 
 use crate::endpoint::RemoteEndpoint;
 use crate::endpoint::closed::Closed;
 use crate::jobs::Job;
 use crate::loops::{ThreadLoop, with_loops};
-use crate::manager::{DEFAULT_CAPACITY, EventManager};
+use crate::manager::DEFAULT_CAPACITY;
 use crate::named_counter::{Named, NamedCounter};
-use event_loop::{Error, EventPoller, MutEventSubscriber, Result};
+use crate::tracked::TrackedManager;
+use event_loop::{Error, EventPoller, MutEventSubscriber, Result, Subscribers};
 use job_tickets::ledgers::Ledgers;
 use job_tickets::naming::Naming;
 use std::alloc::Global;
@@ -28,7 +30,7 @@ pub trait Sender<S: MutEventSubscriber, J: Job<S>, T, R: Wait + Clock> {
 
 /// The loop's side of [`with_senders`]: its subscribers and its senders, of type `Q`, and how long it runs.
 pub trait LoopWithSenders<S: MutEventSubscriber, J: Job<S>, Q, R: Wait + Clock> {
-    /// How many events a batch has at most: as it stands here, as many as [`EventManager::new`] gives it.
+    /// How many events a batch has at most: as it stands here, as many as [`EventManager::new`](crate::EventManager::new) gives it.
     fn capacity(&self) -> usize {
         DEFAULT_CAPACITY
     }
@@ -38,7 +40,7 @@ pub trait LoopWithSenders<S: MutEventSubscriber, J: Job<S>, Q, R: Wait + Clock> 
         &mut self,
         rt: &R,
         alloc: Global,
-        manager: &mut EventManager<S, J, N, P>,
+        manager: &mut TrackedManager<S, J, N, P>,
     ) -> Result<Vec<Q>>;
 
     /// Runs the loop beside the senders, on the thread that called `with_senders`. As it stands here:
@@ -46,7 +48,7 @@ pub trait LoopWithSenders<S: MutEventSubscriber, J: Job<S>, Q, R: Wait + Clock> 
     fn run<N: NamedCounter, P: EventPoller>(
         &mut self,
         rt: &R,
-        manager: &mut EventManager<S, J, N, P>,
+        manager: &mut TrackedManager<S, J, N, P>,
         senders: &Senders,
     ) -> Result<()> {
         senders.run_until_ended(manager, rt)
@@ -69,7 +71,7 @@ impl Senders {
     /// may leave the endpoint out: then the manager is run again, until the poller reports it.
     pub fn run_until_ended<S, J, N, P, R>(
         &self,
-        manager: &mut EventManager<S, J, N, P>,
+        manager: &mut TrackedManager<S, J, N, P>,
         rt: &R,
     ) -> Result<()>
     where
@@ -109,7 +111,7 @@ impl Senders {
 
 /// What came of a loop and its senders.
 #[derive(Drop)]
-pub struct Ended<T, P> {
+pub struct Ended<S, T, P> {
     /// What the loop's run answered.
     pub ran: Result<()>,
     /// What each sender gave, in their order.
@@ -118,15 +120,18 @@ pub struct Ended<T, P> {
     pub issued: u64,
     /// How many jobs the manager took and ran.
     pub taken: u64,
+    /// The subscribers that it held in the end.
+    pub subscribers: Subscribers<S>,
     /// The poller, with what was added to it.
     pub poller: P,
 }
 
 // What came of the loop alone.
 #[derive(Drop)]
-struct LoopEnded<N: Naming, P> {
+struct LoopEnded<S, N: Naming, P> {
     ran: Result<()>,
     closed: Closed<N>,
+    subscribers: Subscribers<S>,
     poller: P,
 }
 
@@ -166,7 +171,7 @@ where
 #[derive(Drop)]
 struct ManagerLoop<'a, S: MutEventSubscriber, J: Job<S>, N: NamedCounter, P, B, Q> {
     body: &'a mut B,
-    manager: &'a mut Option<EventManager<S, J, N, P>>,
+    manager: &'a mut Option<TrackedManager<S, J, N, P>>,
     senders: &'a Senders,
     starts: PhantomData<Q>,
 }
@@ -180,9 +185,15 @@ where
     B: LoopWithSenders<S, J, Q, R>,
     R: Wait + Clock,
 {
-    type Output = Option<LoopEnded<N, P>>;
+    type Output = Option<LoopEnded<S, N, P>>;
 
-    fn run(self, rt: &R) -> Option<LoopEnded<N, P>> {
+    ghost use Rattle.std.specs.Prelude.{IfSome};
+    ghost use Rattle.event_manager.specs.Reached.{HasEnded};
+
+    // Whatever the body has done with the manager.
+    ghost gives = { λ own output. IfSome output (λ ended. HasEnded S.begins S.serves J.may ended.subscribers ended.closed.taken) };
+
+    fn run(self, rt: &R) -> Option<LoopEnded<S, N, P>> {
         let ManagerLoop {
             body,
             manager,
@@ -191,10 +202,11 @@ where
         } = self;
         let mut manager = manager.take()?;
         let ran = body.run(rt, &mut manager, senders);
-        let (closed, _subscribers, poller) = manager.into_parts(rt);
+        let (closed, subscribers, poller) = manager.into_parts(rt);
         Some(LoopEnded {
             ran,
             closed,
+            subscribers,
             poller,
         })
     }
@@ -207,7 +219,7 @@ fn run_beside<'a, S, J, N, P, B, Q, T, R>(
     own: ManagerLoop<'a, S, J, N, P, B, Q>,
     senders: Vec<Q>,
     endpoint: &'a RemoteEndpoint<S, J, N>,
-) -> Result<(Option<LoopEnded<N, P>>, Vec<T>)>
+) -> Result<(Option<LoopEnded<S, N, P>>, Vec<T>)>
 where
     S: MutEventSubscriber + Send + Drop,
     J: Job<S> + Send,
@@ -218,6 +230,7 @@ where
     Q: Sender<S, J, T, R> + Send + Drop,
     T: Send + Drop,
     R: Threads + Wait + Clock + Sync,
+    ensures { IfOk result (λ gave. IfSome gave.0 (λ ended. HasEnded S.begins S.serves J.may ended.subscribers ended.closed.taken)) }
 {
     let at_work = own.senders;
     let mut others = Vec::new(alloc);
@@ -241,7 +254,7 @@ fn run_named<S, J, N, P, C, B, Q, T, R>(
     body: &mut B,
     tickets: Blank,
     taken: Blank,
-) -> Result<Ended<T, P>>
+) -> Result<Ended<S, T, P>>
 where
     S: MutEventSubscriber + Send + Drop,
     J: Job<S> + Send,
@@ -255,11 +268,12 @@ where
     R: Threads + Wait + Clock + Sync,
     requires tickets { (tickets.name ≡ N.tickets) × (tickets.parts ≡ 9223372036854775808) }
     requires taken { (taken.name ≡ N.taken) × (taken.parts ≡ 1) }
+    ensures { IfOk result (λ ended. HasEnded S.begins S.serves J.may ended.subscribers ended.taken) }
 {
     let ledgers = Ledgers::<Named<N, C>>::new(tickets, taken);
     let capacity = body.capacity();
     let counter = Named::new(counter);
-    let made = EventManager::<S, J, Named<N, C>, P>::new_with_capacity(
+    let made = TrackedManager::<S, J, Named<N, C>, P>::new_with_capacity(
         alloc, poller, counter, capacity, ledgers,
     );
     let mut manager = made?;
@@ -286,6 +300,7 @@ where
     let LoopEnded {
         ran,
         closed,
+        subscribers,
         poller,
     } = ended;
     Ok(Ended {
@@ -293,6 +308,7 @@ where
         sent,
         issued: closed.issued(),
         taken: closed.taken(),
+        subscribers,
         poller,
     })
 }
@@ -305,13 +321,16 @@ where
 /// begins; with `OutOfMemory` also where there is no room for what the senders give, or no thread for one of them: then neither
 /// the loop nor a sender begins, and the manager is closed. Once the manager was made its endpoint stays with the poller,
 /// whose copies see it still: a close asks for no Delete.
+///
+/// The subscribers that are handed out are what a trace of calls and jobs leads to from a new manager, whatever the body has
+/// done: so what each `init` gives, and each `process` and each job keeps, holds of them.
 pub fn with_senders<S, J, P, C, B, Q, T, R>(
     rt: &R,
     alloc: Global,
     poller: P,
     counter: C,
     body: &mut B,
-) -> Result<Ended<T, P>>
+) -> Result<Ended<S, T, P>>
 where
     S: MutEventSubscriber + Send + Drop,
     J: Job<S> + Send,
@@ -322,6 +341,7 @@ where
     Q: Sender<S, J, T, R> + Send + Drop,
     T: Send + Drop,
     R: Threads + Wait + Clock + Sync,
+    ensures { IfOk result (λ ended. HasEnded S.begins S.serves J.may ended.subscribers ended.taken) }
 {
     let (tickets, taken) = (Blank::new(9223372036854775808), Blank::new(1));
     run_named::<S, J, Brand, P, C, B, Q, T, R>(rt, alloc, poller, counter, body, tickets, taken)

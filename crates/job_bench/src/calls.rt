@@ -7,8 +7,8 @@ use crate::jobs::{CountOne, Counter, count_at};
 use crate::progress::Progress;
 use anyhow::{Result, bail};
 use event_manager::{
-    ActionOn, Error, EventManager, EventPoller, LoopWithSenders, NamedCounter, RemoteEndpoint,
-    Sender, SubscriberId, SubscriberOps, with_senders,
+    ActionOn, Error, EventPoller, LoopWithSenders, NamedCounter, RemoteEndpoint, Sender,
+    SubscriberId, TrackedManager, with_senders,
 };
 use measures::arguments::Family;
 use measures::bench::{Bench, Measured, expect};
@@ -53,7 +53,7 @@ impl<'a, R: Wait + Clock> LoopWithSenders<Counter, ActionOn<CountOne>, Caller<'a
         &mut self,
         _rt: &R,
         alloc: Global,
-        manager: &mut EventManager<Counter, ActionOn<CountOne>, N, P>,
+        manager: &mut TrackedManager<Counter, ActionOn<CountOne>, N, P>,
     ) -> event_manager::Result<Vec<Caller<'a>>> {
         let caller = Caller {
             id: manager.add_subscriber(Counter { count: 0 })?,

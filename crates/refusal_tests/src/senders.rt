@@ -6,7 +6,7 @@ use crate::expecting::{Host, Looping, expect_same};
 use crate::jobs::Endpoint;
 use crate::making::{OnTable, open_table, parts_of};
 use event_manager::{
-    Ended, EventManager, EventPoller, LoopWithSenders, NamedCounter, Result, Sender, with_senders,
+    Ended, EventPoller, LoopWithSenders, NamedCounter, Result, Sender, TrackedManager, with_senders,
 };
 use fixtures::parts::{Idle, Parts};
 use fixtures::work::Work;
@@ -42,7 +42,7 @@ impl<'a, R: Looping> LoopWithSenders<Idle, Work, Caller<'a>, R> for Callers<'a> 
         &mut self,
         _rt: &R,
         alloc: Global,
-        _manager: &mut EventManager<Idle, Work, N, P>,
+        _manager: &mut TrackedManager<Idle, Work, N, P>,
     ) -> Result<Vec<Caller<'a>>> {
         let mut callers = Vec::new(alloc);
         for k in 0..self.count {
@@ -81,7 +81,7 @@ fn run_once<R: Host + Threads + Sync>(
     on_table: &OnTable<R>,
     count: u64,
     begun: &AtomicU64,
-) -> Result<Ended<u64, Epoll<R>>> {
+) -> Result<Ended<Idle, u64, Epoll<R>>> {
     let Parts {
         poller,
         counter,

@@ -4,8 +4,8 @@
 use crate::ending::beside_senders;
 use crate::expecting::{Host, Looping, expect_noted, expect_ok, expect_same};
 use event_manager::{
-    Error, EventManager, EventPoller, LoopWithSenders, NamedCounter, RemoteEndpoint, Result,
-    Sender, Senders,
+    Error, EventPoller, LoopWithSenders, NamedCounter, RemoteEndpoint, Result, Sender, Senders,
+    TrackedManager,
 };
 use fixtures::parts::{Idle, on_table};
 use fixtures::waits::wait_until_pending;
@@ -66,7 +66,7 @@ impl<'a, R: Looping> LoopWithSenders<Idle, Work, Caller<'a>, R> for Lined<'a> {
         &mut self,
         _rt: &R,
         alloc: Global,
-        _manager: &mut EventManager<Idle, Work, N, P>,
+        _manager: &mut TrackedManager<Idle, Work, N, P>,
     ) -> Result<Vec<Caller<'a>>> {
         let mut callers = Vec::new(alloc);
         for (place, (number, reply)) in self.line.jobs.iter().enumerate() {
@@ -86,7 +86,7 @@ impl<'a, R: Looping> LoopWithSenders<Idle, Work, Caller<'a>, R> for Lined<'a> {
     fn run<N: NamedCounter, P: EventPoller>(
         &mut self,
         rt: &R,
-        manager: &mut EventManager<Idle, Work, N, P>,
+        manager: &mut TrackedManager<Idle, Work, N, P>,
         _senders: &Senders,
     ) -> Result<()> {
         let endpoint = expect_ok(rt, manager.remote_endpoint());

@@ -32,7 +32,7 @@ pub fn beside_senders<S, J, P, C, B, Q, T, R>(
     rt: &R,
     parts: Parts<P, C>,
     body: &mut B,
-) -> Result<Ended<T, P>>
+) -> Result<Ended<S, T, P>>
 where
     S: MutEventSubscriber + Send + Drop,
     J: Job<S> + Send,

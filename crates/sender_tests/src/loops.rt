@@ -3,10 +3,10 @@
 use crate::ending::{Counted, Course, beside_senders};
 use crate::expecting::{Host, Looping, expect_ok, expect_same};
 use event_manager::{
-    Error, EventManager, EventPoller, EventSet, Events, LoopWithSenders, NamedCounter, NoJob,
-    RemoteEndpoint, Result, Sender,
+    Error, EventPoller, EventSet, Events, LoopWithSenders, NamedCounter, NoJob, RemoteEndpoint,
+    Result, Sender, TrackedManager,
 };
-use fixtures::noting::{Noting, add_noting};
+use fixtures::noting::{Noting, make_noting};
 use fixtures::parts::{Idle, Parts, on_table, silent_parts};
 use fixtures::waits::{is_counted_within, wait_until_counted, wait_until_noted};
 use fixtures::work::{Notes, new_notes};
@@ -74,7 +74,7 @@ impl<'a, R: Looping> LoopWithSenders<Idle, NoJob, Meeting<'a>, R> for Meet<'a> {
         &mut self,
         rt: &R,
         alloc: Global,
-        _manager: &mut EventManager<Idle, NoJob, N, P>,
+        _manager: &mut TrackedManager<Idle, NoJob, N, P>,
     ) -> Result<Vec<Meeting<'a>>> {
         self.has_begun = true;
         if let Some(refusal) = self.refusal {
@@ -159,11 +159,12 @@ impl<'a, R: Looping> LoopWithSenders<Noting<R>, NoJob, Causing<'a>, R> for Joini
         &mut self,
         rt: &R,
         alloc: Global,
-        manager: &mut EventManager<Noting<R>, NoJob, N, P>,
+        manager: &mut TrackedManager<Noting<R>, NoJob, N, P>,
     ) -> Result<Vec<Causing<'a>>> {
         expect_same(rt, &self.course.waits.load(Ordering::SeqCst), &0);
         let own = Events::new(self.counter, EventSet::IN);
-        expect_ok(rt, add_noting(rt, manager, own, 1, self.notes));
+        let noting = expect_ok(rt, make_noting(rt, own, 1, self.notes));
+        expect_ok(rt, manager.add_subscriber(noting));
         let sender = Causing {
             counter: self.counter,
             notes: self.notes,
@@ -208,7 +209,7 @@ impl<R: Looping> LoopWithSenders<Idle, NoJob, Nobody, R> for WithoutRoom {
         &mut self,
         _rt: &R,
         alloc: Global,
-        _manager: &mut EventManager<Idle, NoJob, N, P>,
+        _manager: &mut TrackedManager<Idle, NoJob, N, P>,
     ) -> Result<Vec<Nobody>> {
         Ok(Vec::new(alloc))
     }

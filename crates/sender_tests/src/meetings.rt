@@ -5,10 +5,12 @@ use crate::ending::beside_senders;
 use crate::expecting::{Host, Looping, expect_noted, expect_ok, expect_same};
 use crate::own_counter::{HIGHEST, OwnCounter, OwnPoller, own_parts};
 use event_manager::{
-    Counter, Error, EventManager, EventPoller, EventSet, Events, LoopWithSenders, NamedCounter,
-    RemoteEndpoint, Result, Sender, Senders, SubscriberOps,
+    Counter, Error, EventPoller, EventSet, Events, LoopWithSenders, NamedCounter, RemoteEndpoint,
+    Request, Result, Sender, Senders, TrackedManager,
 };
-use fixtures::parts::{Idle, Parts, on_table, silent_parts};
+use fixtures::asking::Asking;
+use fixtures::making::no_memory;
+use fixtures::parts::{Parts, on_table, silent_parts};
 use fixtures::scripts::push_words;
 use fixtures::waits::{wait_until_ended, wait_until_pending};
 use fixtures::work::{Gate, Notes, Work, fire_note, new_notes};
@@ -19,9 +21,9 @@ use vmm_sys::errno::Errno;
 use vmm_sys::eventfd::EventFd;
 use vmm_sys::script_poller::ScriptPoller;
 
-type Loop<N, P> = EventManager<Idle, Work, N, P>;
+type Loop<N, P> = TrackedManager<Asking, Work, N, P>;
 
-type Endpoint<N> = RemoteEndpoint<Idle, Work, N>;
+type Endpoint<N> = RemoteEndpoint<Asking, Work, N>;
 
 /// What the two threads do.
 #[derive(Clone, Copy)]
@@ -146,14 +148,17 @@ fn stay<N: NamedCounter, R: Looping>(rt: &R, endpoint: &Endpoint<N>, notes: &Not
 /// Makes descriptors ready before the endpoint is.
 fn crowd<N: NamedCounter, P: EventPoller, R: Looping>(
     rt: &R,
+    alloc: Global,
     manager: &mut Loop<N, P>,
     ready: &[EventFd],
 ) -> Result<()> {
-    let idle = manager.add_subscriber(Idle)?;
+    let mut adds = Vec::new(alloc);
     for counter in ready {
         let own = Events::new(counter, EventSet::IN);
-        manager.event_ops(idle)?.add(own)?;
+        adds.push(Request::Add(own)).map_err(no_memory)?;
     }
+    let asking = Asking::new(alloc, &adds, &[]).map_err(no_memory)?;
+    manager.add_subscriber(asking)?;
     // The endpoint, the first that was added, is reported, and stands behind those of whom a batch has had none then.
     manager.remote_endpoint()?.kick(rt)?;
     manager.run_with_timeout(0, rt)?;
@@ -181,7 +186,7 @@ fn fill<N: NamedCounter, P: EventPoller, R: Looping>(
     expect_same(rt, &fire_note(rt, endpoint, notes, 4), &Ok(4));
 }
 
-impl<R: Looping> Sender<Idle, Work, Answers, R> for Meeting<'_> {
+impl<R: Looping> Sender<Asking, Work, Answers, R> for Meeting<'_> {
     fn send<N: NamedCounter>(self, endpoint: &Endpoint<N>, rt: &R) -> Answers {
         let Meeting { shared, kind } = self;
         match kind {
@@ -225,7 +230,7 @@ fn run_for_two<N: NamedCounter, P: EventPoller, R: Looping>(
     expect_same(rt, &wait_until_pending(rt, endpoint, 1), &true);
 }
 
-impl<'a, R: Looping> LoopWithSenders<Idle, Work, Meeting<'a>, R> for Meeting<'a> {
+impl<'a, R: Looping> LoopWithSenders<Asking, Work, Meeting<'a>, R> for Meeting<'a> {
     fn begin<N: NamedCounter, P: EventPoller>(
         &mut self,
         rt: &R,
@@ -239,7 +244,7 @@ impl<'a, R: Looping> LoopWithSenders<Idle, Work, Meeting<'a>, R> for Meeting<'a>
             Kind::LooksBesideSends => {
                 expect_ok(rt, endpoint.fire(Work::Own(0), rt));
             }
-            Kind::Crowded(ready) => crowd(rt, manager, ready)?,
+            Kind::Crowded(ready) => crowd(rt, alloc, manager, ready)?,
             Kind::Fills(counter) => {
                 fill(rt, manager, &endpoint, &self.shared.notes, counter);
                 return Ok(Vec::new(alloc));

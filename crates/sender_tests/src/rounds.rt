@@ -4,7 +4,8 @@ use crate::bystanders::{start_bystanders, stop_bystanders};
 use crate::ending::{Counted, Course, beside_senders};
 use crate::expecting::{Host, Looping, expect_ok, expect_same};
 use event_manager::{
-    EventManager, EventPoller, LoopWithSenders, NamedCounter, NoJob, RemoteEndpoint, Result, Sender,
+    EventPoller, LoopWithSenders, NamedCounter, NoJob, RemoteEndpoint, Result, Sender,
+    TrackedManager,
 };
 use fixtures::parts::{Idle, Parts};
 use std::alloc::Global;
@@ -42,7 +43,7 @@ impl<R: Looping> LoopWithSenders<Idle, NoJob, Brief, R> for Round {
         &mut self,
         rt: &R,
         alloc: Global,
-        _manager: &mut EventManager<Idle, NoJob, N, P>,
+        _manager: &mut TrackedManager<Idle, NoJob, N, P>,
     ) -> Result<Vec<Brief>> {
         let mut senders = Vec::new(alloc);
         for turns in 0..self.senders {

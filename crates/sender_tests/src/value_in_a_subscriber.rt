@@ -3,9 +3,8 @@
 use crate::ending::beside_senders;
 use crate::expecting::{Looping, expect_ok, expect_same};
 use event_manager::{
-    Action, ActionOn, Error, EventManager, EventOps, EventPoller, Events, LoopWithSenders,
-    MutEventSubscriber, NamedCounter, RemoteEndpoint, Result, Sender, Senders, SubscriberId,
-    SubscriberOps,
+    Action, ActionOn, Error, EventOps, EventPoller, Events, LoopWithSenders, MutEventSubscriber,
+    NamedCounter, RemoteEndpoint, Result, Sender, Senders, SubscriberId, TrackedManager,
 };
 use fixtures::parts::on_table;
 use fixtures::waits::wait_until_pending;
@@ -94,7 +93,7 @@ struct Called {
 
 /// Whether the subscriber is stopped.
 fn is_stopped<N: NamedCounter, P: EventPoller>(
-    manager: &EventManager<Stoppable, ActionOn<Change>, N, P>,
+    manager: &TrackedManager<Stoppable, ActionOn<Change>, N, P>,
     id: SubscriberId,
 ) -> Result<bool> {
     match manager.subscriber(id) {
@@ -108,7 +107,7 @@ impl<R: Looping> LoopWithSenders<Stoppable, ActionOn<Change>, Caller, R> for Cal
         &mut self,
         rt: &R,
         alloc: Global,
-        manager: &mut EventManager<Stoppable, ActionOn<Change>, N, P>,
+        manager: &mut TrackedManager<Stoppable, ActionOn<Change>, N, P>,
     ) -> Result<Vec<Caller>> {
         let joined = manager.add_subscriber(Stoppable {
             value: 0,
@@ -122,7 +121,7 @@ impl<R: Looping> LoopWithSenders<Stoppable, ActionOn<Change>, Caller, R> for Cal
     fn run<N: NamedCounter, P: EventPoller>(
         &mut self,
         rt: &R,
-        manager: &mut EventManager<Stoppable, ActionOn<Change>, N, P>,
+        manager: &mut TrackedManager<Stoppable, ActionOn<Change>, N, P>,
         _senders: &Senders,
     ) -> Result<()> {
         let id = self.id.ok_or(Error::InvalidId)?;

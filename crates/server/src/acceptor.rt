@@ -68,11 +68,11 @@ impl<R: Drop> Acceptor<R> {
         self.statistics.joined = self.statistics.joined.saturating_add(1);
     }
 
-    /// Counts one that left.
-    pub fn count_left(&mut self, connection: &Connection<R>) {
+    /// Counts one that left, and so many bytes.
+    pub fn count_left(&mut self, read: u64) {
         let Statistics { left, bytes, .. } = &mut self.statistics;
         *left = left.saturating_add(1);
-        *bytes = bytes.saturating_add(connection.bytes());
+        *bytes = bytes.saturating_add(read);
     }
 }
 
@@ -112,23 +112,46 @@ fn statistics_of<R>(peer: &Peer<R>) -> Result<Statistics>
     }
 }
 
-/// Replies the statistics of an acceptor, or the refusal of its request; of a connection `InvalidId`.
-#[derive(Drop)]
-pub struct ReadStatistics;
+/// What an acceptor is asked for. It replies its statistics after that, or the refusal of its request; a connection replies
+/// `InvalidId`.
+#[derive(Clone, Copy)]
+pub enum Ask {
+    /// Its statistics.
+    Read,
+    /// To count one that joined.
+    CountJoined,
+    /// To count one that left, which had read so many bytes.
+    CountLeft(u64),
+}
 
-impl<R: Wait + Clock + Drop> Action<Peer<R>> for ReadStatistics {
+impl<R: Wait + Clock + Drop> Action<Peer<R>> for Ask {
     type Reply = Result<Statistics>;
 
     ghost use Rattle.std.specs.Prelude.{◌≡◌};
     ghost use Rattle.server.specs.Peers.{statistics_of as said_by};
+    ghost use Rattle.server.specs.Asks.{IsLeft};
 
-    // It leaves the peer as it is, and replies what that says.
-    ghost does = { λ self v reply w. (reply ≡ said_by v) × (w ≡ v) };
+    // It replies what the peer then says; who is to be read is left as it is.
+    ghost does = { λ self v reply w. (reply ≡ said_by w) × IsLeft self v w };
 
     fn act<W: Wait + Clock>(self, peer: &mut Peer<R>, _rt: &W) -> Result<Statistics> {
-        statistics_of(peer)
+        match self {
+            Ask::Read => statistics_of(peer),
+            Ask::CountJoined => {
+                if let Either::First(acceptor) = peer {
+                    acceptor.count_joined();
+                }
+                statistics_of(peer)
+            }
+            Ask::CountLeft(bytes) => {
+                if let Either::First(acceptor) = peer {
+                    acceptor.count_left(bytes);
+                }
+                statistics_of(peer)
+            }
+        }
     }
 }
 
-/// A job of the loop: a look at one peer.
-pub type Look = ActionOn<ReadStatistics>;
+/// A job of the loop: one peer is asked.
+pub type Look = ActionOn<Ask>;

@@ -1,6 +1,6 @@
 //! The client, on a thread of its own.
 
-use crate::acceptor::{Look, Peer, ReadStatistics, Statistics};
+use crate::acceptor::{Ask, Look, Peer, Statistics};
 use crate::connection::IDLE;
 use crate::fault::Fault;
 use event_manager::{EventSet, NamedCounter, RemoteEndpoint, Sender, SubscriberId};
@@ -40,7 +40,7 @@ impl Client<'_> {
         self.ticks.fetch_add(passed, Ordering::SeqCst);
         let look = Look {
             subscriber: self.acceptor,
-            action: ReadStatistics,
+            action: Ask::Read,
         };
         Ok(endpoint.call_blocking(look, rt)???)
     }

@@ -1,13 +1,13 @@
 //! The loop: it lets join whom the acceptor has accepted, and leave who is over.
 
-use crate::acceptor::{Acceptor, Look, Peer};
+use crate::acceptor::{Acceptor, Ask, Look, Peer};
 use crate::client::Client;
 use crate::connection::Connection;
 use crate::fault::Fault;
 use channels::{Receiver, Sender, channel};
 use event_manager::{
-    Either, Error, EventManager, EventPoller, LoopWithSenders, NamedCounter, Result, Senders,
-    SubscriberId, SubscriberOps,
+    Either, Error, EventPoller, LoopWithSenders, NamedCounter, Result, Senders, SubscriberId,
+    TrackedManager,
 };
 use std::alloc::Global;
 use std::mem;
@@ -71,10 +71,26 @@ impl<'a, C: Wait + Clock + Copy + Send + Drop> Server<'a, C> {
 }
 
 /// The loop of peers, its jobs and its poller.
-type Loop<N, C, P> = EventManager<Peer<C>, Look, N, P>;
+type Loop<N, C, P> = TrackedManager<Peer<C>, Look, N, P>;
+
+/// The acceptor counts one that joined or left.
+fn count<N: NamedCounter, C: Wait + Clock + Drop, P: EventPoller, R: Wait + Clock>(
+    rt: &R,
+    manager: &mut Loop<N, C, P>,
+    acceptor: SubscriberId,
+    action: Ask,
+) -> Result<()> {
+    let count = Look {
+        subscriber: acceptor,
+        action,
+    };
+    let _counted = manager.act(count, rt)?;
+    Ok(())
+}
 
 /// Those who were accepted join, and are counted.
-fn let_join<N: NamedCounter, C: Wait + Clock + Drop, P: EventPoller>(
+fn let_join<N: NamedCounter, C: Wait + Clock + Drop, P: EventPoller, R: Wait + Clock>(
+    rt: &R,
     manager: &mut Loop<N, C, P>,
     acceptor: SubscriberId,
     accepted: Vec<Connection<C>>,
@@ -82,15 +98,14 @@ fn let_join<N: NamedCounter, C: Wait + Clock + Drop, P: EventPoller>(
 ) -> Result<()> {
     for connection in accepted {
         members.push(manager.add_subscriber(Either::Second(connection))?)?;
-        if let Either::First(acceptor) = manager.subscriber_mut(acceptor)? {
-            acceptor.count_joined();
-        }
+        count(rt, manager, acceptor, Ask::CountJoined)?;
     }
     Ok(())
 }
 
 /// A member that is over leaves.
-fn let_leave<N: NamedCounter, C: Wait + Clock + Drop, P: EventPoller>(
+fn let_leave<N: NamedCounter, C: Wait + Clock + Drop, P: EventPoller, R: Wait + Clock>(
+    rt: &R,
     manager: &mut Loop<N, C, P>,
     acceptor: SubscriberId,
     member: SubscriberId,
@@ -102,14 +117,12 @@ fn let_leave<N: NamedCounter, C: Wait + Clock + Drop, P: EventPoller>(
     if !is_over {
         return Ok(());
     }
-    let left = manager.remove_subscriber(member)?;
-    if let (Either::First(acceptor), Either::Second(connection)) = (
-        manager.subscriber_mut(acceptor)?,
-        &left,
-    ) {
-        acceptor.count_left(connection);
+    match manager.remove_subscriber(member)? {
+        Either::First(_) => Ok(()),
+        Either::Second(connection) => {
+            count(rt, manager, acceptor, Ask::CountLeft(connection.bytes()))
+        }
     }
-    Ok(())
 }
 
 impl<'a, C: Wait + Clock + Copy + Drop, R: Wait + Clock + Print> LoopWithSenders<
@@ -156,9 +169,9 @@ impl<'a, C: Wait + Clock + Copy + Drop, R: Wait + Clock + Print> LoopWithSenders
             manager.run(rt)?;
             let mut accepted = Vec::new(*self.members.allocator());
             self.accepted.take(&mut accepted, rt)?;
-            let_join(manager, acceptor, accepted, &mut self.members)?;
+            let_join(rt, manager, acceptor, accepted, &mut self.members)?;
             for member in &self.members {
-                let_leave(manager, acceptor, *member)?;
+                let_leave(rt, manager, acceptor, *member)?;
             }
             self.members
                 .retain(|member| manager.subscriber(*member).is_ok());

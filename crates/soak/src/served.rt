@@ -5,8 +5,8 @@ use crate::parts::Parts;
 use crate::senders::{Load, Loader};
 use crate::work::Work;
 use event_manager::{
-    Error, EventManager, EventPoller, LoopWithSenders, NamedCounter, Result, Senders, SubscriberId,
-    SubscriberOps,
+    Error, EventPoller, LoopWithSenders, NamedCounter, Result, Senders, SubscriberId,
+    TrackedManager,
 };
 use std::alloc::Global;
 use std::sync::Wait;
@@ -56,7 +56,7 @@ impl<'a> Served<'a> {
     // Lets the devices leave, and adds up what they have counted.
     fn gather<N: NamedCounter, P: EventPoller, R: Wait + Drop>(
         &mut self,
-        manager: &mut EventManager<Device<R>, Work<R>, N, P>,
+        manager: &mut TrackedManager<Device<R>, Work<R>, N, P>,
     ) -> Result<()> {
         for id in &self.ids {
             let device = manager.remove_subscriber(*id)?;
@@ -76,7 +76,7 @@ impl<'a, R: Wait + Clock + Copy + Drop> LoopWithSenders<Device<R>, Work<R>, Load
         &mut self,
         rt: &R,
         alloc: Global,
-        manager: &mut EventManager<Device<R>, Work<R>, N, P>,
+        manager: &mut TrackedManager<Device<R>, Work<R>, N, P>,
     ) -> Result<Vec<Loader<'a>>> {
         let parts = self.parts;
         for pair in &parts.pairs {
@@ -100,7 +100,7 @@ impl<'a, R: Wait + Clock + Copy + Drop> LoopWithSenders<Device<R>, Work<R>, Load
     fn run<N: NamedCounter, P: EventPoller>(
         &mut self,
         rt: &R,
-        manager: &mut EventManager<Device<R>, Work<R>, N, P>,
+        manager: &mut TrackedManager<Device<R>, Work<R>, N, P>,
         senders: &Senders,
     ) -> Result<()> {
         senders.run_until_ended(manager, rt)?;

@@ -3,7 +3,7 @@
 use crate::fixture::{Endpoint, Progress, Task, spin};
 use crate::host::{Host, Looping, expect_ok, expect_same, look_on};
 use event_manager::{
-    Error, EventManager, EventPoller, LoopWithSenders, NamedCounter, Result, Sender, Senders,
+    Error, EventPoller, LoopWithSenders, NamedCounter, Result, Sender, Senders, TrackedManager,
     with_senders,
 };
 use fixtures::parts::{Idle, Parts, on_table};
@@ -48,7 +48,7 @@ impl<'a, R: Looping> LoopWithSenders<Idle, Task, Caller<'a>, R> for Closing<'a> 
         &mut self,
         rt: &R,
         alloc: Global,
-        manager: &mut EventManager<Idle, Task, N, P>,
+        manager: &mut TrackedManager<Idle, Task, N, P>,
     ) -> Result<Vec<Caller<'a>>> {
         let first = Task::count(rt, self.progress);
         manager.remote_endpoint()?.fire(first, rt)?;
@@ -62,7 +62,7 @@ impl<'a, R: Looping> LoopWithSenders<Idle, Task, Caller<'a>, R> for Closing<'a> 
     fn run<N: NamedCounter, P: EventPoller>(
         &mut self,
         _rt: &R,
-        _manager: &mut EventManager<Idle, Task, N, P>,
+        _manager: &mut TrackedManager<Idle, Task, N, P>,
         _senders: &Senders,
     ) -> Result<()> {
         for _look in 0..LOOKS {

@@ -3,7 +3,8 @@
 use crate::fixture::{Endpoint, Progress, Task};
 use crate::host::{Host, Looping, expect_ok, expect_same, look_on};
 use event_manager::{
-    EventManager, EventPoller, LoopWithSenders, NamedCounter, Result, Sender, Senders, with_senders,
+    EventPoller, LoopWithSenders, NamedCounter, Result, Sender, Senders, TrackedManager,
+    with_senders,
 };
 use fixtures::parts::{Idle, OnTable, Parts, on_table};
 use std::alloc::Global;
@@ -106,7 +107,7 @@ fn send_all<N: NamedCounter, R: Looping>(
 /// Runs without a limit until all was sent. What it then leaves to be read ends the wait beside it.
 fn run_all<N: NamedCounter, P: EventPoller, R: Looping>(
     rt: &R,
-    manager: &mut EventManager<Idle, Task, N, P>,
+    manager: &mut TrackedManager<Idle, Task, N, P>,
     endpoint: &Endpoint<N>,
     progress: &Progress,
 ) {
@@ -154,7 +155,7 @@ impl<'a, R: Looping> LoopWithSenders<Idle, Task, Sending<'a>, R> for Sending<'a>
         &mut self,
         _rt: &R,
         alloc: Global,
-        _manager: &mut EventManager<Idle, Task, N, P>,
+        _manager: &mut TrackedManager<Idle, Task, N, P>,
     ) -> Result<Vec<Sending<'a>>> {
         Ok(Vec::from_array(alloc, [*self])?)
     }
@@ -162,7 +163,7 @@ impl<'a, R: Looping> LoopWithSenders<Idle, Task, Sending<'a>, R> for Sending<'a>
     fn run<N: NamedCounter, P: EventPoller>(
         &mut self,
         rt: &R,
-        manager: &mut EventManager<Idle, Task, N, P>,
+        manager: &mut TrackedManager<Idle, Task, N, P>,
         _senders: &Senders,
     ) -> Result<()> {
         let endpoint = manager.remote_endpoint()?;

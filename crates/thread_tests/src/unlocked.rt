@@ -3,8 +3,8 @@
 use crate::host::{Host, Looping, expect_ok, expect_same};
 use crate::watched::{Drops, Guest, Reporter, Task, Watched};
 use event_manager::{
-    Error, EventManager, EventPoller, LoopWithSenders, NamedCounter, RemoteEndpoint, Result,
-    Sender, Senders, SubscriberOps, Ticket, with_senders,
+    Error, EventPoller, LoopWithSenders, NamedCounter, RemoteEndpoint, Result, Sender, Senders,
+    Ticket, TrackedManager, with_senders,
 };
 use fixtures::parts::{Parts, on_table};
 use fixtures::waits::{wait_until_ended, wait_until_pending};
@@ -153,7 +153,7 @@ impl<'a, R: Looping> LoopWithSenders<Guest<R>, Task<R>, Beside<'a, R>, R> for Ac
         &mut self,
         rt: &R,
         alloc: Global,
-        manager: &mut EventManager<Guest<R>, Task<R>, N, P>,
+        manager: &mut TrackedManager<Guest<R>, Task<R>, N, P>,
     ) -> Result<Vec<Beside<'a, R>>> {
         if let Some(guest) = self.guest.take() {
             expect_ok(rt, manager.add_subscriber(guest));
@@ -167,7 +167,7 @@ impl<'a, R: Looping> LoopWithSenders<Guest<R>, Task<R>, Beside<'a, R>, R> for Ac
     fn run<N: NamedCounter, P: EventPoller>(
         &mut self,
         rt: &R,
-        manager: &mut EventManager<Guest<R>, Task<R>, N, P>,
+        manager: &mut TrackedManager<Guest<R>, Task<R>, N, P>,
         senders: &Senders,
     ) -> Result<()> {
         let runs = match self.act {

@@ -7,4 +7,4 @@ use Rattle.drive_tests.proofs.going_on.run_manager.Goals as goal
 
 pub returns : goal.returns
 returns g c = manager_goes_on _ _ no_less (λ v. omega arith) (λ u v w first second. omega arith) (λ v event exchanges w served. served.1)
-    _ (actions_go_on no_less _ (λ (job : ActionOn Advance). job.subscriber) (λ job. job.action) (λ action old reply new did. did)) _ _ _ _ _ _ c.next_id-next.ensures.below c.run_with_timeout.ensures
+    _ (actions_go_on no_less _ (λ (job : ActionOn Advance). job.subscriber) (λ job. job.action) (λ action old reply new did. did.0)) _ _ _ _ _ _ c.next_id-next.ensures.below c.run_with_timeout.ensures

@@ -1,0 +1,89 @@
+//! The limiter of a ring: a bucket of tokens, by which alone the ring is served.
+
+ghost use Rattle.std.specs.Prelude.{◌≡◌, ◌+◌, ◌*◌, ◌≤◌, length};
+ghost use Rattle.device_loop.specs.Buckets.{Bucket, Pays, refilled};
+
+use crate::ring::{Ring, RingName, Served};
+use crate::statistics::BlockMetrics;
+use std::alloc::AllocError;
+use std::marker::Model;
+use std::sync::ledger::Share;
+
+/// How many tokens a full bucket has.
+pub const SIZE: u64 = 4;
+
+/// The bucket of a ring, with how many tokens were ever taken, and how often it was filled again.
+#[derive(Drop)]
+pub struct Limiter<Q: RingName> {
+    tokens: u64,
+    taken: u64,
+    refills: u64,
+    share: Share<Served<Q>>,
+}
+
+impl<Q: RingName> Model for Limiter<Q> {
+    ghost Value = { Bucket };
+
+    ghost view = { λ l. record { tokens = l.tokens; taken = l.taken; refills = l.refills } };
+
+    // No more were taken than a bucket, and one more for each time that it was filled; and as many as its ring has served.
+    ghost invariant = { λ l. (l.taken + l.tokens ≤ 4 + 4 * l.refills) × (l.share.amount ≡ l.taken) × (l.share.parts ≡ 1) };
+}
+
+impl<Q: RingName> Limiter<Q> {
+    // A full bucket.
+    pub(crate) fn new(share: Share<Served<Q>>) -> Self
+        requires { (share.amount ≡ 0) × (share.parts ≡ 1) }
+        ensures { result ≡ record { tokens = 4; taken = 0; refills = 0 } }
+    {
+        Limiter {
+            tokens: SIZE,
+            taken: 0,
+            refills: 0,
+            share,
+        }
+    }
+
+    /// Serves as many of the requests that wait as there are tokens, each for one. A ring can be served in no other way. Where
+    /// memory is refused it serves none.
+    pub fn serve(&mut self, ring: &mut Ring<Q>) -> Result<(), AllocError>
+        ensures paid { Pays self.old self.new }
+        ensures served { (length ring.old.used.items ≡ self.old.taken) × (length ring.new.used.items ≡ self.new.taken) }
+        ensures queued { ring.new.available ≡ ring.old.available }
+    {
+        let served = ring.serve(self.tokens, &mut self.share)?;
+        self.tokens -= served;
+        self.taken += served;
+        Ok(())
+    }
+
+    /// Fills the bucket.
+    pub fn refill(&mut self)
+        ensures { self.new ≡ refilled self.old }
+    {
+        self.tokens = SIZE;
+        self.refills = self.refills.saturating_add(1);
+    }
+
+    /// What it has counted.
+    pub fn metrics(&self) -> BlockMetrics
+        ensures { (result.tokens ≡ self.now.tokens) × (result.served ≡ self.now.taken) × (result.refills ≡ self.now.refills) }
+    {
+        BlockMetrics {
+            tokens: self.tokens,
+            served: self.taken,
+            refills: self.refills,
+        }
+    }
+
+    /// The ring has served as many requests as tokens were taken, and no more than a bucket, and one more for each time that
+    /// it was filled.
+    pub fn agree(&mut self, ring: &mut Ring<Q>)
+        ensures agreed { length ring.old.used.items ≡ self.old.taken }
+        ensures limited { self.old.taken + self.old.tokens ≤ 4 + 4 * self.old.refills }
+        ensures same { (self.new ≡ self.old) × (ring.new.used ≡ ring.old.used) × (ring.new.available ≡ ring.old.available) }
+    {
+        let _taken = self.taken;
+        ring.agree(&mut self.share);
+    }
+}

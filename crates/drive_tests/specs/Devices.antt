@@ -1,0 +1,7 @@
+-- What devices want.
+use Rattle.std.specs.Prelude.{◌≡◌, ℕ}
+use Rattle.drive_tests.specs.declared.apart.Device.{Device}
+
+-- its own descriptor alone
+abbrev pub wants : Device → ℕ → Type 0
+wants device fd = fd ≡ device.own.fd
