@@ -111,7 +111,12 @@ pub enum ApiRequest<Q: RingName, R> {
 impl<Q: RingName, R: Wait + Drop> Job<Device<Q, R>> for ApiRequest<Q, R> {
     type Reply = Result<ApiReply>;
 
-    ghost may = { λ self steps reply. Unit {0} };
+    ghost use Rattle.std.specs.Prelude.{All};
+    ghost use Rattle.event_manager.specs.Kept.{StepGoesOn};
+    ghost use Rattle.device_loop.specs.Pauses.{IsSameButPaused};
+
+    // Of what the loop holds it changes no more than whether a block device is paused.
+    ghost may = { λ self steps reply. All (StepGoesOn IsSameButPaused) steps };
 
     ghost replies = { λ reply. Unit {0} };
 

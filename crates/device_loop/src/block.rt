@@ -27,7 +27,6 @@ pub struct Block<Q: RingName, R> {
     pub refill: EventFd,
     ring: Arc<Mutex<Ring<Q>>>,
     limiter: Limiter<Q>,
-    is_paused: bool,
     // The first refusal of what it asked for, also of memory.
     asked: Result<()>,
     rt: R,
@@ -46,7 +45,6 @@ impl<Q: RingName, R: Wait + Drop> Block<Q, R> {
             refill: EventFd::new(epoll, 0, &rt)?,
             ring,
             limiter,
-            is_paused: false,
             asked: Ok(()),
             rt,
         })
@@ -56,6 +54,7 @@ impl<Q: RingName, R: Wait + Drop> Block<Q, R> {
 impl<Q: RingName, R> Block<Q, R> {
     ghost use Rattle.device_loop.specs.Answers.{unless_refused};
     ghost use Rattle.device_loop.specs.BlockEvents.{queue_event, metrics_of};
+    ghost use Rattle.device_loop.specs.Buckets.{paused};
 
     /// What it wants of its queue.
     pub fn kicks(&self) -> Events
@@ -66,9 +65,9 @@ impl<Q: RingName, R> Block<Q, R> {
 
     /// Pauses it, or lets it go on.
     pub fn set_paused(&mut self, is_paused: bool)
-        ensures { self.new ≡ record self.old { is_paused = is_paused } }
+        ensures { self.new ≡ record self.old { limiter = paused is_paused self.old.limiter } }
     {
-        self.is_paused = is_paused;
+        self.limiter.set_paused(is_paused);
     }
 
     /// What it has counted; or the refusal, where a request was refused.
@@ -105,7 +104,7 @@ impl<Q: RingName, R: Wait> Block<Q, R> {
 }
 
 impl<Q: RingName, R: Wait> MutEventSubscriber for Block<Q, R> {
-    ghost use Rattle.std.specs.Prelude.{◌≡◌, [], ◌∷◌, MatchBool};
+    ghost use Rattle.std.specs.Prelude.{◌≡◌, [], ◌∷◌, MatchBool, is_some};
     ghost use Rattle.std.specs.Result.{result_and};
     ghost use Rattle.event_manager.specs.Exchange.{Answer, AsksNothing};
     ghost use Rattle.event_manager.specs.Request.TheVariants.{Add};
@@ -115,14 +114,14 @@ impl<Q: RingName, R: Wait> MutEventSubscriber for Block<Q, R> {
     ghost begins = { λ v exchanges w. (queue refill : Answer) × (exchanges ≡ (Add (queue_event v), queue) ∷ (Add (refill_event v), refill) ∷ []) × (w ≡ record v { asked = result_and queue refill }) };
 
     // Its bucket is filled at the event for that. A paused device serves nothing; else each request costs a token that is there.
-    ghost serves = { λ v event exchanges w. AsksNothing exchanges × MatchBool v.is_paused (w ≡ filled event v) (IsServed (filled event v) w) };
+    ghost serves = { λ v event exchanges w. AsksNothing exchanges × MatchBool (is_some v.limiter.paused_at) (w ≡ filled event v) (IsServed (filled event v) w) };
 
     fn process<P: EventPoller>(&mut self, events: Events, _ops: &mut EventOps<P>) {
         if events.data() == REFILL {
             let _ = self.refill.read(&self.rt);
             self.limiter.refill();
         }
-        if self.is_paused {
+        if self.limiter.paused_at().is_some() {
             return;
         }
         self.serve();

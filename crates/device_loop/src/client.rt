@@ -105,7 +105,7 @@ impl<R: Wait + Clock + Print + Copy + Drop> Client<'_, R> {
         Ok(())
     }
 
-    // Fills the bucket of the block device, pauses it while the guest reads, and prints what it has served.
+    // Fills the bucket of the block device, pauses it while the guest reads, prints what it has served, and pauses it at last.
     fn use_block<Q: RingName, N: NamedCounter>(
         &self,
         endpoint: &Endpoint<Q, N, R>,
@@ -125,6 +125,7 @@ impl<R: Wait + Clock + Print + Copy + Drop> Client<'_, R> {
         println!(rt; "block, paused: {}", ask_block()?)?;
         println!(rt; "block: {}", set_paused(endpoint, device, false, rt)?)?;
         println!(rt; "block, at work: {}", ask_block()?)?;
+        println!(rt; "block: {}", set_paused(endpoint, device, true, rt)?)?;
         Ok(())
     }
 

@@ -1,14 +1,14 @@
 //! The machine: the loop with its devices, and the threads beside it.
 
-ghost use Rattle.std.specs.Prelude.{IfOk};
-ghost use Rattle.device_loop.specs.Runs.{IsServedInOrder};
+ghost use Rattle.std.specs.Prelude.{◌≡◌, ℕ, IfOk, Some};
+ghost use Rattle.std.specs.FinMap.{get};
+ghost use Rattle.event_loop.specs.declared.wrappers.Either.TheVariants.{First, Second};
 
 use crate::api::{ApiRequest, Device};
 use crate::block::Block;
 use crate::client::{Client, Endpoint};
 use crate::fault::Fault;
 use crate::net::Net;
-use crate::report::BlockReport;
 use crate::ring::limiter::Limiter;
 use crate::ring::{Ring, RingName};
 use crate::shared::Shared;
@@ -16,7 +16,7 @@ use crate::vcpu::{BlockDriver, Vcpu};
 use crate::vmm::Vmm;
 use event_manager::{
     Either, Error, EventPoller, Locked, LoopWithSenders, NamedCounter, Result, Sender, Senders,
-    SubscriberId, TrackedManager,
+    SubscriberId, Subscribers, TrackedManager,
 };
 use std::alloc::Global;
 use std::sync::{Arc, Mutex, Wait};
@@ -55,7 +55,7 @@ impl<Q: RingName, R: Wait + Clock + Print + Copy + Drop> Sender<
 #[derive(Drop)]
 pub struct Machine<'a, Q: RingName, R> {
     shared: &'a Shared<R>,
-    // The ring of the block device, and its limiter, until that is the device's.
+    // The ring of the block device, and its limiter until the device has it.
     ring: Arc<Mutex<Ring<Q>>>,
     limiter: Option<Limiter<Q>>,
     vmm: Option<SubscriberId>,
@@ -76,6 +76,17 @@ impl<'a, Q: RingName, R: Wait + Drop> Machine<'a, Q, R> {
             vmm: None,
             block: None,
             has_exited: false,
+        }
+    }
+
+    /// Takes the block device out of those that the loop held in the end.
+    pub fn take_block(&self, subscribers: &mut Subscribers<Device<Q, R>>) -> Result<Block<Q, R>>
+        ensures { IfOk result (λ block. (id : ℕ) × (get subscribers.old id ≡ Some (Second (Second (First block))))) }
+    {
+        let id = self.block.ok_or(Error::InvalidId)?;
+        match subscribers.remove(id) {
+            Some(Either::Second(Either::Second(Either::First(block)))) => Ok(block),
+            _ => Err(Error::InvalidId),
         }
     }
 
@@ -188,31 +199,6 @@ impl<Q: RingName, R: Wait + Clock + Copy + Drop> Machine<'_, Q, R> {
         }
         Ok(())
     }
-
-    // Takes the limiter of the ring back from the block device.
-    fn take_limiter<N: NamedCounter, P: EventPoller>(
-        &mut self,
-        manager: &mut Loop<Q, N, R, P>,
-    ) -> Result<()> {
-        let id = self.block.ok_or(Error::InvalidId)?;
-        if let Either::Second(Either::Second(Either::First(block))) = manager.remove_subscriber(
-            id,
-        )? {
-            self.limiter = Some(block.into_limiter());
-        }
-        Ok(())
-    }
-
-    /// What came of the block device.
-    pub fn block_report(&mut self, alloc: Global, rt: &R) -> Result<BlockReport>
-        ensures { IfOk result IsServedInOrder }
-    {
-        let Some(limiter) = &mut self.limiter else {
-            return Err(Error::InvalidId);
-        };
-        let mut ring = self.ring.lock(rt);
-        BlockReport::new(limiter, &mut ring, alloc)
-    }
 }
 
 impl<'a, Q: RingName, R: Wait + Clock + Print + Copy + Send + Drop> LoopWithSenders<
@@ -264,7 +250,6 @@ impl<'a, Q: RingName, R: Wait + Clock + Print + Copy + Send + Drop> LoopWithSend
         manager: &mut Loop<Q, N, R, P>,
         senders: &Senders,
     ) -> Result<()> {
-        self.serve(rt, manager, senders)?;
-        self.take_limiter(manager)
+        self.serve(rt, manager, senders)
     }
 }

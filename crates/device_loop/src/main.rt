@@ -22,9 +22,11 @@ mod vcpu;
 mod vmm;
 
 ghost use Rattle.std.specs.Prelude.{◌≡◌, IfOk};
-ghost use Rattle.device_loop.specs.Runs.{IsServedInOrder};
+ghost use Rattle.device_loop.specs.Runs.{IsServedInOrder, IsOfALife};
 
-use event_manager::{Error, with_senders};
+use api::{ApiRequest, Device};
+use event_manager::laws::{lives_are_its_own, non_interference};
+use event_manager::{Error, MutEventSubscriber, with_senders};
 use fault::Fault;
 use machine::Machine;
 use report::BlockReport;
@@ -41,21 +43,23 @@ use vmm_sys::epoll::Epoll;
 use vmm_sys::eventfd::EventFd;
 
 /// Runs the loop beside its threads, prints what has ended it, and how many jobs were issued and taken, and answers what came of
-/// the block device.
-fn run_named<Q, R>(rt: &R, alloc: Global, blank: Blank) -> Result<BlockReport, Fault>
+/// the block device of this ring.
+fn run_named<Q, R>(rt: &R, alloc: Global, blank: Blank) -> Result<BlockReport<Q>, Fault>
 where
     Q: RingName + Send + Sync,
     R: Threads + Wait + Clock + Print + Copy + Send + Sync + Drop,
     requires { (blank.name ≡ Q.ring) × (blank.parts ≡ 1) }
-    ensures { IfOk result IsServedInOrder }
+    ensures served { IfOk result IsServedInOrder }
+    ensures lived { IfOk result (IsOfALife ⟦<Device<Q, R> as MutEventSubscriber>⟧.begins ⟦<Device<Q, R> as MutEventSubscriber>⟧.serves) }
 {
     let epoll = Epoll::new(*rt, alloc)?;
     let event_fd = EventFd::new(&epoll, 0, rt)?;
     let shared = Shared::new(epoll.try_clone()?);
     let (ring, limiter) = Ring::<Q>::new(alloc, blank);
     let ring = Arc::new(alloc, Mutex::new(ring)).map_err(Error::from)?;
-    let mut machine = Machine::new(&shared, ring, limiter);
-    let ended = with_senders(rt, alloc, epoll, event_fd, &mut machine)?;
+    let shared_ring = Arc::try_clone(&ring).map_err(Error::from)?;
+    let mut machine = Machine::new(&shared, shared_ring, limiter);
+    let mut ended = with_senders(rt, alloc, epoll, event_fd, &mut machine)?;
     ended.ran?;
     for thread_ran in ended.sent {
         thread_ran?;
@@ -67,16 +71,21 @@ where
     };
     let (issued, taken) = (ended.issued, ended.taken);
     println!(rt; "ended by {why}; jobs: {issued} issued, {taken} taken")?;
-    Ok(machine.block_report(alloc, rt)?)
+    non_interference::<Device<Q, R>, ApiRequest<Q, R>>();
+    lives_are_its_own::<Device<Q, R>>();
+    let block = machine.take_block(&mut ended.subscribers)?;
+    Ok(BlockReport::new(block, &mut ring.lock(rt), alloc)?)
 }
 
-/// Runs the machine. Whatever the other devices, the API and the poller do, what is reported as served is the beginning of what is
-/// reported as queued, in order and each request once, and no more than a full bucket and its refills have tokens.
+/// Runs the machine, and answers what came of its block device, whose life in the loop it is. Whatever the other devices, the API and
+/// the poller do, what was served is the beginning of what was queued, in order and each request once; no more than a full bucket and
+/// its refills have tokens; and nothing while the device is paused.
 fn run_machine<R: Threads + Wait + Clock + Print + Copy + Send + Sync + Drop>(
     rt: &R,
     alloc: Global,
-) -> Result<BlockReport, Fault>
-    ensures { IfOk result IsServedInOrder }
+) -> Result<BlockReport<Brand>, Fault>
+    ensures served { IfOk result IsServedInOrder }
+    ensures lived { IfOk result (IsOfALife ⟦<Device<Brand, R> as MutEventSubscriber>⟧.begins ⟦<Device<Brand, R> as MutEventSubscriber>⟧.serves) }
 {
     run_named::<Brand, R>(rt, alloc, Blank::new(1))
 }

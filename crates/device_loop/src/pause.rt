@@ -60,7 +60,11 @@ fn ask<O: SubscriberOps>(owner: &mut O, id: SubscriberId, request: Request) -> R
 impl<Q: RingName, R: Wait + Drop> Job<Device<Q, R>> for SetPaused {
     type Reply = Result<bool>;
 
-    ghost may = { λ self steps reply. Unit {0} };
+    ghost use Rattle.std.specs.Prelude.{All};
+    ghost use Rattle.event_manager.specs.Kept.{StepGoesOn};
+    ghost use Rattle.device_loop.specs.Pauses.{IsSameButPaused};
+
+    ghost may = { λ self steps reply. All (StepGoesOn IsSameButPaused) steps };
 
     ghost replies = { λ reply. Unit {0} };
 

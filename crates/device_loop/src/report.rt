@@ -1,38 +1,49 @@
 //! What came of the block device.
 
-ghost use Rattle.std.specs.Prelude.{◌≡◌, IfOk};
+ghost use Rattle.std.specs.Prelude.{◌≡◌, IfOk, length};
+ghost use Rattle.device_loop.specs.Runs.{IsServedInOrder};
 
-use crate::ring::limiter::Limiter;
+use crate::block::Block;
 use crate::ring::{BlockRequest, Ring, RingName};
 use event_manager::Result;
 use std::alloc::Global;
 use std::fmt;
+use std::marker::{Model, PhantomData};
 
-/// What the driver has queued, what the device has served of that, and how often its bucket was filled.
+/// What the driver of a ring has queued, what its device has served of that, how often the bucket was filled, and how many requests
+/// had been served when the device was paused, if it was in the end.
 #[derive(Drop)]
-pub struct BlockReport {
-    pub queued: Vec<BlockRequest>,
-    pub served: Vec<BlockRequest>,
-    pub refills: u64,
+pub struct BlockReport<Q: RingName> {
+    queued: Vec<BlockRequest>,
+    served: Vec<BlockRequest>,
+    refills: u64,
+    paused_at: Option<u64>,
+    of: PhantomData<Q>,
 }
 
-impl BlockReport {
-    ghost use Rattle.std.specs.Prelude.{IfOk};
-    ghost use Rattle.device_loop.specs.Runs.{IsServedInOrder};
+impl<Q: RingName> Model for BlockReport<Q> {
+    ghost use Rattle.device_loop.specs.Runs.{Report};
 
-    /// The report of a ring and its limiter.
-    pub fn new<Q: RingName>(
-        limiter: &mut Limiter<Q>,
-        ring: &mut Ring<Q>,
-        alloc: Global,
-    ) -> Result<Self>
-        ensures { IfOk result IsServedInOrder }
+    ghost Value = { Report };
+
+    ghost view = { λ r. record { queued = r.queued.items; served = r.served.items; refills = r.refills; paused_at = r.paused_at } };
+}
+
+impl<Q: RingName> BlockReport<Q> {
+    /// The report of a device and its ring.
+    pub fn new<R: Drop>(block: Block<Q, R>, ring: &mut Ring<Q>, alloc: Global) -> Result<Self>
+        ensures ring { IfOk result (λ report. (report.queued ≡ ring.old.available.items) × (report.served ≡ ring.old.used.items)) }
+        ensures block { IfOk result (λ report. (length report.served ≡ block.limiter.taken) × (report.refills ≡ block.limiter.refills) × (report.paused_at ≡ block.limiter.paused_at)) }
+        ensures served { IfOk result IsServedInOrder }
     {
+        let mut limiter = block.into_limiter();
         limiter.agree(ring);
         Ok(BlockReport {
             queued: copy(ring.available(), alloc)?,
             served: copy(ring.used(), alloc)?,
             refills: limiter.metrics().refills,
+            paused_at: limiter.paused_at(),
+            of: PhantomData,
         })
     }
 }
@@ -46,12 +57,16 @@ fn copy(requests: &[BlockRequest], alloc: Global) -> Result<Vec<BlockRequest>>
     Ok(copied)
 }
 
-impl fmt::Display for BlockReport {
+impl<Q: RingName> fmt::Display for BlockReport<Q> {
     fn fmt<W: fmt::Write>(&self, f: &mut fmt::Formatter<W>) -> fmt::Result {
         write!(f, "{} requests queued, sectors read:", self.queued.len())?;
         for request in &self.served {
             write!(f, " {}", request.sector)?;
         }
-        write!(f, "; refills: {}", self.refills)
+        write!(f, "; refills: {}", self.refills)?;
+        match self.paused_at {
+            Some(count) => write!(f, "; paused after {count}"),
+            None => Ok(()),
+        }
     }
 }

@@ -8,10 +8,12 @@ use event_manager::{Error, Locked};
 use std::sync::{Arc, Mutex, Wait};
 use vmm_sys::eventfd::EventFd;
 
-/// The sectors that are read when the guest boots, and while the block device is paused.
+/// The sectors that are read when the guest boots, while the block device is paused, and when the guest is shut down.
 const FIRST: [u64; 6] = [7, 3, 9, 1, 8, 2];
 
 const LATER: [u64; 3] = [6, 5, 4];
+
+const LAST: [u64; 2] = [10, 11];
 
 /// What the driver of a block device has in its hands.
 #[derive(Drop)]
@@ -60,7 +62,7 @@ impl<Q: RingName, R: Wait + Drop> Vcpu<'_, Q, R> {
         self.block.read(&FIRST, rt)
     }
 
-    /// Boots, reads while the block device is paused, and exits once it is to shut down, whatever came of that.
+    /// Boots, reads while the block device is paused, and reads and exits once it is to shut down, whatever came of that.
     pub fn run<W: Wait>(self, rt: &W) -> Result<(), Fault> {
         let booted = self.boot(rt);
         let _ = self.shared.has_booted.set(rt, booted.is_ok());
@@ -68,8 +70,10 @@ impl<Q: RingName, R: Wait + Drop> Vcpu<'_, Q, R> {
         let read = self.block.read(&LATER, rt);
         let _ = self.shared.has_read.set(rt, read.is_ok());
         let _ = self.shared.is_to_shut_down.wait(rt);
+        let read_last = self.block.read(&LAST, rt);
         self.exit.write(1, rt)?;
         booted?;
-        read
+        read?;
+        read_last
     }
 }

@@ -1,18 +1,23 @@
 //! What laws say of a program's own runs.
 
-ghost use Rattle.std.specs.Prelude.{◌≡◌, ◌≢◌, ℕ, List, None};
+ghost use Rattle.std.specs.Prelude.{◌≡◌, ◌≢◌, ℕ, List, None, negsuc, IfOk};
 ghost use Rattle.std.specs.FinMap.{get};
+ghost use Rattle.event_manager.specs.Ownership.{class_in};
+ghost use Rattle.event_manager.specs.Dispatch.{events_of};
+ghost use Rattle.event_manager.specs.EventLoop.{seen_of};
 ghost use Rattle.event_manager.specs.Guarantees.{IsSound, IsUntouched};
 ghost use Rattle.event_manager.specs.Life.{LifeStep, Lives};
+ghost use Rattle.event_manager.specs.LoopState.{IsLoopIteration, no_job};
 ghost use Rattle.event_manager.specs.Registry.{AreBelow};
 
 use crate::going_on::{Advance, Meter};
 use event_manager::laws::{
-    ids_are_given_once, lives_are_its_own, non_interference, others_are_untouched,
-    owners_are_subscribers,
+    ids_are_given_once, lives_are_its_own, non_interference, one_dispatch_order,
+    others_are_untouched, owners_are_subscribers,
 };
 use event_manager::{
-    ActionOn, EventPoller, MutEventSubscriber, NamedCounter, Result, SubscriberId, TrackedManager,
+    ActionOn, EventLoop, EventPoller, MutEventSubscriber, NamedCounter, Result, SubscriberId,
+    TrackedManager,
 };
 use std::sync::Wait;
 use std::time::Clock;
@@ -45,4 +50,15 @@ pub fn remove_apart<N: NamedCounter, P: EventPoller>(
 {
     others_are_untouched::<Meter>();
     meters.remove_subscriber(id)
+}
+
+/// Runs a loop once. Where each descriptor has the lowest priority, what the poller reports is dispatched in the order of the report.
+pub fn run_in_order<S: MutEventSubscriber, P: EventPoller>(
+    subscribers: &mut EventLoop<S, P>,
+) -> Result<usize>
+    ensures { (did : IsLoopIteration S.begins S.serves no_job P.controls P.waits (seen_of subscribers.old) (negsuc 0) result (seen_of subscribers.new))
+        × (((fd : ℕ) → class_in (seen_of subscribers.old).registry.registrations.owners fd ≡ 0) → IfOk did.iteration.waited (λ report. events_of did.iteration.positions ≡ report)) }
+{
+    one_dispatch_order();
+    subscribers.run()
 }

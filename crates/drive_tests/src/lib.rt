@@ -2,10 +2,13 @@
 #![tactic(auto)]
 
 pub mod apart;
+pub mod both;
 pub mod by_laws;
 #[cfg(test)]
 mod expecting;
 pub mod going_on;
+#[cfg(test)]
+mod in_order;
 pub mod leaving;
 #[cfg(test)]
 mod lists;

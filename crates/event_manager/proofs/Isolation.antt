@@ -1,5 +1,5 @@
 -- What one id does leaves the others as they were; exchanges join; leaving frees exactly its own.
-use Rattle.std.proofs.Common.{◌≡◌, ◌≢◌, ℕ, ◌==◌, cond, Bool, true, false, not, refl, sym, ◌∙◌, ap, subst, Some, None, Option, inl, inr, nat_cmp, List, [], ◌∷◌, ◌++◌, filter, true≢false, if◌then◌else◌, eq-eqb, append_assoc, arith}
+use Rattle.std.proofs.Common.{◌≡◌, ◌≢◌, ℕ, ◌==◌, cond, Bool, true, false, not, refl, sym, ◌∙◌, ap, subst, Some, None, Option, inl, inr, nat_cmp, List, [], ◌∷◌, filter, true≢false, if◌then◌else◌, eq-eqb, arith}
 use Rattle.std.specs.FinMap.{FinMap, get, insert, remove, get-insert, get-remove}
 use Rattle.std.specs.Ordering.{eq_by_cmp}
 use Rattle.std.specs.Cmp.{nat_cmp_total}
@@ -16,13 +16,6 @@ use Rattle.event_loop.proofs.WithoutOwner.{get-without_owner}
 use Rattle.event_manager.proofs.FiniteMaps.{owner_of-owned_by, owned_by-insert_other, owned_by-remove_other, owned_by-disowned_other, entered}
 use Rattle.dispatch_tables.proofs.Owning.{owner_id}
 use Rattle.event_loop.proofs.ExchangeLemmas.{not_on}
-
--- exchanges join
-pub exchanges_join : (i : ℕ) (before mid after : Registrations) (exchanges more : Exchanges) (calls rest : List PollerCall) → ExchangesFit i before exchanges calls mid → ExchangesFit i mid more rest after → ExchangesFit i before (exchanges ++ more) (calls ++ rest) after
-exchanges_join i before mid after [] more calls rest h k =
-    subst (λ b. ExchangesFit i b more (calls ++ rest) after) h.1 (subst (λ xs. ExchangesFit i mid more (xs ++ rest) after) (sym h.0) k)
-exchanges_join i before mid after (exchange ∷ exchanges) more calls rest (first, then_asked, next, joined, fits, others) k =
-    (first, then_asked ++ rest, next, ap (λ xs. xs ++ rest) joined ∙ append_assoc first then_asked rest, fits, exchanges_join i next mid after exchanges more then_asked rest others k)
 
 -- leaving
 frees_answer : (i : ℕ) (o : Option Ownership) → cond (not (is_id i (owner_id o))) o None ≡ (if is_id i (owner_id o) then None else o)

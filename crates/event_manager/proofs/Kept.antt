@@ -1,19 +1,18 @@
 -- What each service of a subscriber keeps, a run of a loop keeps: for contracts of one's own, whose relation between values is a
 -- parameter here. It is reflexive and transitive, and each service has it.
-use Rattle.std.proofs.Common.{◌≡◌, ◌<◌, ℕ, ◌+◌, ℤ, Bool, refl, sym, ◌∙◌, ap, subst, arith, inl, inr, Some, None, Option, map, List, [], ◌∷◌, ◌++◌, append_assoc, Ok, Err, Result, lt_irrefl, All, IfOk}
+use Rattle.std.proofs.Common.{◌≡◌, ◌<◌, ℕ, ◌+◌, ℤ, Bool, sym, ◌∙◌, ap, subst, arith, inl, inr, Some, None, Option, map, List, [], ◌∷◌, ◌++◌, append_assoc, Ok, Err, Result, lt_irrefl, All, IfOk}
 use Rattle.std.specs.FinMap.{FinMap, get, insert, get-empty}
 use Rattle.std.specs.Ordering.{nat_cmp}
 use Rattle.std.specs.List.{flat_map}
 use Rattle.std.proofs.lemmas.Bool.Decides.{eqb_tells}
 use Rattle.std.proofs.lemmas.List.Elements.{All-nil, All-cons, All-head, All-tail}
-use Rattle.std.proofs.lemmas.List.Concat.{flat_map-append}
 use Rattle.std.proofs.lemmas.Result.{IfOk-weaker}
 use Rattle.vmm_sys.specs.declared.errno.Errno.{Errno}
 use Rattle.event_loop.specs.declared.error.Error.{Error}
 use Rattle.event_loop.specs.Prelude.{Event, Exchanges, Begins, Serves, Controls, Waits, Registry, LoopStep, Joined, NotJoined, Left, Replaced, Requested, Refused, HasId, AreBelow, new_registry, Steps, May, Delivery, Nobody, To, Position, with_pending, still_pending, events_of, is_removed, IsDelivery, AreDispatched, ManagerState, manager_state, JobRun, IsIteration, AreRun, AllSteps, LoopState, no_job, IsLoopIteration}
 use Rattle.event_manager.specs.History.{Turn, Made, Waited, IsHistory}
 use Rattle.event_manager.specs.Guarantees.{AreGiven}
-use Rattle.event_manager.specs.Life.{LifeStep, Begun, Served, Changed, Ended, Lives, life_of_step, life_of_delivery, life_of_turn, life_of}
+use Rattle.event_manager.specs.Life.{LifeStep, Begun, Served, Changed, Ended, Lives, life_of_delivery, life_of}
 use Rattle.event_manager.specs.Actions.{IsDoneTo}
 use Rattle.event_manager.specs.Kept.{AllGoOn, HeldGoOn, StepGoesOn, JobsGoOn, AllHeld, keeps}
 use Rattle.event_manager.specs.Reached.{IsLikeJobs, HasEnded}

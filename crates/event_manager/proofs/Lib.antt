@@ -1,4 +1,3 @@
-pub mod ExampleHolds
 pub mod FiniteMaps
 pub mod HeldIds
 pub mod Isolation

@@ -1,5 +1,5 @@
 -- A manager that was reached from a new one, and one more call of it.
-use Rattle.std.proofs.Common.{◌≡◌, ℕ, ℤ, All, List, [], ◌∷◌, ◌++◌, refl, sym, ap, subst, Result, Ok, Err}
+use Rattle.std.proofs.Common.{ℕ, ℤ, List, [], ◌∷◌, ◌++◌, refl, sym, ap, subst, Result, Ok, Err}
 use Rattle.std.proofs.lemmas.List.Elements.{All-nil, All-cons, All-append}
 use Rattle.event_loop.specs.Prelude.{Controls, Waits, Begins, Serves, LoopStep, Steps, Replaced, Refused, May, ManagerState, AllSteps, LoopState, HasStepped, HaveStepped, IsJoin, IsLeave, IsLoopIteration, manager_state}
 use Rattle.event_loop.specs.declared.error.Error.{Error}

@@ -31,7 +31,6 @@ pub use Rattle.event_loop.specs.CounterSubscribers
 pub use Rattle.event_loop.specs.DataCounterSubscribers
 pub use Rattle.event_loop.specs.SharedCounterSubscribers
 pub use Rattle.event_loop.specs.Prelude
-pub mod Example
 pub mod Guarantees
 pub mod Projection
 pub mod Trace

@@ -11,10 +11,12 @@ ghost use Rattle.event_loop.specs.Registrations.{Registrations};
 ghost use Rattle.dispatch_tables.specs.Priority.{number_of};
 ghost use Rattle.event_loop.specs.DispatchOrder.{IsDispatchOrder};
 ghost use Rattle.event_loop.specs.Exchange.{Exchanges, ExchangesFit};
+ghost use Rattle.event_loop.specs.Requests.{AreMadeThrough};
+ghost use Rattle.event_loop.specs.declared.ops.EventOps.{EventOps};
 ghost use Rattle.event_loop.specs.Registry.{Registry, LoopStep, Steps, Left, AreBelow, is_id, id_of};
 ghost use Rattle.event_loop.specs.Dispatch.{Position, Delivery, is_removed, still_pending, with_pending, IsDelivery};
 ghost use Rattle.event_loop.specs.Iteration.{ManagerState};
-ghost use Rattle.event_manager.specs.Trace.{TraceEntry, HasEffect, IsTrace, new_state};
+ghost use Rattle.event_manager.specs.Trace.{TraceEntry, IsTrace, new_state};
 ghost use Rattle.event_manager.specs.Projection.{NonInterference, IsApart, IsAsIfAlone, receiver_of};
 ghost use Rattle.event_manager.specs.Guarantees.{AreGiven, RemovedStayGone, RemovedStayUnknown, IsSound, IsUntouched, FreesExactly};
 ghost use Rattle.event_loop.specs.LoopState.{LoopState};
@@ -29,7 +31,6 @@ ghost use Rattle.std.specs.FinMap.{get};
 ghost use Rattle.event_loop.specs.declared.error.Error.{Error};
 ghost use Rattle.event_manager.specs.JobQueue.{QueueState, IsSend};
 ghost use Rattle.event_manager.specs.WakeUps.{WakeState, AreSteps, ReachesQueue, NoJobWaitsUnheard, new_wake_state};
-ghost use Rattle.event_manager.specs.Example.{any_begins, any_serves, any_may, joins, iterates};
 ghost use Rattle.dispatch_tables.specs.Ownership.{class_in};
 
 use crate::jobs::Job;
@@ -119,7 +120,8 @@ pub fn owners_are_subscribers<S: MutEventSubscriber, J: Job<S>>()
 
 /// Isolation: a step for one id, or an event that it gets, leaves the values, the descriptors with their priorities, and the
 /// pending events of all others; an event that nobody gets leaves those of all; a leave frees exactly the descriptors of its
-/// id, whatever the poller answers.
+/// id, whatever the poller answers. Pending after an event of a batch are the later ones whose descriptor no exchange so far
+/// removed.
 pub fn others_are_untouched<S: MutEventSubscriber>()
     ensures steps { (before : Registry S) (step : LoopStep S) (after : Registry S) → Steps S.begins before step after →
         (j : ℕ) → is_id j (id_of step) ≡ false → IsUntouched j before after }
@@ -127,6 +129,9 @@ pub fn others_are_untouched<S: MutEventSubscriber>()
         IsDelivery S.serves before removed event delivery after → (j : ℕ) → is_id j (receiver_of delivery) ≡ false → IsUntouched j before after }
     ensures leaving { (before after : Registry S) (i : ℕ) (value : S) (calls : List PollerCall) →
         Steps S.begins before (Left i value calls) after → FreesExactly i before.registrations after.registrations }
+    ensures pending { (before : Registry S) (earlier : List (Position S)) (event : Event) (later : List Event) (delivery : Delivery S) (after : Registry S) →
+        IsDelivery S.serves (with_pending (still_pending earlier later) before) (is_removed event.fd earlier) event delivery after →
+        after.registrations.pending ≡ still_pending (earlier ++ record { event = event; delivery = delivery } ∷ []) later }
 {}
 
 /// Each report has exactly one order of dispatch. It has the events of the report, each as often; and it is the report
@@ -141,19 +146,15 @@ pub fn one_dispatch_order()
         ((fd : ℕ) → class_in registrations.owners fd ≡ 0) → IsDispatchOrder registrations report report }
 {}
 
-/// What is pending after a position: the later events whose descriptor no exchange so far removed.
-pub fn pending_after_a_position<S: MutEventSubscriber>()
-    ensures { (before : Registry S) (earlier : List (Position S)) (event : Event) (later : List Event) (delivery : Delivery S) (after : Registry S) →
-        IsDelivery S.serves (with_pending (still_pending earlier later) before) (is_removed event.fd earlier) event delivery after →
-        after.registrations.pending ≡ still_pending (earlier ++ record { event = event; delivery = delivery } ∷ []) later }
-{}
-
-/// No exchange is a list of exchanges, and two lists of exchanges in a row are one: so a subscriber made of subscribers
-/// states its exchanges as theirs joined.
-pub fn exchanges_join()
+/// To ask for nothing is to have the empty list of exchanges, and two lists of exchanges in a row are one, in what they do to the
+/// registrations and in what they do to the poller too: so a subscriber made of subscribers has the exchanges of these, joined.
+pub fn exchanges_join<P: EventPoller>()
     ensures empty { (i : ℕ) (registrations : Registrations) → ExchangesFit i registrations [] [] registrations }
     ensures joined { (i : ℕ) (before mid after : Registrations) (exchanges more : Exchanges) (calls rest : List PollerCall) →
         ExchangesFit i before exchanges calls mid → ExchangesFit i mid more rest after → ExchangesFit i before (exchanges ++ more) (calls ++ rest) after }
+    ensures made { (before mid after : EventOps P) (exchanges more : Exchanges) (calls rest : List PollerCall) →
+        AreMadeThrough P.controls P.waits before mid exchanges calls → AreMadeThrough P.controls P.waits mid after more rest →
+        AreMadeThrough P.controls P.waits before after (exchanges ++ more) (calls ++ rest) }
 {}
 
 /// No call is a list of calls that was driven, where each held id is below the next, and two such lists in a row are one. So
@@ -178,13 +179,6 @@ pub fn no_job_waits_unheard<J>()
         IsSend (λ rung. Unit {0}) before.queue job None answer queue → ReachesQueue before queue }
     ensures kept { (before : WakeState J) (steps : List (WakeStep J)) (after : WakeState J) →
         AreSteps before steps after → NoJobWaitsUnheard before → NoJobWaitsUnheard after }
-{}
-
-/// The definitions have a trace in which a descriptor is reported twice, and its owner removes and adds it at the first
-/// event: the second event goes to nobody.
-pub fn a_repeated_entry()
-    ensures { (joined : ManagerState ℕ) × (iterated : ManagerState ℕ)
-        × HasEffect any_begins any_serves any_may (new_state 9) joins joined × HasEffect any_begins any_serves any_may joined iterates iterated }
 {}
 
 /// Priorities compare as their numbers do.

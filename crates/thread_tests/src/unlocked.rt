@@ -1,19 +1,25 @@
 //! What another thread sees while a job, a reply or a subscriber is dropped.
 
+ghost use Rattle.std.specs.Prelude.{◌≡◌};
+
 use crate::host::{Host, Looping, expect_ok, expect_same};
 use crate::watched::{Drops, Guest, Reporter, Task, Watched};
 use event_manager::{
-    Error, EventPoller, LoopWithSenders, NamedCounter, RemoteEndpoint, Result, Sender, Senders,
-    Ticket, TrackedManager, with_senders,
+    Error, EventPoller, Ledgers, LoopWithSenders, Named, NamedCounter, Naming, RemoteEndpoint,
+    Result, Sender, Senders, SubscriberOps, Ticket, TrackedManager, with_senders,
 };
-use fixtures::parts::{Parts, on_table};
+use fixtures::making::make;
+use fixtures::parts::{OnTable, Parts, on_table};
 use fixtures::waits::{wait_until_ended, wait_until_pending};
 use std::alloc::Global;
+use std::marker::Brand;
+use std::sync::ledger::Blank;
 use std::sync::{Arc, Mutex, Wait};
 use std::thread;
 use std::time::Clock;
 use test_rounds::Rounds;
 use vmm_sys::errno::Errno;
+use vmm_sys::eventfd::EventFd;
 
 /// A value that one ring more makes the largest of an `EventFd`.
 const NEARLY_FULL: u64 = 18446744073709551613;
@@ -39,8 +45,6 @@ enum Act {
     RunReply,
     /// A close while a job waits that holds it.
     CloseOnJob,
-    /// A close of a manager with a subscriber that holds it.
-    CloseOnGuest,
 }
 
 /// What is expected of an act: how many jobs wait while the value is dropped, what a send is then answered, and how the
@@ -52,25 +56,26 @@ fn expected(act: Act) -> (usize, Result<u64>, Option<Error>) {
         Act::SendToFull(_) => (1, Err(full), Some(full)),
         Act::SendToClosed(_) => (0, Err(closed), Some(closed)),
         Act::RunReply => (0, Ok(3), None),
-        Act::CloseOnJob | Act::CloseOnGuest => (0, Err(closed), None),
+        Act::CloseOnJob => (0, Err(closed), None),
     }
 }
 
-/// A subscriber and a job, of which one holds the value.
-fn holders<R: Clock + Drop>(act: Act, value: Watched<R>) -> (Guest<R>, Task<R>) {
+/// A job that holds the value.
+fn holder<R: Clock + Drop>(act: Act, value: Watched<R>) -> Task<R> {
     match act {
-        Act::CloseOnGuest => (Guest(Some(value)), Task::Nothing),
-        Act::RunReply => (Guest(None), Task::Reply(value)),
-        _ => (Guest(None), Task::Hold(value)),
+        Act::RunReply => Task::Reply(value),
+        _ => Task::Hold(value),
     }
 }
 
-/// Looks on while the value is dropped. A send is made only where it won't wait for the drop.
+/// Looks on while the value is dropped, and expects this of the endpoint then: how many jobs wait, and what a send is answered.
+/// A send is made only where it won't wait for the drop.
 fn look_on<N: NamedCounter, R: Looping>(
     rt: &R,
     endpoint: &Endpoint<N, R>,
-    act: Act,
     drops: &Drops,
+    waiting: usize,
+    answer: Result<u64>,
 ) {
     let began = drops.wait_for_one(rt);
     let pending = endpoint.pending();
@@ -79,9 +84,8 @@ fn look_on<N: NamedCounter, R: Looping>(
         None => None,
     };
     drops.let_end();
-    let (expected_pending, expected_answer, _refusal) = expected(act);
-    expect_same(rt, &(began, pending), &(true, Some(expected_pending)));
-    expect_same(rt, &sent, &Some(expected_answer));
+    expect_same(rt, &(began, pending), &(true, Some(waiting)));
+    expect_same(rt, &sent, &Some(answer));
 }
 
 /// Sends the job in this way: how it is refused, if it is.
@@ -133,7 +137,10 @@ enum Beside<'a, R: Clock + Drop> {
 impl<R: Looping> Sender<Guest<R>, Task<R>, (), R> for Beside<'_, R> {
     fn send<N: NamedCounter>(self, endpoint: &Endpoint<N, R>, rt: &R) {
         match self {
-            Beside::Looks(act, drops) => look_on(rt, endpoint, act, drops),
+            Beside::Looks(act, drops) => {
+                let (waiting, answer, _refusal) = expected(act);
+                look_on(rt, endpoint, drops, waiting, answer)
+            }
             Beside::Sends(act, second) => send_both(rt, endpoint, second, act),
         }
     }
@@ -144,7 +151,6 @@ impl<R: Looping> Sender<Guest<R>, Task<R>, (), R> for Beside<'_, R> {
 struct Acting<'a, R: Clock + Drop> {
     act: Act,
     drops: &'a Drops,
-    guest: Option<Guest<R>>,
     second: &'a Second<R>,
 }
 
@@ -153,11 +159,8 @@ impl<'a, R: Looping> LoopWithSenders<Guest<R>, Task<R>, Beside<'a, R>, R> for Ac
         &mut self,
         rt: &R,
         alloc: Global,
-        manager: &mut TrackedManager<Guest<R>, Task<R>, N, P>,
+        _manager: &mut TrackedManager<Guest<R>, Task<R>, N, P>,
     ) -> Result<Vec<Beside<'a, R>>> {
-        if let Some(guest) = self.guest.take() {
-            expect_ok(rt, manager.add_subscriber(guest));
-        }
         let looks = Beside::Looks(self.act, self.drops);
         let sends = Beside::Sends(self.act, self.second);
         Ok(expect_ok(rt, Vec::from_array(alloc, [looks, sends])))
@@ -176,7 +179,7 @@ impl<'a, R: Looping> LoopWithSenders<Guest<R>, Task<R>, Beside<'a, R>, R> for Ac
                 return Ok(());
             }
             Act::SendToClosed(_) => 0,
-            Act::CloseOnJob | Act::CloseOnGuest => 1,
+            Act::CloseOnJob => 1,
             Act::RunReply => 2,
         };
         let endpoint = expect_ok(rt, manager.remote_endpoint());
@@ -195,13 +198,11 @@ impl<'a, R: Looping> LoopWithSenders<Guest<R>, Task<R>, Beside<'a, R>, R> for Ac
 fn expect_seen<R: Host>(rt: &R, alloc: Global, act: Act) {
     let drops = expect_ok(rt, Arc::new(alloc, Drops::new()));
     let value = expect_ok(rt, Watched::new(&drops, *rt));
-    let (guest, job) = holders(act, value);
     let Parts { counter, .. } = expect_ok(rt, on_table(*rt, alloc, NEARLY_FULL));
-    let second = Mutex::new(Some(job));
+    let second = Mutex::new(Some(holder(act, value)));
     let mut acting = Acting {
         act,
         drops: &drops,
-        guest: Some(guest),
         second: &second,
     };
     let ended = expect_ok(rt, with_senders(rt, alloc, Reporter, counter, &mut acting));
@@ -247,7 +248,41 @@ fn a_job_that_waits_at_a_close_is_dropped_behind_it(rt: HostRuntime) {
     expect_each_seen(&rt, rt.alloc(), &[Act::CloseOnJob]);
 }
 
+/// Closes a manager whose subscriber holds a value, while another thread looks on by an endpoint.
+fn close_beside<N: Naming + Send + Sync, R: Host>(
+    rt: &R,
+    parts: OnTable<R>,
+    drops: &Arc<Drops, Global>,
+    tickets: Blank,
+    taken: Blank,
+)
+    requires tickets { (tickets.name ≡ N.tickets) × (tickets.parts ≡ 9223372036854775808) }
+    requires taken { (taken.name ≡ N.taken) × (taken.parts ≡ 1) }
+{
+    let ledgers = Ledgers::<Named<N, EventFd>>::new(tickets, taken);
+    let (counter, parts) = parts.split();
+    let mut manager = expect_ok(
+        rt,
+        make::<Guest<R>, Task<R>, Named<N, EventFd>, _>(parts, Named::new(counter), ledgers),
+    );
+    let guest = Guest(Some(expect_ok(rt, Watched::new(drops, *rt))));
+    expect_ok(rt, manager.add_subscriber(guest));
+    let endpoint = expect_ok(rt, manager.remote_endpoint());
+    thread::join(
+        rt,
+        || look_on(rt, &endpoint, drops, 0, Err(Error::ChannelSend)),
+        || {
+            manager.close(rt);
+        },
+    );
+}
+
 #[test]
 fn subscribers_are_dropped_behind_a_close(rt: HostRuntime) {
-    expect_each_seen(&rt, rt.alloc(), &[Act::CloseOnGuest]);
+    let alloc = rt.alloc();
+    let drops = expect_ok(&rt, Arc::new(alloc, Drops::new()));
+    let parts = expect_ok(&rt, on_table(rt, alloc, 0));
+    let tickets = Blank::new(9223372036854775808);
+    close_beside::<Brand, _>(&rt, parts, &drops, tickets, Blank::new(1));
+    expect_same(&rt, &drops.count(), &1);
 }

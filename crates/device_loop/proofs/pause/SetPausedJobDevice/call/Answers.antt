@@ -1,6 +1,5 @@
 use Rattle.std.proofs.Common.{[], ◌∷◌, ◌++◌}
-use Rattle.event_manager.proofs.OneStep.{one_step}
-use Rattle.device_loop.proofs.JoinedSteps.{steps_join}
+use Rattle.event_manager.proofs.OneStep.{one_step, steps_join}
 use Rattle.device_loop.proofs.pause.SetPausedJobDevice.call.Goals as goal
 
 pub returns-in_err-branch-clause-stepped : goal.returns-in_err-branch-clause-stepped
