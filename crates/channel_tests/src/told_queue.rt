@@ -1,0 +1,144 @@
+//! A queue of messages beside the counter that tells its receiver: no wake-up is lost, whatever is done to them.
+
+ghost use Rattle.std.specs.Prelude.{◌≡◌, length};
+ghost use Rattle.channels.specs.Steps.{StepsTo, NoWakeUpIsLost, new_told};
+ghost use Rattle.channels.specs.declared.laws.QueueStep.TheVariants.{Send, Ring, Take, Receive, Close, Join, Leave};
+
+use channels::SendError;
+use channels::laws::no_wake_up_is_lost;
+use channels::queue::{MessageQueue, Signal};
+use std::alloc::{AllocError, Global};
+use std::marker::Model;
+use vmm_sys::errno::Errno;
+
+/// How often it was raised since it was last lowered.
+#[derive(Drop)]
+struct Count {
+    value: u64,
+}
+
+impl Model for Count {
+    ghost use Rattle.std.specs.Prelude.{ℕ};
+
+    ghost Value = { ℕ };
+
+    ghost view = { λ count. count.value };
+}
+
+impl Signal for Count {
+    ghost use Rattle.channels.specs.Steps.{raises, lowers};
+
+    ghost raises = { raises };
+
+    ghost lowers = { lowers };
+
+    fn raise(&mut self) -> Result<(), Errno> {
+        self.value = self.value.checked_add(1).ok_or(Errno::EAGAIN)?;
+        Ok(())
+    }
+
+    fn lower(&mut self) {
+        self.value = 0;
+    }
+}
+
+/// Messages, and the counter that tells their receiver. While its value is 0, no message waits unheard.
+#[derive(Drop)]
+pub struct ToldQueue<M> {
+    messages: MessageQueue<M>,
+    count: Count,
+}
+
+impl<M> Model for ToldQueue<M> {
+    ghost use Rattle.channels.specs.Steps.{Told, NoWakeUpIsLost};
+
+    ghost Value = { Told M };
+
+    ghost view = { λ q. record { messages = q.messages; value = q.count } };
+
+    ghost invariant = { λ q. NoWakeUpIsLost (record { messages = q.messages; value = q.count }) };
+}
+
+impl<M> ToldQueue<M> {
+    /// A new queue without a bound, and a counter that nobody rang.
+    pub fn new(alloc: Global) -> Self
+        ensures { result ≡ new_told None }
+    {
+        no_wake_up_is_lost::<M>();
+        ToldQueue {
+            messages: MessageQueue::new(alloc),
+            count: Count { value: 0 },
+        }
+    }
+
+    /// The value of the counter. While it is 0, no message waits in an open queue, and not all senders have closed.
+    pub fn value(&self) -> u64
+        ensures value { result ≡ self.now.value }
+        ensures kept { NoWakeUpIsLost self.now }
+    {
+        self.count.value
+    }
+
+    /// How many messages wait.
+    pub fn waiting(&self) -> usize
+        ensures { result ≡ length self.now.messages.waiting }
+    {
+        self.messages.waiting()
+    }
+
+    /// Sends a message.
+    pub fn send(&mut self, message: M) -> Result<(), SendError<M>>
+        ensures { StepsTo (Send message) self.old self.new }
+    {
+        no_wake_up_is_lost::<M>();
+        self.messages.send(message, &mut self.count)
+    }
+
+    /// Rings the counter beside the queue.
+    pub fn ring(&mut self) -> Result<(), Errno>
+        ensures { StepsTo Ring self.old self.new }
+    {
+        no_wake_up_is_lost::<M>();
+        self.count.raise()
+    }
+
+    /// Moves all that waits behind what the list has.
+    pub fn take(&mut self, into: &mut Vec<M>) -> Result<(), AllocError>
+        ensures { StepsTo Take self.old self.new }
+    {
+        no_wake_up_is_lost::<M>();
+        self.messages.take(into, &mut self.count)
+    }
+
+    /// The message that has waited longest.
+    pub fn receive(&mut self) -> Option<M>
+        ensures { StepsTo Receive self.old self.new }
+    {
+        no_wake_up_is_lost::<M>();
+        self.messages.receive(&mut self.count)
+    }
+
+    /// Takes no message in from now on, and hands out all that wait.
+    pub fn close(&mut self) -> Vec<M>
+        ensures { StepsTo Close self.old self.new }
+    {
+        no_wake_up_is_lost::<M>();
+        self.messages.close(&mut self.count)
+    }
+
+    /// Counts one sender more.
+    pub fn join(&mut self) -> Result<(), AllocError>
+        ensures { StepsTo Join self.old self.new }
+    {
+        no_wake_up_is_lost::<M>();
+        self.messages.join()
+    }
+
+    /// Counts one sender less.
+    pub fn leave(&mut self) -> Result<(), Errno>
+        ensures { StepsTo Leave self.old self.new }
+    {
+        no_wake_up_is_lost::<M>();
+        self.messages.leave(&mut self.count)
+    }
+}
