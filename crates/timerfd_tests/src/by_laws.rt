@@ -1,6 +1,6 @@
 //! What laws say of a program's own timers.
 
-ghost use Rattle.std.specs.Prelude.{◌≡◌, ◌<◌, ◌≤◌, ◌+◌, ◌-◌, ◌*◌, ◌^◌, ◌↔◌, ℕ, length, max, false, IfOk, IfSome, MatchBool};
+ghost use Rattle.std.specs.Prelude.{◌≡◌, ◌<◌, ◌≤◌, ◌+◌, ◌-◌, ◌*◌, ◌^◌, ◌↔◌, ℕ, length, max, false, IfOk, MatchBool};
 ghost use Rattle.std.specs.List.{Contains, fold};
 ghost use Rattle.timerfd.specs.Dues.{is_due, dues};
 ghost use Rattle.timerfd.specs.Timers.{timer_at, told};
@@ -65,7 +65,7 @@ pub fn count_ticks(
     now: u64,
 ) -> Result<(u64, Option<u64>), AllocError>
     ensures counted { 0 < interval → IfOk result (λ ticks. ticks.0 < 2 ^ 64 - 1 → (k : ℕ) → (k < ticks.0) ↔ (due + k * interval ≤ now)) }
-    ensures next { 0 < interval → due ≤ now → IfOk result (λ ticks. IfSome ticks.1 (λ next. (now < next) × (next ≤ now + interval) × ((k : ℕ) × (next ≡ due + k * interval)))) }
+    ensures next { 0 < interval → due ≤ now → IfOk result (λ ticks. (next : ℕ) → ticks.1 ≡ Some next → (now < next) × (next ≤ now + interval) × ((k : ℕ) × (next ≡ due + k * interval))) }
     ensures once { interval ≡ 0 → due ≤ now → IfOk result (λ ticks. ticks ≡ (1, None)) }
 {
     each_time_up_to_now_counts();
