@@ -1,8 +1,8 @@
 //! A queue of messages beside the counter that tells its receiver: no wake-up is lost, whatever is done to them.
 
 ghost use Rattle.std.specs.Prelude.{◌≡◌, length};
-ghost use Rattle.channels.specs.Steps.{StepsTo, NoWakeUpIsLost, new_told};
-ghost use Rattle.channels.specs.declared.laws.QueueStep.TheVariants.{Send, Ring, Take, Receive, Close, Join, Leave};
+ghost use Rattle.channels.specs.Messages.{IsSend, IsLeave, IsTaken, IsReceived, IsClosed, IsJoined, IsSettled};
+ghost use Rattle.channels.specs.Steps.{NoWakeUpIsLost, new_told, raises, lowers};
 
 use channels::SendError;
 use channels::laws::no_wake_up_is_lost;
@@ -88,7 +88,7 @@ impl<M> ToldQueue<M> {
 
     /// Sends a message.
     pub fn send(&mut self, message: M) -> Result<(), SendError<M>>
-        ensures { StepsTo (Send message) self.old self.new }
+        ensures { IsSend raises self.old.messages self.old.value message result self.new.messages self.new.value }
     {
         no_wake_up_is_lost::<M>();
         self.messages.send(message, &mut self.count)
@@ -96,7 +96,8 @@ impl<M> ToldQueue<M> {
 
     /// Rings the counter beside the queue.
     pub fn ring(&mut self) -> Result<(), Errno>
-        ensures { StepsTo Ring self.old self.new }
+        ensures rung { raises self.old.value result self.new.value }
+        ensures messages { self.new.messages ≡ self.old.messages }
     {
         no_wake_up_is_lost::<M>();
         self.count.raise()
@@ -104,7 +105,8 @@ impl<M> ToldQueue<M> {
 
     /// Moves all that waits behind what the list has.
     pub fn take(&mut self, into: &mut Vec<M>) -> Result<(), AllocError>
-        ensures { StepsTo Take self.old self.new }
+        ensures taken { IsTaken self.old.messages into.old.items result self.new.messages into.new.items }
+        ensures settled { IsSettled lowers self.old.messages self.old.value self.new.messages self.new.value }
     {
         no_wake_up_is_lost::<M>();
         self.messages.take(into, &mut self.count)
@@ -112,7 +114,8 @@ impl<M> ToldQueue<M> {
 
     /// The message that has waited longest.
     pub fn receive(&mut self) -> Option<M>
-        ensures { StepsTo Receive self.old self.new }
+        ensures received { IsReceived self.old.messages result self.new.messages }
+        ensures settled { IsSettled lowers self.old.messages self.old.value self.new.messages self.new.value }
     {
         no_wake_up_is_lost::<M>();
         self.messages.receive(&mut self.count)
@@ -120,7 +123,8 @@ impl<M> ToldQueue<M> {
 
     /// Takes no message in from now on, and hands out all that wait.
     pub fn close(&mut self) -> Vec<M>
-        ensures { StepsTo Close self.old self.new }
+        ensures closed { IsClosed self.old.messages result.items self.new.messages }
+        ensures settled { IsSettled lowers self.old.messages self.old.value self.new.messages self.new.value }
     {
         no_wake_up_is_lost::<M>();
         self.messages.close(&mut self.count)
@@ -128,7 +132,8 @@ impl<M> ToldQueue<M> {
 
     /// Counts one sender more.
     pub fn join(&mut self) -> Result<(), AllocError>
-        ensures { StepsTo Join self.old self.new }
+        ensures joined { IsJoined self.old.messages result self.new.messages }
+        ensures value { self.new.value ≡ self.old.value }
     {
         no_wake_up_is_lost::<M>();
         self.messages.join()
@@ -136,7 +141,7 @@ impl<M> ToldQueue<M> {
 
     /// Counts one sender less.
     pub fn leave(&mut self) -> Result<(), Errno>
-        ensures { StepsTo Leave self.old self.new }
+        ensures { IsLeave raises self.old.messages self.old.value result self.new.messages self.new.value }
     {
         no_wake_up_is_lost::<M>();
         self.messages.leave(&mut self.count)

@@ -8,6 +8,3 @@ invariant_of-self g c =
     let before : Told g.row.M.Denot = record { messages = c.self.inside.messages; value = c.self.inside.count } in
     let after : Told g.row.M.Denot = record { messages = c.join.new.self; value = c.self.inside.count } in
     c.no_wake_up_is_lost.ensures.kept before (Join ∷ []) after (after, (c.join.result, c.join.ensures, refl), refl) c.self.invariant
-
-pub returns : goal.returns
-returns g c = rw (← c.self.view_is) (c.join.result, c.join.ensures, refl)

@@ -8,6 +8,3 @@ invariant_of-self g c =
     let before : Told g.row.M.Denot = record { messages = c.self.inside.messages; value = c.self.inside.count } in
     let after : Told g.row.M.Denot = record { messages = c.send.new.self; value = c.send.new.signal } in
     c.no_wake_up_is_lost.ensures.kept before (Send c.args.message ∷ []) after (after, (c.send.result, c.send.ensures), refl) c.self.invariant
-
-pub returns : goal.returns
-returns g c = rw (← c.self.view_is) (c.send.result, c.send.ensures)

@@ -8,6 +8,3 @@ invariant_of-self g c =
     let before : Told g.row.M.Denot = record { messages = c.self.inside.messages; value = c.self.inside.count } in
     let after : Told g.row.M.Denot = record { messages = c.take.new.self; value = c.take.new.signal } in
     c.no_wake_up_is_lost.ensures.kept before (Take ∷ []) after (after, (c.args.into.now.items, c.take.result, c.take.new.into.items, c.take.ensures.taken, c.take.ensures.settled), refl) c.self.invariant
-
-pub returns : goal.returns
-returns g c = rw (← c.self.view_is) (c.args.into.now.items, c.take.result, c.take.new.into.items, c.take.ensures.taken, c.take.ensures.settled)
