@@ -23,5 +23,8 @@ mod rings;
 mod rounds;
 #[cfg(test)]
 mod senders;
+pub mod told_queue;
+#[cfg(test)]
+mod wake_ups;
 #[cfg(test)]
 mod watched;

@@ -5,6 +5,7 @@
 mod armed_beside;
 #[cfg(test)]
 mod broken_clock;
+pub mod by_laws;
 #[cfg(test)]
 mod clock;
 #[cfg(test)]
@@ -15,6 +16,8 @@ mod expecting;
 mod host;
 #[cfg(test)]
 mod known;
+#[cfg(test)]
+mod lawful;
 #[cfg(test)]
 mod limits;
 #[cfg(test)]
