@@ -42,9 +42,19 @@ use std::time::Clock;
 use vmm_sys::epoll::Epoll;
 use vmm_sys::eventfd::EventFd;
 
-/// Runs the loop beside its threads, prints what has ended it, and how many jobs were issued and taken, and answers what came of
-/// the block device of this ring.
-fn run_named<Q, R>(rt: &R, alloc: Global, blank: Blank) -> Result<BlockReport<Q>, Fault>
+// The fault of the first thread that had one.
+fn all_ran(sent: Vec<Result<(), Fault>>) -> Result<(), Fault> {
+    for thread_ran in sent {
+        thread_ran?;
+    }
+    Ok(())
+}
+
+/// Runs the machine, prints what has ended its loop, and how many jobs were issued and taken, and answers what came of the block
+/// device, whose life in the loop it is. Whatever the other devices, the API and the poller do, what was served is the beginning of
+/// what was queued, in order and each request once; no more than a full bucket and its refills have tokens; and nothing while the
+/// device is paused. The ring is the only one of its name, which the blank page gives.
+fn run_machine<Q, R>(rt: &R, alloc: Global, blank: Blank) -> Result<BlockReport<Q>, Fault>
 where
     Q: RingName + Send + Sync,
     R: Threads + Wait + Clock + Print + Copy + Send + Sync + Drop,
@@ -61,9 +71,10 @@ where
     let mut machine = Machine::new(&shared, shared_ring, limiter);
     let mut ended = with_senders(rt, alloc, epoll, event_fd, &mut machine)?;
     ended.ran?;
-    for thread_ran in ended.sent {
-        thread_ran?;
-    }
+    non_interference::<Device<Q, R>, ApiRequest<Q, R>>();
+    lives_are_its_own::<Device<Q, R>>();
+    let block = machine.take_block(&mut ended.subscribers)?;
+    all_ran(ended.sent)?;
     let why = if machine.has_exited() {
         "the exit event"
     } else {
@@ -71,33 +82,27 @@ where
     };
     let (issued, taken) = (ended.issued, ended.taken);
     println!(rt; "ended by {why}; jobs: {issued} issued, {taken} taken")?;
-    non_interference::<Device<Q, R>, ApiRequest<Q, R>>();
-    lives_are_its_own::<Device<Q, R>>();
-    let block = machine.take_block(&mut ended.subscribers)?;
     Ok(BlockReport::new(block, &mut ring.lock(rt), alloc)?)
 }
 
-/// Runs the machine, and answers what came of its block device, whose life in the loop it is. Whatever the other devices, the API and
-/// the poller do, what was served is the beginning of what was queued, in order and each request once; no more than a full bucket and
-/// its refills have tokens; and nothing while the device is paused.
-fn run_machine<R: Threads + Wait + Clock + Print + Copy + Send + Sync + Drop>(
-    rt: &R,
-    alloc: Global,
-) -> Result<BlockReport<Brand>, Fault>
-    ensures served { IfOk result IsServedInOrder }
-    ensures lived { IfOk result (IsOfALife ⟦<Device<Brand, R> as MutEventSubscriber>⟧.begins ⟦<Device<Brand, R> as MutEventSubscriber>⟧.serves) }
+// Runs the machine, and prints what came of the block device.
+fn tell_named<Q, R>(rt: &R, alloc: Global, blank: Blank) -> Result<(), Fault>
+where
+    Q: RingName + Send + Sync,
+    R: Threads + Wait + Clock + Print + Copy + Send + Sync + Drop,
+    requires { (blank.name ≡ Q.ring) × (blank.parts ≡ 1) }
 {
-    run_named::<Brand, R>(rt, alloc, Blank::new(1))
+    let report = run_machine::<Q, R>(rt, alloc, blank)?;
+    println!(rt; "block: {report}")?;
+    Ok(())
 }
 
-// Runs the machine, and prints what came of the block device.
+// As `tell_named`, of a ring of some name.
 fn tell<R: Threads + Wait + Clock + Print + Copy + Send + Sync + Drop>(
     rt: &R,
     alloc: Global,
 ) -> Result<(), Fault> {
-    let report = run_machine(rt, alloc)?;
-    println!(rt; "block: {report}")?;
-    Ok(())
+    tell_named::<Brand, R>(rt, alloc, Blank::new(1))
 }
 
 fn main(rt: HostRuntime) -> ExitCode {

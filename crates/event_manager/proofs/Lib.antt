@@ -16,6 +16,7 @@ pub mod TraceSoFar
 pub mod CallsApart
 pub mod LoopOutputs
 pub mod OneStep
+pub mod JobSteps
 pub mod Histories
 pub mod ProjectedHistory
 pub mod TracesWithoutJobs

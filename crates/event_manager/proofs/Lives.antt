@@ -70,3 +70,7 @@ module _ {V : Type 0} (begins : Begins V) (serves : Serves V) (i : ℕ) where
   pub history_lives : (before : Registry V) (history : List (Turn V)) (after : Registry V) → IsHistory begins serves before history after → Life before (life_of i history) (held after)
   history_lives before [] after e = ap held e
   history_lives before (turn ∷ history) after (mid, did, more) = turn_lives before turn mid (life_of i history) (held after) did (history_lives mid history after more)
+
+-- the life of an id that nobody had at first, and that has this value in the end
+pub whole_life : {V : Type 0} (begins : Begins V) (serves : Serves V) (start end after : Option V) (life : List (LifeStep V)) → start ≡ None → end ≡ after → Lives begins serves start life end → Lives begins serves None life after
+whole_life begins serves start end after life began ended lives = subst (λ after. Lives begins serves None life after) ended (subst (λ before. Lives begins serves before life end) began lives)

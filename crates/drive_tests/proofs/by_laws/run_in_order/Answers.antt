@@ -14,6 +14,8 @@ pub returns : goal.returns
 returns g c =
     let did = c.run.ensures in
     let order = c.one_dispatch_order.ensures in
-    let registrations = (seen_of c.args.subscribers.now).registry.registrations in
-    (did, λ lowest. in_order _ _ _ _ did.iteration.waited did.iteration.positions did.iteration.jobs _
-    (λ report ordered. order.unique registrations report _ report ordered (order.lowest registrations report lowest)) did.iterated)
+    let registrations = (seen_of c.args.subscribers.now).registry.registrations in (
+      did,
+      λ lowest. in_order _ _ _ _ did.iteration.waited did.iteration.positions did.iteration.jobs _
+          (λ report ordered. order.unique registrations report _ report ordered (order.lowest registrations report lowest)) did.iterated,
+    )

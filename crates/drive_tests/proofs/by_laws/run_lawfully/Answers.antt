@@ -1,12 +1,9 @@
-use Rattle.std.proofs.Common.{◌≡◌, List, Option, None, nat_cmp, subst}
+use Rattle.std.proofs.Common.{refl, nat_cmp}
 use Rattle.std.specs.FinMap.{get-empty}
-use Rattle.event_manager.specs.Prelude.{Begins, Serves}
 use Rattle.event_manager.specs.History.{history_of}
-use Rattle.event_manager.specs.Life.{LifeStep, Lives, life_of}
+use Rattle.event_manager.specs.Life.{life_of}
+use Rattle.event_manager.proofs.Lives.{whole_life}
 use Rattle.drive_tests.proofs.by_laws.run_lawfully.Goals as goal
-
-from_none : {V : Type 0} (begins : Begins V) (serves : Serves V) (start : Option V) (life : List (LifeStep V)) (after : Option V) → start ≡ None → Lives begins serves start life after → Lives begins serves None life after
-from_none begins serves start life after is lives = subst (λ before. Lives begins serves before life after) is lives
 
 pub returns-clause-sound : goal.returns-clause-sound
 returns-clause-sound g c = let it = c.came_about.ensures in c.owners_are_subscribers.ensures.kept _ it.trace _ it.is_trace (c.owners_are_subscribers.ensures.new it.endpoint)
@@ -17,4 +14,4 @@ returns-clause-given g c = let it = c.came_about.ensures in c.ids_are_given_once
 pub returns-clause-lives : goal.returns-clause-lives
 returns-clause-lives g c =
     let it = c.came_about.ensures in
-    λ id. (life_of id (history_of it.trace), from_none _ _ _ _ _ (get-empty nat_cmp id) (c.lives_are_its_own.ensures id _ _ _ (c.non_interference.ensures.traces _ it.trace _ it.is_trace)))
+    λ id. (life_of id (history_of it.trace), whole_life _ _ _ _ _ _ (get-empty nat_cmp id) refl (c.lives_are_its_own.ensures id _ _ _ (c.non_interference.ensures.traces _ it.trace _ it.is_trace)))
