@@ -1,11 +1,12 @@
 //! What a program's own contract can say of its devices: each is as if the others were not there.
 
-ghost use Rattle.std.specs.Prelude.{◌≡◌, ℕ, [], ◌∷◌, OnOk};
+ghost use Rattle.std.specs.Prelude.{◌≡◌, ℕ, Bool, [], ◌∷◌, OnOk};
 ghost use Rattle.event_manager.specs.Registry.{new_registry};
 ghost use Rattle.event_manager.specs.Manager.{state_of};
-ghost use Rattle.event_manager.specs.Wants.{WantApart, AllAsIfAlone};
-ghost use Rattle.drive_tests.specs.Devices.{wants};
+ghost use Rattle.event_manager.specs.Wants.{WantApart, AllAsIfAlone, IsWithin, by_test};
+ghost use Rattle.drive_tests.specs.Devices.{wants, is_own};
 
+use event_manager::laws::wants_keep_apart;
 use event_manager::{
     Action, ActionOn, EventManager, EventOps, EventPoller, Events, MutEventSubscriber,
     NamedCounter, Request, Result, SubscriberOps,
@@ -98,4 +99,16 @@ pub fn run_machine<N: NamedCounter, P: EventPoller, R: Wait + Clock>(
     manager.add_subscriber(console)?;
     manager.add_subscriber(timer)?;
     Ok(manager.run_with_timeout(0, rt).unwrap_or(0))
+}
+
+/// Runs a manager of devices once. Where each of them has and wants only what its id claims, that is so afterwards too, whatever the
+/// poller answers and reports, and whatever actions are sent.
+pub fn run_within<N: NamedCounter, P: EventPoller, R: Wait + Clock>(
+    manager: &mut EventManager<Device, ActionOn<Pause>, N, P>,
+    rt: &R,
+) -> Result<usize>
+    ensures { (claims : ℕ → ℕ → Bool) → IsWithin (by_test is_own) (by_test claims) (state_of manager.old).registry → IsWithin (by_test is_own) (by_test claims) (state_of manager.new).registry }
+{
+    wants_keep_apart::<Device>();
+    manager.run_with_timeout(0, rt)
 }

@@ -1,6 +1,7 @@
 //! The queue of jobs, and the account of a list of sends, takes and closes.
 
 use crate::expecting::{expect_ok, expect_same};
+use crate::heard::send_heard;
 use event_manager::jobs::{JobQueue, Step, replay};
 use event_manager::{Bell, Error};
 use std::alloc::Global;
@@ -106,7 +107,7 @@ fn two_of_three_sends_are_accepted(rt: HostRuntime) {
 fn a_send_rings_no_bell_where_no_ticket_is_left(rt: HostRuntime) {
     let bell = make_refusing(0);
     let mut queue: JobQueue<char, ()> = JobQueue::behind(rt.alloc(), 9223372036854775807);
-    let answer = queue.send('a', None, &bell, &rt);
+    let answer = send_heard(&mut queue, 'a', &bell, &rt);
     expect_same(&rt, &answer, &Err(Error::TicketsUsedUp));
     expect_same(&rt, &bell.rings.load(Ordering::SeqCst), &0);
 }

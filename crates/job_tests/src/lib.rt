@@ -5,6 +5,7 @@
 mod courses;
 #[cfg(test)]
 mod expecting;
+pub mod heard;
 #[cfg(test)]
 mod jobs;
 #[cfg(test)]
