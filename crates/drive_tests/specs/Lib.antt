@@ -1,2 +1,3 @@
 pub mod Meters
 pub mod Devices
+pub mod Again

@@ -4,7 +4,7 @@ use crate::both::Both;
 use crate::by_laws::run_in_order;
 use crate::expecting::{expect_ok, expect_same};
 use crate::going_on::Meter;
-use event_manager::{EventLoop, Events, Request, SubscriberOps};
+use event_manager::{EventLoop, Request, SubscriberOps};
 use fixtures::asking::{Asking, wanted};
 use std::alloc::Global;
 use std::process::Abort;
@@ -54,6 +54,6 @@ fn a_report_is_dispatched_in_its_order(rt: HostRuntime) {
     let id = expect_ok(&rt, event_loop.add_subscriber(asking));
     expect_same(&rt, &run_in_order(&mut event_loop), &Ok(3));
     let held = expect_ok(&rt, event_loop.subscriber(id));
-    let seen: [Events; 3] = [5, 3, 5].map(|fd| Events::new_raw(fd, EventSet::IN));
+    let seen = [5, 3, 5].map(wanted);
     expect_same(&rt, &held.seen.as_slice(), &seen.as_slice());
 }

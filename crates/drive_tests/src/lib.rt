@@ -4,6 +4,7 @@
 pub mod apart;
 pub mod both;
 pub mod by_laws;
+pub mod driven_again;
 #[cfg(test)]
 mod expecting;
 pub mod going_on;
@@ -14,6 +15,8 @@ pub mod leaving;
 mod lists;
 #[cfg(test)]
 mod machine_runs;
+#[cfg(test)]
+mod made_again;
 #[cfg(test)]
 mod metering;
 #[cfg(test)]
