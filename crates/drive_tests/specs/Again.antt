@@ -10,12 +10,6 @@ use Rattle.poller_records.specs.Replay.{Replay}
 use Rattle.recorded_runs.specs.Determinism.{IsTheRun}
 use Rattle.recorded_runs.specs.RecordedRun.{BeginsAgain, IsMadeAgain}
 
--- Where the second trace makes the first one again, over what was recorded of it, and its replay hasn't diverged, it is the first one's run.
-abbrev pub RunsAgain : {S J R P : Type 0} → LoopState S (Recording P) → List (TraceEntry S J R) → LoopState S (Recording P)
-    → LoopState S Replay → List (TraceEntry S J R) → LoopState S Replay → Type 0
-RunsAgain before trace after start again end =
-    BeginsAgain before after start → end.poller.diverged ≡ false → IsMadeAgain trace again → IsTheRun trace again (manager_state after) (manager_state end)
-
 module _ {S J R : Type 0} (begins : Begins S) (serves : Serves S) (may : May S J R) where
   -- the calls are made: their replies, which are appended to the old ones, and their trace
   pub record AreMade {P : Type 0} (controls : Controls P) (waits : Waits P) (before : LoopState S P) (calls : List (Call S)) (old all : List (Reply S)) (after : LoopState S P) : Type 0 where
@@ -24,8 +18,10 @@ module _ {S J R : Type 0} (begins : Begins S) (serves : Serves S) (may : May S J
     pub trace : List (TraceEntry S J R)
     pub is_trace_of : IsTraceOf begins serves may controls waits before calls replies after trace
 
-  -- so for each trace of a manager over a recording poller
-  abbrev pub RunsAnyAgain : {P : Type 0} → Controls (Recording P) → Waits (Recording P) → LoopState S Replay → List (TraceEntry S J R) → LoopState S Replay → Type 0
-  RunsAnyAgain {P} controls waits start again end =
+  -- Where this trace over a replay makes one over a recording poller again, from what was recorded of it, and its replay hasn't
+  -- diverged, it is that one's run.
+  abbrev pub RunsAgain : {P : Type 0} → Controls (Recording P) → Waits (Recording P) → LoopState S Replay → List (TraceEntry S J R) → LoopState S Replay → Type 0
+  RunsAgain {P} controls waits start again end =
       (before after : LoopState S (Recording P)) (calls : List (Call S)) (replies : List (Reply S)) (trace : List (TraceEntry S J R))
-      → IsTraceOf begins serves may controls waits before calls replies after trace → RunsAgain before trace after start again end
+      → IsTraceOf begins serves may controls waits before calls replies after trace
+      → BeginsAgain before after start → end.poller.diverged ≡ false → IsMadeAgain trace again → IsTheRun trace again (manager_state after) (manager_state end)

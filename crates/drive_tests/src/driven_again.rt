@@ -5,7 +5,7 @@ ghost use Rattle.event_manager.specs.CounterSubscribers.{counter_begins, counter
 ghost use Rattle.event_manager.specs.LoopState.{manager_state};
 ghost use Rattle.event_manager.specs.Manager.{state_of};
 ghost use Rattle.recorded_runs.specs.Determinism.{IsReplay, IsTheRun};
-ghost use Rattle.drive_tests.specs.Again.{AreMade, RunsAgain, RunsAnyAgain};
+ghost use Rattle.drive_tests.specs.Again.{AreMade, RunsAgain};
 
 use event_manager::utilities::subscribers::CounterSubscriber;
 use event_manager::{
@@ -34,33 +34,12 @@ pub fn drive_over_record<P: Poller, N: NamedCounter, R: Wait + Clock>(
 ) -> Result<()>
     ensures { OnOk result ((again : AreMade counter_begins counter_serves ⟦<NoJob as Job<CounterSubscriber>>⟧.may ⟦<ReplayPoller as EventPoller>⟧.controls ⟦<ReplayPoller as EventPoller>⟧.waits
         (state_of replayed.old) calls.items replies.old.items replies.new.items (state_of replayed.new))
-        × RunsAnyAgain counter_begins counter_serves ⟦<NoJob as Job<CounterSubscriber>>⟧.may
+        × RunsAgain counter_begins counter_serves ⟦<NoJob as Job<CounterSubscriber>>⟧.may
         ⟦<RecordingPoller<P> as EventPoller>⟧.controls ⟦<RecordingPoller<P> as EventPoller>⟧.waits (state_of replayed.old) again.trace (state_of replayed.new)) }
 {
     counters_are_functions();
     a_recorded_run_is_made_again::<CounterSubscriber, NoJob, P>();
     drive(replayed, calls, replies, rt)
-}
-
-/// Drives calls over a recording poller, and then calls over a replay. With the same premises as
-/// [`drive_over_record`] both runs are the same.
-pub fn drive_again<N: NamedCounter, M: NamedCounter, P: Poller, R: Wait + Clock>(
-    recorded: &mut Counters<N, RecordingPoller<P>>,
-    replayed: &mut Counters<M, ReplayPoller>,
-    calls: Vec<Call<CounterSubscriber>>,
-    calls_again: Vec<Call<CounterSubscriber>>,
-    replies: &mut Vec<Reply<CounterSubscriber>>,
-    replies_again: &mut Vec<Reply<CounterSubscriber>>,
-    rt: &R,
-) -> Result<()>
-    ensures { OnOk result ((made : AreMade counter_begins counter_serves ⟦<NoJob as Job<CounterSubscriber>>⟧.may
-        ⟦<RecordingPoller<P> as EventPoller>⟧.controls ⟦<RecordingPoller<P> as EventPoller>⟧.waits (state_of recorded.old) calls.items replies.old.items replies.new.items (state_of recorded.new))
-        × (again : AreMade counter_begins counter_serves ⟦<NoJob as Job<CounterSubscriber>>⟧.may ⟦<ReplayPoller as EventPoller>⟧.controls ⟦<ReplayPoller as EventPoller>⟧.waits
-        (state_of replayed.old) calls_again.items replies_again.old.items replies_again.new.items (state_of replayed.new))
-        × RunsAgain (state_of recorded.old) made.trace (state_of recorded.new) (state_of replayed.old) again.trace (state_of replayed.new)) }
-{
-    drive(recorded, calls, replies, rt)?;
-    drive_over_record::<P, _, _>(replayed, calls_again, replies_again, rt)
 }
 
 /// Drives calls on two managers, whatever their pollers. Where both began alike, calls, poller calls and jobs are the same, and
