@@ -32,6 +32,8 @@ PICKED_HEAD = (
     "(rt: R, host: HostRuntime)"
 )
 STREAM = re.compile(r"\brt(?=\.std(?:in|out|err)\(\))")
+# What only the prover reads: lemmas, by paths that a module of a batch doesn't have.
+TACTIC = re.compile(r"^ *#\[tactic\(.*\)\]\n", re.M)
 # A test with its name and what is said above it, as `rt fmt` lays it out.
 TEST = re.compile(r"^( *)(?://.*\n\1)*#\[test\]\n(?:\1#.*\n)*\1fn (\w+)(?:.*\n)*?\1}\n", re.M)
 
@@ -84,7 +86,7 @@ def lay_module(room, target, module, names, change, change_text):
     shutil.copytree(f"{ROOT}/crates/{target}/src", f"{folder}/src")
     change(folder)
     shutil.move(f"{folder}/src", source)
-    rewrite(source, lambda text: renamed(re.sub(r"\bcrate::", f"crate::{module}::", change_text(text)), names))
+    rewrite(source, lambda text: renamed(re.sub(r"\bcrate::", f"crate::{module}::", TACTIC.sub("", change_text(text))), names))
     root = f"{source}/{'main' if tries.is_program(target) else 'lib'}.rt"
     lines = [line for line in text_of(root).splitlines() if not line.startswith("#![")]
     os.remove(root)
