@@ -210,7 +210,7 @@ fn a_wait_does_not_sleep_where_something_is_ready(rt: HostRuntime) {
 fn changes_do_not_put_a_limit_off(rt: HostRuntime) {
     let mut epoll = expect_ok(&rt, Epoll::new(rt, rt.alloc()));
     let fixture = Fixture::new(&rt, &mut epoll);
-    let waiter = Waiter::start(rt, rt.alloc(), &epoll, 200);
+    let waiter = Waiter::start(rt, rt.alloc(), &epoll, 1000);
     // Five seconds, in which the changes never stop for as long as the limit.
     for _ in 0..1000 {
         if waiter.is_over() {
