@@ -25,4 +25,4 @@ returns g c = λ before same none heard.
     let law = c.no_job_waits_unheard.ensures in
     let sent = any_bell (g.B.Bell.rings c.args.bell.now) c.args.queue.now c.args.job None c.send.result c.send.new.self c.send.ensures in
     let reached = law.sends before c.args.job c.send.result c.send.new.self none (subst (λ queue. IsSend (λ rung. Unit {0}) queue c.args.job None c.send.result c.send.new.self) (sym same) sent) in
-    (reached.1, reached.3, law.kept before reached.0 reached.1 reached.2 heard)
+    (reached.0, reached.1, reached.2, reached.3, law.kept before reached.0 reached.1 reached.2 heard)
