@@ -115,7 +115,7 @@ impl<Q: RingName, R: Wait + Drop> Job<Device<Q, R>> for ApiRequest<Q, R> {
     ghost use Rattle.event_manager.specs.Kept.{StepGoesOn};
     ghost use Rattle.device_loop.specs.Pauses.{IsSameButPaused};
 
-    // Of what the loop holds it changes no more than whether a block device is paused.
+    // What it puts in a device's place differs from that by the pause alone; who leaves, and what is asked for, stays open.
     ghost may = { λ self steps reply. All (StepGoesOn IsSameButPaused) steps };
 
     ghost replies = { λ reply. Unit {0} };

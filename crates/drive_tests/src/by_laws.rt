@@ -33,7 +33,7 @@ pub fn run_lawfully<N: NamedCounter, P: EventPoller, R: Wait + Clock>(
     ensures lives { (id : ℕ) → (life : List (LifeStep Meter)) × Lives ⟦<Meter as MutEventSubscriber>⟧.begins ⟦<Meter as MutEventSubscriber>⟧.serves None life (get meters.new.registry.values id) }
 {
     let ran = meters.run_with_timeout(0, rt);
-    meters.came_about();
+    meters.reveal_history();
     owners_are_subscribers::<Meter, ActionOn<Advance>>();
     ids_are_given_once::<Meter, ActionOn<Advance>>();
     non_interference::<Meter, ActionOn<Advance>>();

@@ -1,6 +1,6 @@
 -- Who wants only what its id claims goes on so, and each id is as if the others were not there.
 use Rattle.std.proofs.Common.{◌≡◌, ◌≢◌, ℕ, ℤ, ◌+◌, ◌==◌, Bool, true, false, refl, sym, ◌∙◌, ap, subst, map, Some, None, inl, inr, List, [], ◌∷◌, ◌++◌, true≢false, eqb-true, if◌then◌else◌, Ok, Err, Result, All, IfSome, IfOk, nat_cmp}
-use Rattle.std.specs.List.{flat_map, AllZip}
+use Rattle.std.specs.List.{flat_map}
 use Rattle.std.specs.FinMap.{FinMap, get, insert, get-empty}
 use Rattle.std.proofs.lemmas.Bool.{or_cases, false_from_ne_true}
 use Rattle.std.proofs.lemmas.Bool.Decides.{eqb_tells}
@@ -13,17 +13,12 @@ use Rattle.event_loop.specs.Prelude.{Event, Answer, Registrations, Owns, added, 
 use Rattle.event_loop.specs.declared.error.Error.{Error}
 use Rattle.event_loop.specs.declared.events.Request.{Request}
 use Rattle.event_loop.specs.declared.events.Request.TheVariants.{Add, AddWithPriority, Modify, Remove}
-use Rattle.event_manager.specs.Trace.{Effect, Stepped, Iterated, TraceEntry, Matches, HasEffect, IsTrace}
-use Rattle.event_manager.specs.Driven.{IsDriven}
-use Rattle.event_manager.specs.History.{Turn, Made, Waited, IsTurn, IsHistory, turns_of, history_of}
-use Rattle.event_manager.specs.declared.calls.Call.{Call}
-use Rattle.event_manager.specs.declared.calls.Call.TheVariants as call
-use Rattle.event_manager.specs.declared.calls.Reply.{Reply}
+use Rattle.event_manager.specs.History.{Turn, Made, Waited, IsTurn, IsHistory}
 use Rattle.event_manager.specs.Projection.{receiver_of, is_add, asks_to_add, adds, turn_exchanges, exchanges_in, IsApart, IsAsIfAlone}
 use Rattle.event_manager.specs.Actions.{IsDoneTo}
-use Rattle.event_manager.specs.Wants.{AskWithin, AreDisjoint, NoneWants, WantApart, claimed_by, BeginsWithin, ServesWithin, IsWithin, StepIsWithin, TurnIsWithin, JobsAreWithin, CallIsWithin, GetsWithin, StaysWithin, AllAsIfAlone}
+use Rattle.event_manager.specs.Wants.{AskWithin, AreDisjoint, NoneWants, WantApart, claimed_by, BeginsWithin, ServesWithin, IsWithin, StepIsWithin, TurnIsWithin, JobsAreWithin, GetsWithin, StaysWithin, AllAsIfAlone}
 use Rattle.event_manager.proofs.HeldIds.{from_remove}
-use Rattle.event_manager.proofs.Histories.{histories_join, wait_history, trace_is_history}
+use Rattle.event_manager.proofs.Histories.{histories_join, wait_history}
 use Rattle.event_manager.proofs.Isolation.{insert_other_value}
 use Rattle.event_manager.proofs.Lives.{inserted_at}
 use Rattle.event_manager.proofs.ProjectedHistory.{non_interference}
@@ -264,37 +259,6 @@ module _ {V : Type 0} (wants : V → ℕ → Type 0) (claims : ℕ → ℕ → T
           is_history = wait_history begins serves may (manager_state before) it.ms it.waited it.positions it.jobs (manager_state after) did.iterated;
           turns = All-cons (TurnIsWithin wants claims) (Waited it.ms it.waited it.positions) (flat_map (λ job_run. map Made job_run.steps) it.jobs) tt
               (waited_within may within (manager_state before) it.waited it.positions it.jobs (manager_state after) did.iterated);
-        }
-
-    called_within : (J R : Type 0) (step : LoopStep V) (c : Call V) (r : Reply V) → Matches {V = V} {J = J} {R = R} (Stepped step) c r → CallIsWithin wants claims c r → StepIsWithin wants claims step
-    called_within J R (Joined value id exchanges calls held) c r (is, replied) h = subst (CallIsWithin wants claims (call.Add value)) replied (subst (λ x. CallIsWithin wants claims x r) is h)
-    called_within J R (NotJoined value error) c r matches h = tt
-    called_within J R (Left id value calls) c r matches h = tt
-    called_within J R (Replaced id old new) c r (is, replied) h = λ fd want. inr (subst (λ x. CallIsWithin wants claims x r) is h fd want)
-    called_within J R (Requested id exchanges calls) c r (requests, answers, is, replied, are, answered) h = subst (AskWithin (claims id)) (sym are) (subst (λ x. CallIsWithin wants claims x r) is h)
-    called_within J R (Refused id) c r matches h = tt
-
-    effect_within : (J R : Type 0) (may : May V J R) → JobsAreWithin wants claims may → (before : ManagerState V) (effect : Effect V J R) (c : Call V) (r : Reply V) (after : ManagerState V) → Matches effect c r → HasEffect begins serves may before effect after → CallIsWithin wants claims c r → TurnsAreWithin (turns_of effect)
-    effect_within J R may within before (Stepped step) c r after matches had h = All-cons (TurnIsWithin wants claims) (Made step) [] (called_within J R step c r matches h) (All-nil (TurnIsWithin wants claims))
-    effect_within J R may within before (Iterated it) c r after matches had h =
-        All-cons (TurnIsWithin wants claims) (Waited it.ms it.waited it.positions) (flat_map (λ job_run. map Made job_run.steps) it.jobs) tt (waited_within may within before it.waited it.positions it.jobs after had)
-
-    trace_within : (J R : Type 0) (may : May V J R) → JobsAreWithin wants claims may → (before : ManagerState V) (trace : List (TraceEntry V J R)) (after : ManagerState V) → IsTrace begins serves may before trace after
-        → AllZip (CallIsWithin wants claims) (map (λ entry. entry.call) trace) (map (λ entry. entry.reply) trace) → TurnsAreWithin (history_of trace)
-    trace_within J R may within before [] after is calls = All-nil (TurnIsWithin wants claims)
-    trace_within J R may within before (entry ∷ trace) after (mid, matches, had, more) (one, others) =
-        All-append (TurnIsWithin wants claims) (turns_of entry.effect) (history_of trace) (effect_within J R may within before entry.effect entry.call entry.reply mid matches had one) (trace_within J R may within mid trace after more others)
-
-    -- of a list of calls that was driven, by the calls and their replies
-    pub driven_within : {P J R : Type 0} {controls : Controls P} {waits : Waits P} {may : May V J R} {before after : LoopState V P} {calls : List (Call V)} {replies : List (Reply V)} → JobsAreWithin wants claims may
-        → IsDriven begins serves may controls waits before calls replies after → AllZip (CallIsWithin wants claims) calls replies → GetsWithin wants claims begins serves before.registry after.registry
-    driven_within {J = J} {R} {may = may} {before} {after} {calls} within driven are =
-        let it = driven.is_trace_of in
-        let replied = subst (λ rs. AllZip (CallIsWithin wants claims) calls rs) (sym it.replies_are) are in
-        record {
-          history = history_of driven.trace;
-          is_history = trace_is_history begins serves may (manager_state before) driven.trace (manager_state after) it.is_trace;
-          turns = trace_within J R may within (manager_state before) driven.trace (manager_state after) it.is_trace (subst (λ cs. AllZip (CallIsWithin wants claims) cs (map (λ entry. entry.reply) driven.trace)) (sym it.calls_are) replied);
         }
 
     -- from a registry that is within what is claimed, each id is as if the others were not there

@@ -1,13 +1,9 @@
 -- Which descriptors subscribers want, and which id may have which: who knows that beforehand knows that nobody meets another.
-use Rattle.std.specs.Prelude.{◌≡◌, ℕ, Bool, IsTrue, List, [], ◌∷◌, All, IfSome, ◌⊎◌, Ok}
+use Rattle.std.specs.Prelude.{◌≡◌, ℕ, Bool, IsTrue, List, [], ◌∷◌, All, IfSome, ◌⊎◌}
 use Rattle.event_loop.specs.Prelude.{Event, Owns, added, event_of, Exchanges, requests_of, Begins, Serves, Registry, HasId, LoopStep, Joined, Replaced, Requested, May}
 use Rattle.event_loop.specs.declared.events.Request.{Request}
 use Rattle.event_manager.specs.History.{Turn, Made, Waited, IsHistory}
 use Rattle.event_manager.specs.Projection.{IsAsIfAlone}
-use Rattle.event_manager.specs.declared.calls.Call.{Call}
-use Rattle.event_manager.specs.declared.calls.Call.TheVariants as call
-use Rattle.event_manager.specs.declared.calls.Reply.{Reply}
-use Rattle.event_manager.specs.declared.calls.Reply.TheVariants as reply
 
 -- a relation by a test, as laws take it
 abbrev pub by_test : {A : Type 0} → (A → ℕ → Bool) → A → ℕ → Type 0
@@ -67,13 +63,6 @@ module _ {V : Type 0} (wants : V → ℕ → Type 0) where
 
     abbrev pub JobsAreWithin : {J R : Type 0} → May V J R → Type 0
     JobsAreWithin {J} {R} may = (job : J) (steps : List (LoopStep V)) (reply : R) → may job steps reply → All StepIsWithin steps
-
-    -- the same of a call with its reply
-    abbrev pub CallIsWithin : Call V → Reply V → Type 0
-    CallIsWithin (call.Add value) (reply.Added (Ok id)) = (fd : ℕ) → wants value fd → claims id fd
-    CallIsWithin (call.Set id value) r = (fd : ℕ) → wants value fd → claims id fd
-    CallIsWithin (call.Ask id requests) r = AskWithin (claims id) requests.items
-    CallIsWithin c r = Unit {0}
 
     module _ (begins : Begins V) (serves : Serves V) where
       -- a history leads from the one to the other, whose calls and jobs are within what is claimed

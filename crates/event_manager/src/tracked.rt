@@ -72,8 +72,8 @@ impl<S: MutEventSubscriber, J: Job<S>, N: NamedCounter, P: EventPoller> TrackedM
         self.manager.poller()
     }
 
-    /// Does nothing: its contract says how the manager came about.
-    pub fn came_about(&self)
+    /// Does nothing: its contract is the history by which a new manager became this one.
+    pub fn reveal_history(&self)
         ensures { IsReached S.begins S.serves J.may (manager_state self.now) }
     {
         // Read, so that the check knows what holds of it.
