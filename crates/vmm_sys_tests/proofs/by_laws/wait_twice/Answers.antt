@@ -5,7 +5,7 @@ use Rattle.std.proofs.lemmas.List.Elements.{Contains-append_left, Contains-appen
 use Rattle.vmm_sys.specs.Poller.{reported}
 use Rattle.vmm_sys.specs.ServiceBound.{Wait, Reports, after}
 use Rattle.vmm_sys.specs.Table.{TableState, entry_of, is_of, wait_of}
-use Rattle.vmm_sys_tests.proofs.Waits.{Is, alone, left, reported_by_two, stands, waited}
+use Rattle.vmm_sys_tests.proofs.Served.{Is, alone, left, reported_by_two, stands, waited}
 use Rattle.vmm_sys_tests.proofs.by_laws.wait_twice.Goals as goal
 
 pub returns-clause-served : goal.returns-clause-served
