@@ -1,6 +1,7 @@
 //! Texts that are no records: which line is named, and why.
 
 use crate::expecting::{expect_ok, expect_same, expect_same_for};
+use crate::first_bad::first_bad_line;
 use poller_records::fault::{LineFault, RecordFault};
 use poller_records::text::read_record;
 use std::process::Abort;
@@ -83,6 +84,21 @@ fn the_first_bad_line_is_named(rt: HostRuntime) {
         fault: LineFault::WrongFields,
     };
     expect_same(&rt, &found, &Some(expected));
+}
+
+#[test]
+fn a_text_has_one_first_bad_line_or_none(rt: HostRuntime) {
+    let texts = [
+        ("", None),
+        ("event 1 12\nwait 0 8 ok 1\n", None),
+        ("\n", Some(1)),
+        ("event 1 12\nevent\nadd\n\n", Some(2)),
+        ("event 1 12\nevent 1 12\nevent 1 12", Some(3)),
+    ];
+    for (text, line) in texts {
+        let found = expect_ok(&rt, first_bad_line(rt.alloc(), text));
+        expect_same_for(&rt, &found, &line, &text);
+    }
 }
 
 #[test]

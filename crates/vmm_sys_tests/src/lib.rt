@@ -2,6 +2,7 @@
 //! under the lock of a shared table.
 #![tactic(auto)]
 
+pub mod by_laws;
 #[cfg(test)]
 mod event_sets;
 #[cfg(test)]
@@ -10,6 +11,8 @@ mod expecting;
 mod fixture;
 #[cfg(test)]
 mod hundreds;
+#[cfg(test)]
+mod lawful;
 #[cfg(test)]
 mod missed;
 #[cfg(test)]
