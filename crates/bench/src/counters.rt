@@ -59,8 +59,19 @@ fn take<N: NamedCounter, P: EventPoller, R: Wait + Clock + Copy + Drop>(
     rt: &R,
 ) -> Result<Measured> {
     let ids = join(manager, counters, alloc, rt)?;
+    take_joined(manager, counters, ids.as_slice(), rounds, rt)
+}
+
+/// Takes it on a manager whose readers these are.
+fn take_joined<N: NamedCounter, P: EventPoller, R: Wait + Clock + Drop>(
+    manager: &mut Manager<Reader<R>, N, P>,
+    counters: &[EventFd],
+    ids: &[SubscriberId],
+    rounds: u32,
+    rt: &R,
+) -> Result<Measured> {
     let times = Times::of(|| write_and_run(manager, counters, rounds, rt), rt)?;
-    let count = leave(manager, ids.as_slice())?;
+    let count = leave(manager, ids)?;
     Ok(Measured {
         times,
         operations: rounds as u64,

@@ -47,13 +47,12 @@ impl ManagerMeasure for Deliver {
 
     fn name(&self, alloc: Global) -> Result<String> {
         let subscribers = self.subscribers;
-        Ok(match self.priorities {
-            Priorities::Lowest => format!(in alloc; "deliver, {subscribers} subscribers")?,
-            Priorities::OneElsewhere => {
-                format!(in alloc; "deliver, {subscribers}, a priority elsewhere")?
-            }
-            Priorities::Four => format!(in alloc; "deliver, {subscribers}, four priorities")?,
-        })
+        let beside = match self.priorities {
+            Priorities::Lowest => " subscribers",
+            Priorities::OneElsewhere => ", a priority elsewhere",
+            Priorities::Four => ", four priorities",
+        };
+        Ok(format!(in alloc; "deliver, {subscribers}{beside}")?)
     }
 
     fn poller(&self, alloc: Global) -> Result<Fixed> {
@@ -70,18 +69,9 @@ impl ManagerMeasure for Deliver {
         alloc: Global,
         rt: &R,
     ) -> Result<Measured> {
-        let (batch, rounds) = (BATCH as u64, self.rounds);
         let mut ids = Vec::new(alloc);
         self.join(manager, &mut ids)?;
-        run_rounds(manager, self.rounds_before, batch, rt)?;
-        let times = Times::of(|| run_rounds(manager, rounds, batch, rt), rt)?;
-        let count = leave(manager, ids.as_slice())?;
-        let all_rounds = self.rounds_before as u64 + REPEATS as u64 * rounds as u64;
-        Ok(Measured {
-            times,
-            operations: rounds as u64 * batch,
-            count: expect(count, all_rounds * batch)?,
-        })
+        self.take_joined(manager, ids.as_slice(), rt)
     }
 }
 
@@ -111,6 +101,25 @@ impl Deliver {
             self.give_priority(manager, id, fd)?;
         }
         Ok(())
+    }
+
+    /// Does the work on a manager whose subscribers these are.
+    fn take_joined<N: NamedCounter, P: EventPoller, R: Wait + Clock>(
+        &self,
+        manager: &mut Manager<Counter, N, P>,
+        ids: &[SubscriberId],
+        rt: &R,
+    ) -> Result<Measured> {
+        let (batch, rounds) = (BATCH as u64, self.rounds);
+        run_rounds(manager, self.rounds_before, batch, rt)?;
+        let times = Times::of(|| run_rounds(manager, rounds, batch, rt), rt)?;
+        let count = leave(manager, ids)?;
+        let all_rounds = self.rounds_before as u64 + REPEATS as u64 * rounds as u64;
+        Ok(Measured {
+            times,
+            operations: rounds as u64 * batch,
+            count: expect(count, all_rounds * batch)?,
+        })
     }
 
     /// Gives the subscriber's descriptor its priority.

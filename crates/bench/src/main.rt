@@ -17,6 +17,8 @@ use deliver::{DELIVER, measure_deliveries};
 use measures::arguments::{Family, Wanted};
 use measures::bench::Bench;
 use memory::{MEMORY, measure_memory};
+use over_fixed::Host;
+use std::rt::Files;
 use toggle::{IN_A_BATCH, ONE, measure_toggles};
 
 /// The families, in the order in which they are measured.
@@ -26,10 +28,15 @@ fn main(rt: HostRuntime) -> Result<()> {
     let wanted = Wanted::from_arguments(&rt, &FAMILIES)?;
     let alloc = rt.alloc();
     let bench = Bench { rt, alloc, wanted };
+    measure_all(&bench)
+}
+
+/// Takes the measures that are wanted.
+fn measure_all<R: Host + Files + AllocGlobal>(bench: &Bench<R>) -> Result<()> {
     bench.print_heading()?;
-    measure_deliveries(&bench)?;
-    measure_toggles(&bench)?;
-    measure_joins(&bench)?;
-    measure_memory(&bench)?;
-    measure_counters(&bench)
+    measure_deliveries(bench)?;
+    measure_toggles(bench)?;
+    measure_joins(bench)?;
+    measure_memory(bench)?;
+    measure_counters(bench)
 }

@@ -28,6 +28,11 @@ fn idle_loop(alloc: Global) -> Result<IdleLoop> {
 /// The bytes that the process holds in memory. Refused where Linux doesn't tell.
 fn resident<R: Files + AllocGlobal>(rt: &R) -> Result<u64> {
     let status = fs::read_to_string(rt, "/proc/self/status")?;
+    resident_of(status.as_str())
+}
+
+/// The bytes that this status of a process tells.
+fn resident_of(status: &str) -> Result<u64> {
     for line in status.lines() {
         if let Some(size) = line.strip_prefix("VmRSS:") {
             let kilobytes = size.trim().trim_end_matches(" kB").parse::<u64>()?;

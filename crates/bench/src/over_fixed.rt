@@ -108,17 +108,21 @@ fn take_over<M: ManagerMeasure, P: EventPoller + Drop, R: Host>(
     with_ledgers(endpoint, ready)
 }
 
-/// Takes a measure, with the poller in a box or as it is, and prints its line. Refused as the measure is.
-pub fn measure<M: ManagerMeasure, R: Host>(bench: &Bench<R>, measure: &M) -> Result<()> {
-    let alloc = bench.alloc;
-    let fixed = measure.poller(alloc)?;
-    let measured = if bench.wanted.boxed {
-        let boxed: Box<dyn Poller + Send> = Box::new(alloc, fixed)?;
-        take_over(bench, measure, BoxedPoller(boxed))?
+/// Takes a measure, with the poller in a box or as it is. Refused as the measure is.
+fn take_measure<M: ManagerMeasure, R: Host>(bench: &Bench<R>, measure: &M) -> Result<Measured> {
+    let fixed = measure.poller(bench.alloc)?;
+    if bench.wanted.boxed {
+        let boxed: Box<dyn Poller + Send> = Box::new(bench.alloc, fixed)?;
+        take_over(bench, measure, BoxedPoller(boxed))
     } else {
-        take_over(bench, measure, fixed)?
-    };
-    bench.print(measure.name(alloc)?.as_str(), measured)
+        take_over(bench, measure, fixed)
+    }
+}
+
+/// Takes a measure, and prints its line. Refused as the measure is.
+pub fn measure<M: ManagerMeasure, R: Host>(bench: &Bench<R>, measure: &M) -> Result<()> {
+    let measured = take_measure(bench, measure)?;
+    bench.print(measure.name(bench.alloc)?.as_str(), measured)
 }
 
 /// Runs the manager so often; each run must answer `count`.

@@ -142,7 +142,6 @@ impl MutEventSubscriber for Toggler {
 }
 
 /// Asks for its counter when it joins, and reads it at each event.
-#[derive(Drop)]
 pub struct Reader<R> {
     /// The counter.
     pub counter: EventFd,
@@ -150,6 +149,17 @@ pub struct Reader<R> {
     pub sum: u64,
     /// Its handle.
     pub rt: R,
+}
+
+// Not derived: then who owns one has a call to prove, and not a drop of all that is in it.
+impl<R: Drop> Drop for Reader<R> {
+    fn drop(self) {
+        let Reader {
+            counter: _,
+            sum: _,
+            rt: _,
+        } = self;
+    }
 }
 
 impl<R: Wait> MutEventSubscriber for Reader<R> {

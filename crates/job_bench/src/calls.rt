@@ -33,14 +33,14 @@ pub trait Host: Threads + Wait + Clock + Print + Copy + Send + Sync + Drop + 'st
 impl<R: Threads + Wait + Clock + Print + Copy + Send + Sync + Drop + 'static> Host for R {}
 
 /// A loop with one counter, which is called so often in each repeat.
-#[derive(Drop)]
+#[derive(Clone, Copy)]
 struct CalledLoop<'a> {
     rounds: u32,
     progress: &'a Progress,
 }
 
 /// Who calls it, so often in each repeat.
-#[derive(Drop)]
+#[derive(Clone, Copy)]
 struct Caller<'a> {
     id: SubscriberId,
     rounds: u32,
@@ -99,6 +99,19 @@ fn call_often<N: NamedCounter, R: Wait + Clock>(
     Ok(())
 }
 
+/// What came of a loop that took so many jobs, by what its caller gave.
+fn measured(sent: Vec<Result<Times>>, taken: u64, rounds: u32) -> Result<Measured> {
+    let mut sent = sent;
+    let Some(times) = sent.pop() else {
+        bail!("the caller gave nothing");
+    };
+    Ok(Measured {
+        times: times?,
+        operations: rounds as u64,
+        count: expect(taken, REPEATS as u64 * rounds as u64)?,
+    })
+}
+
 /// Makes the loop over the in-process table, and measures a call beside it.
 fn measure<R: Host>(rt: &R, alloc: Global, rounds: u32, progress: &Progress) -> Result<Measured> {
     let epoll = Epoll::new(*rt, alloc)?;
@@ -106,14 +119,7 @@ fn measure<R: Host>(rt: &R, alloc: Global, rounds: u32, progress: &Progress) -> 
     let mut called = CalledLoop { rounds, progress };
     let ended = with_senders(rt, alloc, epoll, event_fd, &mut called)?;
     ended.ran?;
-    let Some(times) = ended.sent.into_iter().next() else {
-        bail!("the caller gave nothing");
-    };
-    Ok(Measured {
-        times: times?,
-        operations: rounds as u64,
-        count: expect(ended.taken, REPEATS as u64 * rounds as u64)?,
-    })
+    measured(ended.sent, ended.taken, rounds)
 }
 
 /// Measures a call, and notes the end of it.

@@ -35,13 +35,19 @@ struct Delivering<P> {
     runs: u32,
 }
 
+/// Counters of the poller's table, all ready.
+fn open_counters<R: Host>(poller: &Epoll<R>, alloc: Global, rt: &R) -> Result<Vec<EventFd>> {
+    let mut counters = Vec::new(alloc);
+    for _counter in 0..COUNTERS {
+        counters.push(EventFd::new(poller, 1, rt)?)?;
+    }
+    Ok(counters)
+}
+
 /// One over a table of its own, whose counters stay ready.
 fn begin<R: Host>(runs: u32, alloc: Global, rt: &R) -> Result<Delivering<Epoll<R>>> {
     let poller = Epoll::new(*rt, alloc)?;
-    let mut counters = Vec::new(alloc);
-    for _counter in 0..COUNTERS {
-        counters.push(EventFd::new(&poller, 1, rt)?)?;
-    }
+    let counters = open_counters(&poller, alloc, rt)?;
     Ok(Delivering {
         poller,
         counters,
@@ -57,9 +63,26 @@ fn deliver<P: EventPoller + Drop>(it: Delivering<P>) -> event_manager::Result<u6
         runs,
     } = it;
     let mut event_loop = EventLoop::new(*counters.allocator(), poller)?;
+    join(&mut event_loop, counters)?;
+    run_often(&mut event_loop, runs)
+}
+
+/// Lets a subscriber of each counter join.
+fn join<P: EventPoller>(
+    event_loop: &mut EventLoop<CounterSubscriber, P>,
+    counters: Vec<EventFd>,
+) -> event_manager::Result<()> {
     for counter in counters {
-        event_loop.add_subscriber(CounterSubscriber::new(counter))?;
+        let _ = event_loop.add_subscriber(CounterSubscriber::new(counter))?;
     }
+    Ok(())
+}
+
+/// Makes so many runs, and answers how many events they delivered.
+fn run_often<P: EventPoller>(
+    event_loop: &mut EventLoop<CounterSubscriber, P>,
+    runs: u32,
+) -> event_manager::Result<u64> {
     let mut delivered: u64 = 0;
     for _run in 0..runs {
         delivered = delivered.saturating_add(event_loop.run()? as u64);
@@ -77,14 +100,31 @@ impl<P: EventPoller + Drop, R> ThreadLoop<R> for Delivering<P> {
 
 /// Makes so many runs in each of so many loops at once, and answers how many events all delivered.
 fn deliver_at_once<R: Host>(loops: u32, runs: u32, alloc: Global, rt: &R) -> Result<u64> {
+    let first = begin(runs, alloc, rt)?;
+    let others = begin_others(loops, runs, alloc, rt)?;
+    let (first, others) = with_loops(rt, alloc, first, others)?;
+    Ok(sum(first?, others.as_slice())?)
+}
+
+/// So many loops but one.
+fn begin_others<R: Host>(
+    loops: u32,
+    runs: u32,
+    alloc: Global,
+    rt: &R,
+) -> Result<Vec<Delivering<Epoll<R>>>> {
     let mut others = Vec::new(alloc);
     for _other in 1..loops {
         others.push(begin(runs, alloc, rt)?)?;
     }
-    let (first, others) = with_loops(rt, alloc, begin(runs, alloc, rt)?, others)?;
-    let mut delivered = first?;
+    Ok(others)
+}
+
+/// How many events were delivered in all, so many by the first. Refused as the first other that was refused.
+fn sum(first: u64, others: &[event_manager::Result<u64>]) -> event_manager::Result<u64> {
+    let mut delivered = first;
     for other in others {
-        delivered = delivered.saturating_add(other?);
+        delivered = delivered.saturating_add((*other)?);
     }
     Ok(delivered)
 }

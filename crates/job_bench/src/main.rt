@@ -10,7 +10,7 @@ mod messages;
 mod progress;
 
 use anyhow::Result;
-use calls::{CALL, measure_calls};
+use calls::{CALL, Host, measure_calls};
 use fire::{FIRE, measure_fires};
 use loops::{LOOPS, measure_loops};
 use measures::arguments::Wanted;
@@ -21,9 +21,14 @@ fn main(rt: HostRuntime) -> Result<()> {
     let wanted = Wanted::from_arguments(&rt, &[FIRE, CALL, MESSAGE, LOOPS])?;
     let alloc = rt.alloc();
     let bench = Bench { rt, alloc, wanted };
+    measure_all(&bench)
+}
+
+/// Takes the measures that are wanted.
+fn measure_all<R: Host>(bench: &Bench<R>) -> Result<()> {
     bench.print_heading()?;
-    measure_fires(&bench)?;
-    measure_calls(&bench)?;
-    measure_messages(&bench)?;
-    measure_loops(&bench)
+    measure_fires(bench)?;
+    measure_calls(bench)?;
+    measure_messages(bench)?;
+    measure_loops(bench)
 }

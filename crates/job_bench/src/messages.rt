@@ -23,23 +23,35 @@ pub const MESSAGE: Family = Family("message");
 /// How many messages a repeat sends in full: a multiple of each size of a batch.
 const MESSAGES: u32 = 20480;
 
-/// The sizes of batches, each with the name of its measure.
-const BATCHES: [(u32, &str); 3] = [
-    (1, "a message, and the run that takes it"),
-    (16, "one of 16 messages, and the run for all"),
-    (256, "one of 256 messages, and the run for all"),
+/// The sizes of batches, each with the name of its measure; none where another thread sends.
+const BATCHES: [(Option<u32>, &str); 4] = [
+    (Some(1), "a message, and the run that takes it"),
+    (Some(16), "one of 16 messages, and the run for all"),
+    (Some(256), "one of 256 messages, and the run for all"),
+    (None, "a message from another thread"),
 ];
 
 /// For how many milliseconds a loop waits for a message of another thread.
 const PATIENCE: i32 = 10_000;
 
 /// Takes the messages that wait, and counts them.
-#[derive(Drop)]
 struct Taker<R> {
     messages: Receiver<u32>,
     batch: Vec<u32>,
     count: u64,
     rt: R,
+}
+
+// Not derived: then who owns one has a call to prove, and not a drop of all that is in it.
+impl<R: Drop> Drop for Taker<R> {
+    fn drop(self) {
+        let Taker {
+            messages: _,
+            batch: _,
+            count: _,
+            rt: _,
+        } = self;
+    }
 }
 
 impl<R: Wait + Clock + Drop> MutEventSubscriber for Taker<R> {
@@ -134,14 +146,14 @@ fn counted<R: Host>(taking: &Taking<R>, times: Times, messages: u32) -> Result<M
 }
 
 /// Measures a message of batches of this size, all on one thread.
-fn measure_batches<R: Host>(bench: &Bench<R>, size: u32) -> Result<Measured> {
+fn measure_batches<R: Host>(
+    bench: &Bench<R>,
+    taking: &mut Taking<R>,
+    size: u32,
+) -> Result<Measured> {
     let rounds = bench.rounds(MESSAGES / size.max(1));
-    let mut taking = begin(&bench.rt, bench.alloc)?;
-    let times = Times::of(
-        || send_and_run(&mut taking, size, rounds, &bench.rt),
-        &bench.rt,
-    )?;
-    counted(&taking, times, rounds.saturating_mul(size))
+    let times = Times::of(|| send_and_run(taking, size, rounds, &bench.rt), &bench.rt)?;
+    counted(taking, times, rounds.saturating_mul(size))
 }
 
 /// Sends so many messages from another thread, while the loop takes them on this one.
@@ -163,11 +175,19 @@ fn send_beside<R: Host>(taking: &mut Taking<R>, messages: u32, rt: &R) -> Result
 }
 
 /// Measures a message of another thread.
-fn measure_beside<R: Host>(bench: &Bench<R>) -> Result<Measured> {
+fn measure_beside<R: Host>(bench: &Bench<R>, taking: &mut Taking<R>) -> Result<Measured> {
     let messages = bench.rounds(MESSAGES);
+    let times = Times::of(|| send_beside(taking, messages, &bench.rt), &bench.rt)?;
+    counted(taking, times, messages)
+}
+
+/// Makes a loop with a taker, and measures a message to it.
+fn measure<R: Host>(bench: &Bench<R>, size: Option<u32>) -> Result<Measured> {
     let mut taking = begin(&bench.rt, bench.alloc)?;
-    let times = Times::of(|| send_beside(&mut taking, messages, &bench.rt), &bench.rt)?;
-    counted(&taking, times, messages)
+    match size {
+        Some(size) => measure_batches(bench, &mut taking, size),
+        None => measure_beside(bench, &mut taking),
+    }
 }
 
 /// Measures messages, where they are wanted.
@@ -176,7 +196,7 @@ pub fn measure_messages<R: Host>(bench: &Bench<R>) -> Result<()> {
         return Ok(());
     }
     for (size, name) in BATCHES {
-        bench.print(name, measure_batches(bench, size)?)?;
+        bench.print(name, measure(bench, size)?)?;
     }
-    bench.print("a message from another thread", measure_beside(bench)?)
+    Ok(())
 }

@@ -6,11 +6,11 @@ use thiserror::Error;
 use vmm_sys::errno::Errno;
 
 /// Its text is what the program prints on standard error after `soak: `.
-#[derive(Debug, Drop, Error)]
+#[derive(Clone, Copy, Debug, Error)]
 pub enum Fault {
     /// The argument is no number of rounds.
-    #[error("no number of rounds: {0}")]
-    Rounds(String),
+    #[error("the argument is no number of rounds")]
+    Rounds,
 
     /// The manager refused a call.
     #[error(transparent)]
@@ -30,7 +30,7 @@ pub enum Fault {
 
     /// The arguments could not be read, or a line could not be written.
     #[error("arguments or output: {0}")]
-    System(#[from] io::Error),
+    System(io::ErrorKind),
 
     /// No thread has made a step for long: a job, a reply or a wake-up was lost.
     #[error("no thread moves any more, and {waiting} of them wait for a reply")]
@@ -64,6 +64,12 @@ impl From<AllocError> for Fault {
 impl<T: Drop> From<AllocFailed<T>> for Fault {
     fn from(_error: AllocFailed<T>) -> Fault {
         Fault::Memory
+    }
+}
+
+impl From<io::Error> for Fault {
+    fn from(error: io::Error) -> Fault {
+        Fault::System(error.kind())
     }
 }
 

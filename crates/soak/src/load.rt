@@ -1,10 +1,11 @@
 //! The loop and its load, and what must come of it.
 
+use crate::device::Device;
 use crate::fault::{Fault, expect};
 use crate::parts::{DEVICES, Parts};
 use crate::progress::Progress;
 use crate::served::{Counts, Served};
-use event_manager::with_senders;
+use event_manager::{Ended, with_senders};
 use std::alloc::Global;
 use std::sync::{Arc, Wait};
 use std::thread;
@@ -59,6 +60,19 @@ fn judge(rounds: u32, counts: Counts, issued: u64, taken: u64) -> Result<Loaded,
     })
 }
 
+// What must come of a loop that has ended, and of its load. Refused as its run was, and as the load was.
+fn judge_ended<R>(
+    ended: &Ended<Device<R>, Result<(), Fault>, Epoll<R>>,
+    rounds: u32,
+    counts: Counts,
+) -> Result<Loaded, Fault> {
+    ended.ran?;
+    for loaded in &ended.sent {
+        (*loaded)?;
+    }
+    judge(rounds, counts, ended.issued, ended.taken)
+}
+
 // Makes a loop and its devices, and runs it beside its load.
 fn load_loop<R: Host>(
     rt: &R,
@@ -71,11 +85,7 @@ fn load_loop<R: Host>(
     let parts = Parts::new(&epoll, alloc, rounds, Arc::try_clone(progress)?, rt)?;
     let mut served = Served::new(alloc, &parts);
     let ended = with_senders(rt, alloc, epoll, event_fd, &mut served)?;
-    ended.ran?;
-    for loaded in ended.sent {
-        loaded?;
-    }
-    judge(rounds, served.counts(), ended.issued, ended.taken)
+    judge_ended(&ended, rounds, served.counts())
 }
 
 // Loads a loop, and notes the end of it.

@@ -15,7 +15,7 @@ pub fn rounds_of<R: Env + AllocGlobal>(rt: &R) -> Result<u32, Fault> {
     match env::args(rt)?.nth(1) {
         Some(word) => match word.parse() {
             Ok(rounds) => Ok(rounds),
-            Err(_) => Err(Fault::Rounds(word)),
+            Err(_) => Err(Fault::Rounds),
         },
         None => Ok(ROUNDS),
     }

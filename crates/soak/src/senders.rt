@@ -81,12 +81,12 @@ fn fire_and_call<N: NamedCounter, R: Wait + Clock + Drop>(
     work: Work<R>,
     progress: &Progress,
     rt: &R,
-) -> Result<Reply, Fault> {
+) -> event_manager::Result<Reply> {
     let _ticket = endpoint.fire(Work::Count(id), rt)?;
     progress.ask();
     let reply = endpoint.call_blocking(work, rt);
     progress.answer();
-    Ok(reply?)
+    reply
 }
 
 // Sends a job to the device of the id, and waits until no job waits: one that the loop missed waits on.

@@ -53,6 +53,19 @@ impl<'a> Served<'a> {
         self.counts
     }
 
+    // Lets the devices join.
+    fn join<N: NamedCounter, P: EventPoller, R: Wait + Copy + Drop>(
+        &mut self,
+        rt: &R,
+        manager: &mut TrackedManager<Device<R>, Work<R>, N, P>,
+    ) -> Result<()> {
+        for pair in &self.parts.pairs {
+            let device = pair.device(rt).map_err(Error::EventFd)?;
+            self.ids.push(manager.add_subscriber(device)?)?;
+        }
+        Ok(())
+    }
+
     // Lets the devices leave, and adds up what they have counted.
     fn gather<N: NamedCounter, P: EventPoller, R: Wait + Drop>(
         &mut self,
@@ -79,10 +92,7 @@ impl<'a, R: Wait + Clock + Copy + Drop> LoopWithSenders<Device<R>, Work<R>, Load
         manager: &mut TrackedManager<Device<R>, Work<R>, N, P>,
     ) -> Result<Vec<Loader<'a>>> {
         let parts = self.parts;
-        for pair in &parts.pairs {
-            let device = pair.device(rt).map_err(Error::EventFd)?;
-            self.ids.push(manager.add_subscriber(device)?)?;
-        }
+        self.join(rt, manager)?;
         let ids = self.ids.iter().copied().collect(alloc)?;
         let Some(first) = self.ids.first() else {
             return Err(Error::InvalidId);

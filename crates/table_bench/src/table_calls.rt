@@ -1,8 +1,9 @@
 //! What the calls of the in-process table cost.
 
+use crate::lines::{SizedName, buffer, print_sized};
 use anyhow::Result;
 use measures::arguments::{Family, Size};
-use measures::bench::{Bench, Measured, expect};
+use measures::bench::{Bench, expect};
 use measures::fixed::BATCH;
 use measures::timing::{REPEATS, Times};
 use std::alloc::Global;
@@ -49,9 +50,23 @@ fn filled(count: u32, value: u64, alloc: Global) -> Result<Table> {
     Ok(table)
 }
 
-/// A buffer with room for so many entries.
-fn buffer(room: usize, alloc: Global) -> Result<Vec<EpollEvent>> {
-    Ok(vec![in alloc; EpollEvent::new(EventSet::empty(), 0); room]?)
+/// A table for each repeat, with so many counters of the value 1, and no interest.
+fn unwatched(count: u32, alloc: Global) -> Result<Vec<Table>> {
+    let mut tables = Vec::new(alloc);
+    for _ in 0..REPEATS {
+        tables.push(open_counters(count, 1, alloc)?)?;
+    }
+    Ok(tables)
+}
+
+/// How many interests the tables, with so many each, report in all.
+fn reported(tables: &mut [Table], interests: u32, alloc: Global) -> Result<u64> {
+    let mut buffer = buffer(interests as usize + 1, alloc)?;
+    let mut count = 0u64;
+    for table in tables {
+        wait(table, buffer.as_mut_slice(), 1, &mut count)?;
+    }
+    Ok(count)
 }
 
 /// Waits so often, and adds how many entries were reported in all to the count.
@@ -142,6 +157,63 @@ fn read_all(table: &mut Table, count: u32) -> Called<()> {
     Ok(())
 }
 
+/// Makes so many passes: each writes to all counters, from the highest descriptor down, waits once, and reads all; and adds
+/// how many entries were reported in all to the count.
+fn pass_in_reverse(
+    table: &mut Table,
+    buffer: &mut [EpollEvent],
+    interests: u32,
+    rounds: u32,
+    count: &mut u64,
+) -> Called<()> {
+    for _ in 0..rounds {
+        write_in_reverse(table, interests)?;
+        wait(table, buffer, 1, count)?;
+        read_all(table, interests)?;
+    }
+    Ok(())
+}
+
+/// What a repeat does to a table with an interest in each of its counters.
+#[derive(Clone, Copy, PartialEq, Eq)]
+enum Work {
+    /// Counts the modifications, each of which has its number as word; the interest of the last is then reported with it.
+    Modify,
+    /// Counts the pairs; the interests are then reported.
+    ModifyAndBack,
+    /// Counts the pairs; the others are then reported.
+    AddAndDelete,
+    /// Counts the entries that are reported.
+    Report,
+    /// Counts the waits, each of which must report one entry.
+    ReportOne,
+    /// Counts the writes to a counter that is ready all along.
+    WriteToReady,
+    /// Counts what is read of a counter that is idle and ready in turn, while all others are ready.
+    Turn,
+    /// Counts the entries of waits between which all counters turn ready, the last in the queue first.
+    Reverse,
+}
+
+/// The works, in the order in which they are measured.
+const WORKS: [Work; 8] = [
+    Work::Modify,
+    Work::ModifyAndBack,
+    Work::AddAndDelete,
+    Work::Report,
+    Work::ReportOne,
+    Work::WriteToReady,
+    Work::Turn,
+    Work::Reverse,
+];
+
+/// What the repeats have counted, and the descriptor of the last modification.
+#[derive(Clone, Copy)]
+struct Counted {
+    count: u64,
+    last: u32,
+}
+
 /// The measures of a table of one size.
 #[derive(Drop)]
 struct TableCalls<'a, R> {
@@ -154,24 +226,20 @@ struct TableCalls<'a, R> {
 impl<R: Clock + Print> TableCalls<'_, R> {
     fn measure(&self) -> Result<()> {
         self.measure_filling()?;
-        self.measure_modify()?;
-        self.measure_modify_and_back()?;
-        self.measure_add_and_delete()?;
-        self.measure_report()?;
-        self.measure_one_ready()?;
-        self.measure_stays_ready()?;
-        self.measure_turning()?;
-        self.measure_reverse()
+        for work in WORKS {
+            self.measure_work(work)?;
+        }
+        Ok(())
     }
 
     /// Counts the interests that are then reported.
     fn measure_filling(&self) -> Result<()> {
+        let mut tables = unwatched(self.interests, self.bench.alloc)?;
+        self.fill(tables.as_mut_slice())
+    }
+
+    fn fill(&self, tables: &mut [Table]) -> Result<()> {
         let (alloc, interests) = (self.bench.alloc, self.interests);
-        let mut buffer = buffer(interests as usize + 1, alloc)?;
-        let mut tables = Vec::new(alloc);
-        for _ in 0..REPEATS {
-            tables.push(open_counters(interests, 1, alloc)?)?;
-        }
         let mut next = tables.iter_mut();
         let times = Times::of(
             || match next.next() {
@@ -180,186 +248,148 @@ impl<R: Clock + Print> TableCalls<'_, R> {
             },
             &self.bench.rt,
         )?;
-        let mut count = 0u64;
-        for table in &mut tables {
-            count = count.saturating_add(table.wait(buffer.as_mut_slice())? as u64);
-        }
-        let name = format!(in alloc; "Add while filling to {interests} interests")?;
-        let operations = interests as u64;
-        self.print(name, times, operations, count)
-    }
-
-    /// Counts the modifications, each of which has its number as word; the interest of the last is then reported with it.
-    fn measure_modify(&self) -> Result<()> {
-        let mut table = filled(self.interests, 1, self.bench.alloc)?;
-        self.modify_in_turn(&mut table)
-    }
-
-    fn modify_in_turn(&self, table: &mut Table) -> Result<()> {
-        let (alloc, interests) = (self.bench.alloc, self.interests);
-        let rounds = self.bench.rounds(CONTROLS);
-        let (mut count, mut last) = (0u64, interests.saturating_sub(1));
-        let times = Times::of(
-            || modify(table, interests, rounds, &mut count, &mut last),
-            &self.bench.rt,
-        )?;
-        let mut buffer = buffer(interests as usize + 1, alloc)?;
-        expect(table.wait(buffer.as_mut_slice())? as u64, interests as u64)?;
-        let reported = match buffer.get(last as usize) {
-            Some(entry) => entry.data(),
-            None => 0,
+        let count = reported(tables, interests, alloc)?;
+        let name = SizedName {
+            before: "Add while filling to",
+            size: interests,
+            behind: " interests",
         };
-        let name = format!(in alloc; "Modify each of {interests} interests in turn")?;
-        self.print(name, times, rounds as u64, reported)
+        print_sized(self.bench, name, times, interests as u64, count)
     }
 
-    /// Counts the pairs; the interests are then reported.
-    fn measure_modify_and_back(&self) -> Result<()> {
-        let mut table = filled(self.interests, 1, self.bench.alloc)?;
-        self.modify_one_and_back(&mut table)
-    }
-
-    fn modify_one_and_back(&self, table: &mut Table) -> Result<()> {
+    /// Measures one work on a table of its own.
+    fn measure_work(&self, work: Work) -> Result<()> {
         let (alloc, interests) = (self.bench.alloc, self.interests);
-        let (rounds, fd) = (self.bench.rounds(CONTROLS), (interests / 2).cast_signed());
-        let mut count = 0u64;
+        let mut table = filled(interests, work.value(), alloc)?;
+        let mut buffer = buffer(work.room(interests), alloc)?;
+        self.measure_over(work, &mut table, buffer.as_mut_slice())
+    }
+
+    fn measure_over(&self, work: Work, table: &mut Table, buffer: &mut [EpollEvent]) -> Result<()> {
+        let interests = self.interests;
+        let rounds = self.bench.rounds(work.rounds(self.waits));
+        let last = interests.saturating_sub(1);
+        let mut counted = Counted { count: 0, last };
+        work.prepare(table, interests)?;
         let times = Times::of(
-            || modify_and_back(table, fd, rounds, &mut count),
+            || work.repeat(table, buffer, interests, rounds, &mut counted),
             &self.bench.rt,
         )?;
-        let mut buffer = buffer(interests as usize + 1, alloc)?;
-        expect(table.wait(buffer.as_mut_slice())? as u64, interests as u64)?;
-        let name = format!(in alloc; "Modify one of {interests} to another set and back")?;
-        self.print(name, times, rounds as u64, count)
+        let count = work.count(table, buffer, interests, counted)?;
+        let operations = rounds as u64 * work.operations(interests) as u64;
+        print_sized(self.bench, work.name(interests), times, operations, count)
+    }
+}
+
+impl Work {
+    /// What each counter has at first: it is ready unless that is 0.
+    fn value(self) -> u64 {
+        match self {
+            Work::ReportOne | Work::Reverse => 0,
+            _ => 1,
+        }
     }
 
-    /// Counts the pairs; the others are then reported.
-    fn measure_add_and_delete(&self) -> Result<()> {
-        let mut table = filled(self.interests, 1, self.bench.alloc)?;
-        self.add_and_delete_one(&mut table)
+    /// For how many entries the waits have room.
+    fn room(self, interests: u32) -> usize {
+        match self {
+            Work::Report | Work::ReportOne => BATCH as usize,
+            _ => interests as usize + 1,
+        }
     }
 
-    fn add_and_delete_one(&self, table: &mut Table) -> Result<()> {
-        let (alloc, interests) = (self.bench.alloc, self.interests);
-        let fd = table.add_counter(1)?;
-        let rounds = self.bench.rounds(CONTROLS);
-        let mut count = 0u64;
-        let times = Times::of(
-            || add_and_delete(table, fd, rounds, &mut count),
-            &self.bench.rt,
-        )?;
-        let mut buffer = buffer(interests as usize + 1, alloc)?;
-        expect(table.wait(buffer.as_mut_slice())? as u64, interests as u64)?;
-        let name = format!(in alloc; "Add and Delete one beside {interests}")?;
-        self.print(name, times, rounds as u64, count)
+    /// How many rounds a repeat has in full, where it waits so often while all are ready.
+    fn rounds(self, waits: u32) -> u32 {
+        match self {
+            Work::Report | Work::Reverse => waits,
+            Work::ReportOne => WAITS_FOR_ONE,
+            _ => CONTROLS,
+        }
     }
 
-    /// Counts the entries that are reported.
-    fn measure_report(&self) -> Result<()> {
-        let mut table = filled(self.interests, 1, self.bench.alloc)?;
-        self.report_all(&mut table)
+    /// How many operations a round has.
+    fn operations(self, interests: u32) -> u32 {
+        match self {
+            Work::Report => interests.min(BATCH),
+            Work::Reverse => interests,
+            _ => 1,
+        }
     }
 
-    fn report_all(&self, table: &mut Table) -> Result<()> {
-        let (alloc, interests) = (self.bench.alloc, self.interests);
-        let mut buffer = buffer(BATCH as usize, alloc)?;
-        let (rounds, reported) = (self.bench.rounds(self.waits), (interests as u64).min(256));
-        let mut count = 0u64;
-        let times = Times::of(
-            || wait(table, buffer.as_mut_slice(), rounds, &mut count),
-            &self.bench.rt,
-        )?;
-        let name = format!(in alloc; "an entry of a wait, all of {interests} ready")?;
-        self.print(name, times, rounds as u64 * reported, count)
+    fn name(self, size: u32) -> SizedName {
+        let (before, behind) = match self {
+            Work::Modify => ("Modify each of", " interests in turn"),
+            Work::ModifyAndBack => ("Modify one of", " to another set and back"),
+            Work::AddAndDelete => ("Add and Delete one beside", ""),
+            Work::Report => ("an entry of a wait, all of", " ready"),
+            Work::ReportOne => ("a wait, 1 of", " ready"),
+            Work::WriteToReady => ("a write to one of", " that stay ready"),
+            Work::Turn => ("a read and a write of one, all of", " ready"),
+            Work::Reverse => ("a write, an entry and a read,", " in reverse"),
+        };
+        SizedName {
+            before,
+            size,
+            behind,
+        }
     }
 
-    /// Counts the waits, each of which must report one entry.
-    fn measure_one_ready(&self) -> Result<()> {
-        let mut table = filled(self.interests, 0, self.bench.alloc)?;
-        self.report_one(&mut table)
+    /// Opens the counter that is added and deleted, or makes one ready where none else is.
+    fn prepare(self, table: &mut Table, interests: u32) -> Called<()> {
+        match self {
+            Work::AddAndDelete => {
+                let _ = table.add_counter(1)?;
+            }
+            Work::ReportOne => table.write(interests.saturating_sub(1).cast_signed(), 1)?,
+            _ => {}
+        }
+        Ok(())
     }
 
-    fn report_one(&self, table: &mut Table) -> Result<()> {
-        let (alloc, interests) = (self.bench.alloc, self.interests);
-        table.write(interests.saturating_sub(1).cast_signed(), 1)?;
-        let mut buffer = buffer(BATCH as usize, alloc)?;
-        let rounds = self.bench.rounds(WAITS_FOR_ONE);
-        let mut count = 0u64;
-        let times = Times::of(
-            || wait(table, buffer.as_mut_slice(), rounds, &mut count),
-            &self.bench.rt,
-        )?;
-        let name = format!(in alloc; "a wait, 1 of {interests} ready")?;
-        self.print(name, times, rounds as u64, count)
+    /// Does the work of a repeat.
+    fn repeat(
+        self,
+        table: &mut Table,
+        buffer: &mut [EpollEvent],
+        interests: u32,
+        rounds: u32,
+        counted: &mut Counted,
+    ) -> Called<()> {
+        let Counted { count, last } = counted;
+        let (fd, behind) = ((interests / 2).cast_signed(), interests.cast_signed());
+        match self {
+            Work::Modify => modify(table, interests, rounds, count, last),
+            Work::ModifyAndBack => modify_and_back(table, fd, rounds, count),
+            Work::AddAndDelete => add_and_delete(table, behind, rounds, count),
+            Work::Report | Work::ReportOne => wait(table, buffer, rounds, count),
+            Work::WriteToReady => write_to(table, fd, rounds),
+            Work::Turn => turn(table, fd, rounds, count),
+            Work::Reverse => pass_in_reverse(table, buffer, interests, rounds, count),
+        }
     }
 
-    /// Counts the writes to a counter that is ready all along.
-    fn measure_stays_ready(&self) -> Result<()> {
-        let mut table = filled(self.interests, 1, self.bench.alloc)?;
-        self.write_to_one(&mut table)
-    }
-
-    fn write_to_one(&self, table: &mut Table) -> Result<()> {
-        let (alloc, interests) = (self.bench.alloc, self.interests);
-        let (rounds, fd) = (self.bench.rounds(CONTROLS), (interests / 2).cast_signed());
-        let times = Times::of(|| write_to(table, fd, rounds), &self.bench.rt)?;
-        let count = table.read(fd)?.saturating_sub(1);
-        let name = format!(in alloc; "a write to one of {interests} that stay ready")?;
-        self.print(name, times, rounds as u64, count)
-    }
-
-    /// Counts what is read of a counter that is idle and ready in turn, while all others are ready.
-    fn measure_turning(&self) -> Result<()> {
-        let mut table = filled(self.interests, 1, self.bench.alloc)?;
-        self.turn_one(&mut table)
-    }
-
-    fn turn_one(&self, table: &mut Table) -> Result<()> {
-        let (alloc, interests) = (self.bench.alloc, self.interests);
-        let (rounds, fd) = (self.bench.rounds(CONTROLS), (interests / 2).cast_signed());
-        let mut count = 0u64;
-        let times = Times::of(|| turn(table, fd, rounds, &mut count), &self.bench.rt)?;
-        let name = format!(in alloc; "a read and a write of one, all of {interests} ready")?;
-        self.print(name, times, rounds as u64, count)
-    }
-
-    /// Counts the entries of waits between which all counters turn ready, the last in the queue first.
-    fn measure_reverse(&self) -> Result<()> {
-        let mut table = filled(self.interests, 0, self.bench.alloc)?;
-        self.report_in_reverse(&mut table)
-    }
-
-    fn report_in_reverse(&self, table: &mut Table) -> Result<()> {
-        let (alloc, interests) = (self.bench.alloc, self.interests);
-        let mut buffer = buffer(interests as usize + 1, alloc)?;
-        let rounds = self.bench.rounds(self.waits);
-        let mut count = 0u64;
-        let times = Times::of(
-            || {
-                for _ in 0..rounds {
-                    write_in_reverse(table, interests)?;
-                    wait(table, buffer.as_mut_slice(), 1, &mut count)?;
-                    read_all(table, interests)?;
-                }
-                Called::Ok(())
-            },
-            &self.bench.rt,
-        )?;
-        let name = format!(in alloc; "a write, an entry and a read, {interests} in reverse")?;
-        self.print(name, times, rounds as u64 * interests as u64, count)
-    }
-
-    /// Prints a line, where the repeats counted 5 times their operations; refused otherwise.
-    fn print(&self, name: String, times: Times, operations: u64, count: u64) -> Result<()> {
-        let count = expect(count, operations.saturating_mul(REPEATS as u64))?;
-        self.bench.print(
-            name.as_str(),
-            Measured {
-                times,
-                operations,
-                count,
-            },
-        )
+    /// What the repeats have counted. Refused where the table doesn't report each interest that was modified, or stood
+    /// beside the one that was added and deleted.
+    fn count(
+        self,
+        table: &mut Table,
+        buffer: &mut [EpollEvent],
+        interests: u32,
+        counted: Counted,
+    ) -> Result<u64> {
+        match self {
+            Work::Modify | Work::ModifyAndBack | Work::AddAndDelete => {
+                let _ = expect(table.wait(buffer)? as u64, interests as u64)?;
+            }
+            _ => {}
+        }
+        Ok(match self {
+            Work::Modify => buffer
+                .get(counted.last as usize)
+                .map_or(0, |entry| entry.data()),
+            Work::WriteToReady => table.read((interests / 2).cast_signed())?.saturating_sub(1),
+            _ => counted.count,
+        })
     }
 }
 

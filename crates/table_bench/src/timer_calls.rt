@@ -1,8 +1,9 @@
 //! What timers cost: those of a table of timers, and a wait beside them.
 
+use crate::lines::{SizedName, print, print_sized};
 use anyhow::Result;
 use measures::arguments::{Family, Size};
-use measures::bench::{Bench, Measured, expect};
+use measures::bench::{Bench, expect};
 use measures::timing::{REPEATS, Times};
 use std::alloc::Global;
 use std::sync::Wait;
@@ -94,6 +95,76 @@ fn wait<P: Poller>(poller: &mut P, rounds: u32, count: &mut u64) -> Result<(), E
     Ok(())
 }
 
+/// A table for each repeat, with so many timers, all disarmed.
+fn disarmed_for_each(count: u32, alloc: Global) -> Result<Vec<TimerTable>> {
+    let mut tables = Vec::new(alloc);
+    for _ in 0..REPEATS {
+        tables.push(disarmed(count, alloc)?)?;
+    }
+    Ok(tables)
+}
+
+/// How many of the tables' timers, so many each, are armed.
+fn count_armed(tables: &[TimerTable], timers: u32) -> u64 {
+    let mut count = 0u64;
+    for table in tables {
+        for index in 0..timers {
+            count = count.saturating_add(table.is_armed(index as usize) as u64);
+        }
+    }
+    count
+}
+
+/// What a repeat does to a table whose timers are all armed.
+#[derive(Clone, Copy, PartialEq, Eq)]
+enum Work {
+    /// Counts the pairs; the timer is then due first.
+    DisarmAndArm,
+    /// Counts the calls.
+    ArmLater,
+    /// Counts the expirations.
+    Expire,
+}
+
+/// The works, in the order in which they are measured.
+const WORKS: [Work; 3] = [Work::DisarmAndArm, Work::ArmLater, Work::Expire];
+
+/// What the repeats have counted, and the timer that is next.
+#[derive(Clone, Copy)]
+struct Counted {
+    count: u64,
+    next: u32,
+}
+
+impl Work {
+    /// Does the work of a repeat.
+    fn repeat(self, table: &mut TimerTable, timers: u32, rounds: u32, counted: &mut Counted) {
+        let Counted { count, next } = counted;
+        match self {
+            Work::DisarmAndArm => disarm_and_arm(table, timers as usize / 2, rounds),
+            Work::ArmLater => *next = arm_later(table, timers, rounds, *next),
+            Work::Expire => {
+                *next = expire(table, timers, rounds, *next, count);
+                return;
+            }
+        }
+        *count = count.saturating_add(rounds as u64);
+    }
+
+    fn name(self, size: u32) -> SizedName {
+        let (before, behind) = match self {
+            Work::DisarmAndArm => ("disarm and arm one of", ""),
+            Work::ArmLater => ("re-arm each of", " in turn"),
+            Work::Expire => ("one of", " expires and is taken"),
+        };
+        SizedName {
+            before,
+            size,
+            behind,
+        }
+    }
+}
+
 /// The measures of so many timers.
 #[derive(Drop)]
 struct TimerCalls<'a, R> {
@@ -104,18 +175,20 @@ struct TimerCalls<'a, R> {
 impl<R: Clock + Print> TimerCalls<'_, R> {
     fn measure(&self) -> Result<()> {
         self.measure_filling()?;
-        self.measure_disarm_and_arm()?;
-        self.measure_arm_later()?;
-        self.measure_expire()
+        for work in WORKS {
+            self.measure_work(work)?;
+        }
+        Ok(())
     }
 
     /// Counts the timers that are then armed.
     fn measure_filling(&self) -> Result<()> {
-        let (alloc, timers) = (self.bench.alloc, self.timers);
-        let mut tables = Vec::new(alloc);
-        for _ in 0..REPEATS {
-            tables.push(disarmed(timers, alloc)?)?;
-        }
+        let mut tables = disarmed_for_each(self.timers, self.bench.alloc)?;
+        self.fill(tables.as_mut_slice())
+    }
+
+    fn fill(&self, tables: &mut [TimerTable]) -> Result<()> {
+        let timers = self.timers;
         let mut next = tables.iter_mut();
         let times = Times::of(
             || {
@@ -126,89 +199,37 @@ impl<R: Clock + Print> TimerCalls<'_, R> {
             },
             &self.bench.rt,
         )?;
-        let mut count = 0u64;
-        for table in &tables {
-            let armed = (0..timers).filter(|index| table.is_armed(*index as usize));
-            count = count.saturating_add(armed.count() as u64);
+        let count = count_armed(tables, timers);
+        let name = SizedName {
+            before: "arm while filling to",
+            size: timers,
+            behind: " timers",
+        };
+        print_sized(self.bench, name, times, timers as u64, count)
+    }
+
+    /// Measures one work on a table of its own.
+    fn measure_work(&self, work: Work) -> Result<()> {
+        let mut table = armed(self.timers, self.bench.alloc)?;
+        self.measure_over(work, &mut table)
+    }
+
+    fn measure_over(&self, work: Work, table: &mut TimerTable) -> Result<()> {
+        let (timers, rounds) = (self.timers, self.bench.rounds(CALLS));
+        let mut counted = Counted { count: 0, next: 0 };
+        let times = Times::of(
+            || {
+                work.repeat(table, timers, rounds, &mut counted);
+                Result::<(), Errno>::Ok(())
+            },
+            &self.bench.rt,
+        )?;
+        if work == Work::DisarmAndArm {
+            let _ = expect(table.next_due().unwrap_or(0), FIRST)?;
         }
-        let name = format!(in alloc; "arm while filling to {timers} timers")?;
-        self.print(name, times, timers as u64, count)
+        let (name, count) = (work.name(timers), counted.count);
+        print_sized(self.bench, name, times, rounds as u64, count)
     }
-
-    /// Counts the pairs; the timer is then due first.
-    fn measure_disarm_and_arm(&self) -> Result<()> {
-        let (alloc, timers) = (self.bench.alloc, self.timers);
-        let (rounds, index) = (self.bench.rounds(CALLS), timers as usize / 2);
-        let mut table = armed(timers, alloc)?;
-        let mut count = 0u64;
-        let times = Times::of(
-            || {
-                disarm_and_arm(&mut table, index, rounds);
-                count = count.saturating_add(rounds as u64);
-                Result::<(), Errno>::Ok(())
-            },
-            &self.bench.rt,
-        )?;
-        expect(table.next_due().unwrap_or(0), FIRST)?;
-        let name = format!(in alloc; "disarm and arm one of {timers}")?;
-        self.print(name, times, rounds as u64, count)
-    }
-
-    /// Counts the calls.
-    fn measure_arm_later(&self) -> Result<()> {
-        let (alloc, timers) = (self.bench.alloc, self.timers);
-        let rounds = self.bench.rounds(CALLS);
-        let mut table = armed(timers, alloc)?;
-        let (mut index, mut count) = (0, 0u64);
-        let times = Times::of(
-            || {
-                index = arm_later(&mut table, timers, rounds, index);
-                count = count.saturating_add(rounds as u64);
-                Result::<(), Errno>::Ok(())
-            },
-            &self.bench.rt,
-        )?;
-        let name = format!(in alloc; "re-arm each of {timers} in turn")?;
-        self.print(name, times, rounds as u64, count)
-    }
-
-    /// Counts the expirations.
-    fn measure_expire(&self) -> Result<()> {
-        let (alloc, timers) = (self.bench.alloc, self.timers);
-        let rounds = self.bench.rounds(CALLS);
-        let mut table = armed(timers, alloc)?;
-        let (mut index, mut count) = (0, 0u64);
-        let times = Times::of(
-            || {
-                index = expire(&mut table, timers, rounds, index, &mut count);
-                Result::<(), Errno>::Ok(())
-            },
-            &self.bench.rt,
-        )?;
-        let name = format!(in alloc; "one of {timers} expires and is taken")?;
-        self.print(name, times, rounds as u64, count)
-    }
-
-    /// Prints a line, where the repeats counted 5 times their operations; refused otherwise.
-    fn print(&self, name: String, times: Times, operations: u64, count: u64) -> Result<()> {
-        print(self.bench, name.as_str(), times, operations, count)
-    }
-}
-
-fn print<R: Print>(
-    bench: &Bench<R>,
-    name: &str,
-    times: Times,
-    operations: u64,
-    count: u64,
-) -> Result<()> {
-    let count = expect(count, operations.saturating_mul(REPEATS as u64))?;
-    let measured = Measured {
-        times,
-        operations,
-        count,
-    };
-    bench.print(name, measured)
 }
 
 /// Measures waits, each of which reports one counter.
@@ -223,21 +244,39 @@ fn measure_wait<P: Poller, R: Clock + Print>(
     print(bench, name, times, rounds as u64, count)
 }
 
+/// Measures a wait of a table that others share, alone, with an interest in a ready counter.
+fn measure_alone<R: Wait + Clock + Print + Copy + Send + Drop>(
+    bench: &Bench<R>,
+    epoll: &mut Epoll<R>,
+    ready: &EventFd,
+) -> Result<()> {
+    let event = EpollEvent::new(EventSet::IN, 7);
+    epoll.ctl(ControlOperation::Add, ready.as_raw_fd(), event)?;
+    measure_wait(bench, "a wait, 1 counter ready", epoll)
+}
+
+/// Measures one with timers beside it, and with one of them armed.
+fn measure_beside_timers<R: Wait + Clock + Print + Copy + Send + Drop>(
+    bench: &Bench<R>,
+    timed: &mut TimedPoller<Epoll<R>, R>,
+) -> Result<()> {
+    measure_wait(bench, "a wait, 1 counter ready, no timer armed", timed)?;
+    let timer = TimerFd::new(timed, &bench.rt)?;
+    let event = EpollEvent::new(EventSet::IN, 7);
+    timed.ctl(ControlOperation::Add, timer.as_raw_fd(), event)?;
+    timer.reset(Duration::from_secs(3600), None, &bench.rt)?;
+    measure_wait(bench, "a wait, 1 counter ready, a timer armed", timed)
+}
+
 /// Measures a wait of a table that others share, alone, with timers beside it, and with one of them armed.
 fn measure_waits<R: Wait + Clock + Print + Copy + Send + Drop>(bench: &Bench<R>) -> Result<()> {
     let (rt, alloc) = (bench.rt, bench.alloc);
     let mut epoll = Epoll::new(rt, alloc)?;
     let ready = EventFd::new(&epoll, 1, &rt)?;
-    let event = EpollEvent::new(EventSet::IN, 7);
-    epoll.ctl(ControlOperation::Add, ready.as_raw_fd(), event)?;
-    measure_wait(bench, "a wait, 1 counter ready", &mut epoll)?;
+    measure_alone(bench, &mut epoll, &ready)?;
     let counter = EventFd::new(&epoll, 0, &rt)?;
     let mut timed = TimedPoller::new(epoll, counter, rt, alloc)?;
-    measure_wait(bench, "a wait, 1 counter ready, no timer armed", &mut timed)?;
-    let timer = TimerFd::new(&timed, &rt)?;
-    timed.ctl(ControlOperation::Add, timer.as_raw_fd(), event)?;
-    timer.reset(Duration::from_secs(3600), None, &rt)?;
-    measure_wait(bench, "a wait, 1 counter ready, a timer armed", &mut timed)
+    measure_beside_timers(bench, &mut timed)
 }
 
 /// Measures timers at each wanted size, and waits beside them.
