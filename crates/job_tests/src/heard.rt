@@ -1,7 +1,8 @@
 //! A queue of jobs over which a loop may sleep.
 
-ghost use Rattle.std.specs.Prelude.{◌≡◌, false, List};
+ghost use Rattle.std.specs.Prelude.{◌≡◌, false, List, None};
 ghost use Rattle.event_manager.specs.WakeUps.{WakeState, AreSteps, NoJobWaitsUnheard};
+ghost use Rattle.event_manager.specs.JobQueue.{IsSend};
 ghost use Rattle.event_manager.specs.declared.laws.WakeStep.{WakeStep};
 
 use event_manager::jobs::JobQueue;
@@ -18,7 +19,8 @@ pub fn send_heard<J: Drop, B: Bell, R: Wait + Clock>(
     bell: &B,
     rt: &R,
 ) -> Result<u64>
-    ensures { (before : WakeState J) → before.queue ≡ queue.old → before.job_is_to_come ≡ false → NoJobWaitsUnheard before → (steps : List (WakeStep J)) × (after : WakeState J) × AreSteps before steps after × (after.queue ≡ queue.new) × NoJobWaitsUnheard after }
+    ensures sent { IsSend (B.rings bell.now) queue.old job None result queue.new }
+    ensures heard { (before : WakeState J) → before.queue ≡ queue.old → before.job_is_to_come ≡ false → NoJobWaitsUnheard before → (steps : List (WakeStep J)) × (after : WakeState J) × AreSteps before steps after × (after.queue ≡ queue.new) × NoJobWaitsUnheard after }
 {
     no_job_waits_unheard::<J>();
     queue.send(job, None, bell, rt)

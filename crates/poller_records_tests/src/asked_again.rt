@@ -1,6 +1,6 @@
 //! What a law says of a program's own calls of a poller that is recorded, and of its replay.
 
-ghost use Rattle.std.specs.Prelude.{◌≡◌, true, length, IfOk, IsOkUnless};
+ghost use Rattle.std.specs.Prelude.{◌≡◌, ◌+◌, ◌≤◌, true, length, IfOk, IsOkUnless};
 ghost use base.Stored.{Gv};
 ghost use Rattle.vmm_sys.specs.Poller.{reported};
 ghost use Rattle.poller_records.specs.PollerRun.{Runs};
@@ -45,8 +45,8 @@ fn ask<P: Poller>(poller: &mut P, asked: Asked, buffer: &mut [EpollEvent]) -> An
     Answers { added, waited }
 }
 
-/// Asks a poller that is recorded with room for `most` entries, and then a replay of its record. Where no call was left out, the
-/// replay answers and reports what the poller did.
+/// Asks a poller that is recorded with room for `most` entries, and then a replay of its record. Where no call was left out, as
+/// where all entries find room, the replay answers and reports what the poller did.
 ///
 /// `ENOMEM`: memory was refused; nothing was asked.
 pub fn ask_again<P: Poller>(
@@ -59,6 +59,7 @@ pub fn ask_again<P: Poller>(
 ) -> Result<AskedTwice, Errno>
     requires { length second.old ≡ length first.old }
     ensures errors { IsOkUnless result Errno.ENOMEM }
+    ensures complete { IfOk result (λ both. 2 + length (reported both.recorded.waited first.new) ≤ most → both.is_complete ≡ true) }
     ensures recorded { IfOk result (λ both. both.is_complete ≡ true → (after : Gv) × Runs P.may_ctl P.may_wait (P.meaning poller) (calls_of asked both.recorded (length first.old) (reported both.recorded.waited first.new)) after) }
     ensures answers { IfOk result (λ both. both.is_complete ≡ true → both.replayed ≡ both.recorded) }
     ensures reports { IfOk result (λ both. both.is_complete ≡ true → reported both.replayed.waited second.new ≡ reported both.recorded.waited first.new) }

@@ -20,8 +20,8 @@ any_bell rings before job slot (Err InvalidId) after sent = sent
 any_bell rings before job slot (Err InvalidCapacity) after sent = sent
 any_bell rings before job slot (Err IdsUsedUp) after sent = sent
 
-pub returns : goal.returns
-returns g c = λ before same none heard.
+pub returns-clause-heard : goal.returns-clause-heard
+returns-clause-heard g c = λ before same none heard.
     let law = c.no_job_waits_unheard.ensures in
     let sent = any_bell (g.B.Bell.rings c.args.bell.now) c.args.queue.now c.args.job None c.send.result c.send.new.self c.send.ensures in
     let reached = law.sends before c.args.job c.send.result c.send.new.self none (subst (λ queue. IsSend (λ rung. Unit {0}) queue c.args.job None c.send.result c.send.new.self) (sym same) sent) in

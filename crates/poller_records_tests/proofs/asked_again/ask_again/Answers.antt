@@ -1,4 +1,4 @@
-use Rattle.std.proofs.Common.{◌≡◌, true, [], ◌∷◌, ◌++◌, length, Ok, sym, ap, subst, ◌∙◌}
+use Rattle.std.proofs.Common.{◌≡◌, ◌+◌, ◌≤◌, true, [], ◌∷◌, ◌++◌, length, Ok, sym, ap, subst, ◌∙◌, arith}
 use Rattle.std.proofs.lemmas.List.{append-nil}
 use Rattle.vmm_sys.specs.Poller.{reported}
 use Rattle.vmm_sys.specs.declared.entries.ControlOperation.TheVariants.{Add}
@@ -6,7 +6,7 @@ use Rattle.poller_records.specs.PollerRun.{Ctl, Wait, Runs, entries_of_calls}
 use Rattle.poller_records.specs.Recording.{Recording, with_poller}
 use Rattle.poller_records.specs.Replay.{MayCtl, MayWait, replay_code, start_of}
 use Rattle.poller_records_tests.specs.Asking.{calls_of}
-use Rattle.poller_records_tests.proofs.Asking.{same_answers}
+use Rattle.poller_records_tests.proofs.Asking.{same_answers, both_recorded}
 use Rattle.poller_records_tests.proofs.asked_again.ask_again.Goals as goal
 
 pub returns : goal.returns
@@ -31,6 +31,8 @@ returns g c =
     (law.replayed _ _ calls others [] _ (run full).1 (ap (λ n. Ctl Add asked.fd asked.event (Ok tt) ∷ Wait asked.ms n (Ok 0) [] ∷ []) c.requires) rerun).0 in
     record {
       errors = tt;
+      complete = λ enough. c.is_complete-is_complete.ensures ∙ both_recorded g.P.Poller.may_ctl g.P.Poller.may_wait asked c.ask-recorded.result room events (with_poller made (meaning made.poller)) (with_poller left (meaning left.poller))
+          (ap (λ (r : Recording g.row.P.Denot). r.complete) c.in_ok-recording.ensures.made, subst (λ (r : Recording g.row.P.Denot). length r.entries + (2 + length events) ≤ r.most) (sym c.in_ok-recording.ensures.made) (omega (arith, enough))) c.ask-recorded.ensures;
       recorded = λ full. (_, subst (λ poller. Runs g.P.Poller.may_ctl g.P.Poller.may_wait (meaning poller) calls (meaning left.poller)) (ap (λ (r : Recording g.row.P.Denot). r.poller) c.in_ok-recording.ensures.made) (run full).1);
       answers = λ full. (same full).0;
       reports = λ full. (same full).1;
