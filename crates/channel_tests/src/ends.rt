@@ -1,9 +1,13 @@
 //! What becomes of one end where the other closes, or is dropped.
 
-use crate::expecting::expect_same;
+use crate::expecting::{expect_ok, expect_same};
+use crate::host::Looping;
 use crate::watched::{another, close, expect_refused, open, send_all};
-use channels::Refusal;
+use channels::{Receiver, Refusal, Sender, channel};
+use std::alloc::Global;
+use vmm_sys::epoll::{AsRawFd, Epoll, RawFd};
 use vmm_sys::errno::Errno;
+use vmm_sys::eventfd::EventFd;
 
 #[test]
 fn a_close_of_the_receiver_hands_out_what_waits(rt: HostRuntime) {
@@ -65,4 +69,43 @@ fn a_receiver_that_is_only_dropped_refuses_nothing(rt: HostRuntime) {
     drop(watched.receiver);
     send_all(&rt, &sender, &[5]);
     close(&rt, sender);
+}
+
+#[test]
+fn the_last_end_that_closes_closes_the_counter(rt: HostRuntime) {
+    let epoll = expect_ok(&rt, Epoll::new(rt, rt.alloc()));
+    let (sender, receiver) = open_first(&rt, rt.alloc(), &epoll);
+    close(&rt, sender);
+    expect_next_is(&rt, &epoll, 1);
+    expect_same(&rt, &receiver.close(&rt).as_slice(), &[].as_slice());
+    expect_next_is(&rt, &epoll, 0);
+    let (sender, receiver) = open_first(&rt, rt.alloc(), &epoll);
+    drop(receiver);
+    close(&rt, another(&rt, &sender));
+    expect_next_is(&rt, &epoll, 1);
+    close(&rt, sender);
+    expect_next_is(&rt, &epoll, 0);
+}
+
+#[test]
+fn a_last_end_that_is_only_dropped_leaves_the_counter_open(rt: HostRuntime) {
+    let epoll = expect_ok(&rt, Epoll::new(rt, rt.alloc()));
+    let (sender, receiver) = open_first(&rt, rt.alloc(), &epoll);
+    close(&rt, sender);
+    drop(receiver);
+    expect_next_is(&rt, &epoll, 1);
+}
+
+// A channel whose counter has descriptor 0.
+fn open_first<R: Looping>(rt: &R, alloc: Global, epoll: &Epoll<R>) -> (Sender<u64>, Receiver<u64>) {
+    let counter = expect_ok(rt, EventFd::new(epoll, 0, rt));
+    expect_same(rt, &counter.as_raw_fd(), &0);
+    expect_ok(rt, channel(counter, alloc))
+}
+
+// The descriptor that is given next, and closed again.
+fn expect_next_is<R: Looping>(rt: &R, epoll: &Epoll<R>, fd: RawFd) {
+    let next = expect_ok(rt, EventFd::new(epoll, 0, rt));
+    expect_same(rt, &next.as_raw_fd(), &fd);
+    next.close(rt);
 }

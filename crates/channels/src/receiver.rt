@@ -13,7 +13,8 @@ use vmm_sys::eventfd::EventFd;
 /// Takes the messages of a channel. Its descriptor is ready for `IN` exactly while messages wait, and once all senders have
 /// closed.
 ///
-/// One that is only dropped stays open: sends are still agreed to, and what waits is dropped with the last sender.
+/// One that is only dropped stays open: sends are still agreed to, and what waits is dropped with the last sender. Its descriptor
+/// is open as long as an end is there, and for ever where the last one is only dropped.
 #[derive(Drop)]
 pub struct Receiver<M, C = EventFd> {
     pub(crate) shared: Arc<Shared<M, C>>,
@@ -52,11 +53,13 @@ impl<M: Drop, C: Counter + Drop> Receiver<M, C> {
         Some(queue.waiting())
     }
 
-    /// Takes no message in from now on, and hands out all that wait, in the order in which they were sent.
+    /// Takes no message in from now on, and hands out all that wait, in the order in which they were sent. Where no other end is
+    /// left, the counter is closed, too ([`Counter::close`]).
     pub fn close<R: Wait + Clock>(self, rt: &R) -> Vec<M> {
         let shared = &*self.shared;
         let mut signal = shared.signal(rt);
         let waiting = shared.queue.lock(rt).close(&mut signal);
+        Shared::give_up(self.shared, rt);
         waiting
     }
 }

@@ -47,6 +47,7 @@ impl<M: Drop, C: Counter + Drop> Sender<M, C> {
     }
 
     /// Sends no more. Where all senders have closed, the receiver is ready for ever, and is told by a ring where nothing waits.
+    /// Where no other end is left, the counter is closed ([`Counter::close`]).
     ///
     /// Refused with the number with which the counter refuses that ring; then the sender comes back, and hasn't closed.
     pub fn close<R: Wait + Clock>(self, rt: &R) -> Result<(), CloseError<Self>>
@@ -56,7 +57,10 @@ impl<M: Drop, C: Counter + Drop> Sender<M, C> {
         let mut signal = shared.signal(rt);
         let left = shared.queue.lock(rt).leave(&mut signal);
         match left {
-            Ok(()) => Ok(()),
+            Ok(()) => {
+                Shared::give_up(self.shared, rt);
+                Ok(())
+            }
             Err(errno) => Err(CloseError {
                 errno,
                 sender: self,

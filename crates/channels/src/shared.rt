@@ -3,7 +3,7 @@
 ghost use Rattle.std.specs.Prelude.{◌≡◌};
 
 use crate::queue::{MessageQueue, Signal};
-use std::sync::{Mutex, Wait};
+use std::sync::{Arc, Mutex, Wait};
 use std::time::Clock;
 use vmm_sys::counter::Counter;
 use vmm_sys::errno::Errno;
@@ -12,6 +12,21 @@ use vmm_sys::errno::Errno;
 pub(crate) struct Shared<M, C> {
     pub(crate) queue: Mutex<MessageQueue<M>>,
     pub(crate) counter: C,
+}
+
+impl<M: Drop, C: Counter + Drop> Shared<M, C> {
+    /// Gives an end's share up; with the last one the counter is closed.
+    pub(crate) fn give_up<R: Wait>(share: Arc<Self>, rt: &R) {
+        if let Some(last) = Arc::into_inner(share) {
+            last.close(rt);
+        }
+    }
+
+    fn close<R: Wait>(self, rt: &R) {
+        let Shared { queue, counter } = self;
+        drop(queue);
+        counter.close(rt);
+    }
 }
 
 impl<M, C> Shared<M, C> {

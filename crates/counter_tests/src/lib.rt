@@ -2,6 +2,8 @@
 #![tactic(auto)]
 
 #[cfg(test)]
+mod closed_first;
+#[cfg(test)]
 mod events;
 #[cfg(test)]
 mod expecting;

@@ -17,7 +17,7 @@ use vmm_sys::errno::Errno;
 /// of your own waits for nothing that a sender holds, and sends nothing.
 pub trait NamedCounter: Naming + Counter + Drop {}
 
-/// A counter of type `C` under the name `N`. It is rung and cleared as that counter is.
+/// A counter of type `C` under the name `N`. It is rung, cleared and closed as that counter is.
 #[derive(Drop)]
 pub struct Named<N, C> {
     counter: C,
@@ -61,10 +61,15 @@ impl<N, C: Bell> Bell for Named<N, C> {
     }
 }
 
-impl<N, C: Counter> Counter for Named<N, C> {
+impl<N, C: Counter + Drop> Counter for Named<N, C> {
     ghost clears = { λ v answer. C.clears (counter_of v) answer };
 
     fn clear<R: Wait + Clock>(&self, rt: &R) -> std::result::Result<u64, Errno> {
         self.counter.clear(rt)
+    }
+
+    fn close<R: Wait>(self, rt: &R) {
+        let Named { counter, name: _ } = self;
+        counter.close(rt);
     }
 }

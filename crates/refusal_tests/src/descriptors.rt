@@ -86,15 +86,30 @@ fn open_in_turn<R: Host>(rt: &R, epoll: &mut Epoll<R>) -> [RawFd; 2] {
     last
 }
 
-/// Opens a counter and a line of the table: the descriptors of their copies, which take no memory.
+/// Opens a counter and a line of the table: the descriptors of their copies, which take no memory, nor does their closing.
 fn open_and_copy<R: Host>(rt: &R, epoll: &mut Epoll<R>) -> [RawFd; 2] {
     let counter = open_counter(rt, epoll, 18);
     let line = open_line(rt, epoll, 19);
     mark(rt);
-    let counter = copy_counter(rt, &counter);
-    let line = expect_ok(rt, "Line::try_clone", line.try_clone());
+    let counter_copy = copy_counter(rt, &counter);
+    let line_copy = expect_ok(rt, "Line::try_clone", line.try_clone());
     mark(rt);
-    [counter.as_raw_fd(), line.as_raw_fd()]
+    let copied = [counter_copy.as_raw_fd(), line_copy.as_raw_fd()];
+    mark(rt);
+    close_all(rt, [counter, counter_copy], [line, line_copy]);
+    mark(rt);
+    expect_same(rt, "EventFd::close", &is_unopened(epoll, 18), &true);
+    expect_same(rt, "Line::close", &is_unopened(epoll, 19), &true);
+    copied
+}
+
+fn close_all<R: Host>(rt: &R, counters: [EventFd; 2], lines: [Line; 2]) {
+    for counter in counters {
+        counter.close(rt);
+    }
+    for line in lines {
+        line.close(rt);
+    }
 }
 
 #[test]

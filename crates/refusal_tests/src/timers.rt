@@ -72,7 +72,7 @@ fn make_timed<R: Host>(rt: &R, alloc: Global) -> Timed<R> {
     )
 }
 
-/// Opens a timer, whose descriptor must be this one; before that it is a number which the table never opened.
+/// Opens a timer, whose descriptor must be this one; before that it is no number of an open one.
 fn open_timer<R: Host>(rt: &R, timed: &mut Timed<R>, fd: RawFd) -> TimerFd {
     let call = "TimerFd::new";
     let timer = again!(rt, call, TimerFd::new(&*timed, rt), is_unopened(timed, fd));
@@ -100,12 +100,21 @@ fn use_timer<R: Host>(rt: &R, timed: &mut Timed<R>, timer: &TimerFd) {
     expect_same(rt, call, &(taken, is_armed), &(Ok(LATER), Ok(true)));
 }
 
-/// Opens nine timers, and answers the last.
+/// Opens nine timers, the last by the one before, and answers it.
 fn open_all<R: Host>(rt: &R, timed: &mut Timed<R>) -> TimerFd {
-    for k in 0..8u16 {
+    for k in 0..7u16 {
         open_timer(rt, timed, RawFd::MAX - k as RawFd);
     }
-    open_timer(rt, timed, 2147483639)
+    let timer = open_timer(rt, timed, 2147483640);
+    let call = "TimerFd::open_another";
+    let other = again!(
+        rt,
+        call,
+        timer.open_another(rt),
+        is_unopened(timed, 2147483639)
+    );
+    expect_same(rt, call, &other.as_raw_fd(), &2147483639);
+    other
 }
 
 #[test]
@@ -118,4 +127,10 @@ fn timers_are_opened_copied_and_used(rt: HostRuntime) {
     let copy = expect_ok(&rt, "TimerFd::try_clone", copied);
     expect_same(&rt, "TimerFd::try_clone", &copy.as_raw_fd(), &2147483639);
     use_timer(&rt, &mut timed, &copy);
+    mark(&rt);
+    copy.close(&rt);
+    last.close(&rt);
+    mark(&rt);
+    let is_closed = is_unopened(&mut timed, 2147483639);
+    expect_same(&rt, "TimerFd::close", &is_closed, &true);
 }

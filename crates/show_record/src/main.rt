@@ -58,8 +58,8 @@ enum Wanted {
     ScriptPicture,
 }
 
-/// What the arguments say.
-fn heed_arguments<R: Env + AllocGlobal>(rt: &R) -> Result<Wanted> {
+/// What the arguments ask for.
+fn wanted_by_arguments<R: Env + AllocGlobal>(rt: &R) -> Result<Wanted> {
     let mut arguments = env::args(rt)?.skip(1);
     let Some(first) = arguments.next() else {
         return Ok(Wanted::Calls);
@@ -70,10 +70,14 @@ fn heed_arguments<R: Env + AllocGlobal>(rt: &R) -> Result<Wanted> {
         ("picture", Some("script")) => Ok(Wanted::ScriptPicture),
         ("picture", Some(index)) => match index.parse() {
             Ok(index) => Ok(Wanted::Picture(Some(index))),
-            Err(_) => bail!("bad arguments"),
+            Err(_) => usage(),
         },
-        _ => bail!("bad arguments"),
+        _ => usage(),
     }
+}
+
+fn usage() -> Result<Wanted> {
+    bail!("usage: show_record [picture [INDEX | script]] < RECORD")
 }
 
 /// Prints a line for each call. Ends at the first line of the record behind which another number of events stands than its
@@ -89,7 +93,7 @@ fn show<R: Print>(record: &[RecordEntry], rt: &R) -> Result<()> {
 
 fn main(rt: HostRuntime) -> Result<()> {
     let alloc = rt.alloc();
-    let wanted = heed_arguments(&rt)?;
+    let wanted = wanted_by_arguments(&rt)?;
     let mut text = String::new(alloc);
     rt.stdin().read_to_string(&mut text)?;
     let (steps, parting) = match wanted {

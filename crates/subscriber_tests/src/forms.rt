@@ -1,8 +1,8 @@
 //! Subscribers of each form that docs/GUIDE.md shows: none has a line of proof by hand.
 
 use event_manager::{
-    EventOps, EventPoller, EventSet, Events, MutEventSubscriber, RefusedRequest, Request, Result,
-    StepInput, StepSubscriber,
+    EventOps, EventPoller, EventSet, Events, MutEventSubscriber, Priority, RefusedRequest, Request,
+    Result, StepInput, StepSubscriber,
 };
 use std::sync::atomic::{AtomicU64, Ordering};
 use std::sync::{Arc, Wait};
@@ -33,6 +33,30 @@ impl MutEventSubscriber for Counting {
 
     fn init<P: EventPoller>(&mut self, ops: &mut EventOps<P>) {
         self.answer = ops.add(self.own);
+    }
+}
+
+/// Adds its descriptor with high priority, and keeps the answer.
+#[derive(Drop)]
+pub struct Urgent {
+    pub own: Events,
+    pub answer: Result<()>,
+}
+
+impl MutEventSubscriber for Urgent {
+    ghost use Rattle.std.specs.Prelude.{◌≡◌};
+    ghost use Rattle.event_manager.specs.Exchange.{AsksAndKeeps, AsksNothing};
+    ghost use Rattle.event_manager.specs.Request.TheVariants.{AddWithPriority};
+    ghost use Rattle.event_manager.specs.declared.Priority.TheVariants.{High};
+
+    ghost begins = { λ v exchanges w. AsksAndKeeps (AddWithPriority v.own High) w.answer exchanges × (w ≡ record v { answer = w.answer }) };
+
+    ghost serves = { λ v event exchanges w. AsksNothing exchanges × (w ≡ v) };
+
+    fn process<P: EventPoller>(&mut self, _events: Events, _ops: &mut EventOps<P>) {}
+
+    fn init<P: EventPoller>(&mut self, ops: &mut EventOps<P>) {
+        self.answer = ops.add_with_priority(self.own, Priority::High);
     }
 }
 

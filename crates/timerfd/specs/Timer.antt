@@ -1,5 +1,5 @@
 -- One timer, and what it is once a time has come.
-use Rattle.std.specs.Prelude.{ℕ, ◌+◌, ◌-◌, ◌*◌, ◌/◌, ◌^◌, ◌==◌, nat_le, nat_lt, min, if◌then◌else◌, Option, Some, None}
+use Rattle.std.specs.Prelude.{ℕ, ◌+◌, ◌-◌, ◌*◌, ◌/◌, ◌^◌, ◌==◌, nat_le, nat_lt, min, if◌then◌else◌, true, false, Option, Some, None}
 use Rattle.timerfd.specs.declared.timer.Timer.{Timer}
 
 -- how often a timer that is due is due up to now: once, and once more for each whole interval since (n / 0 is 0)
@@ -25,10 +25,17 @@ expired_since now due t = record t {
 abbrev pub expired : ℕ → Timer → Timer
 expired now t = elim t.due [ None ↦ t | Some due ↦ if nat_le due now then expired_since now due t else t ]
 
--- not due, with nothing to take
+-- open, not due, with nothing to take
 abbrev pub disarmed : Timer
-disarmed = record { due = None; interval = 0; expirations = 0 }
+disarmed = record { due = None; interval = 0; expirations = 0; is_open = true }
 
--- due at a time, and after each interval, with nothing to take
-abbrev pub armed : ℕ → ℕ → Timer
-armed due interval = record { due = Some due; interval = interval; expirations = 0 }
+abbrev pub closed : Timer
+closed = record { due = None; interval = 0; expirations = 0; is_open = false }
+
+-- a timer once it is due at a time, and after each interval, with nothing to take
+abbrev pub armed : ℕ → ℕ → Timer → Timer
+armed due interval t = record t { due = Some due; interval = interval; expirations = 0 }
+
+-- a timer once it isn't due, with nothing to take
+abbrev pub stopped : Timer → Timer
+stopped t = record t { due = None; interval = 0; expirations = 0 }

@@ -5,6 +5,7 @@
 #![tactic(auto)]
 
 mod clock;
+mod description;
 mod due_tree;
 pub mod laws;
 mod shared;

@@ -116,6 +116,7 @@ fn timer_of(fd: RawFd, count: usize) -> Option<usize>
 pub(crate) struct Shared<C> {
     pub(crate) state: Mutex<State>,
     pub(crate) counter: C,
+    pub(crate) alloc: Global,
 }
 
 // Not derived: then who owns one has a call to prove, and not a drop of all that is in it.
@@ -124,6 +125,7 @@ impl<C: Drop> Drop for Shared<C> {
         let Shared {
             state: _,
             counter: _,
+            alloc: _,
         } = self;
     }
 }
@@ -140,6 +142,7 @@ pub(crate) fn new_timers<C: Drop>(counter: C, alloc: Global) -> Result<Arc<Share
     let shared = Shared {
         state: Mutex::new(state),
         counter,
+        alloc,
     };
     Arc::new(alloc, shared).map_err(|_| Errno::ENOMEM)
 }

@@ -12,14 +12,25 @@ pub struct Timer {
     pub interval: u64,
     /// How often it has expired since its expirations were last taken; 18446744073709551615 stands for more, too.
     pub expirations: u64,
+    /// Whether it is open: not, once it was closed.
+    pub is_open: bool,
 }
 
 impl Timer {
-    /// A timer that isn't due, with nothing to take.
+    /// An open timer that isn't due, with nothing to take.
     pub const DISARMED: Timer = Timer {
         due: None,
         interval: 0,
         expirations: 0,
+        is_open: true,
+    };
+
+    /// A closed timer.
+    pub const CLOSED: Timer = Timer {
+        due: None,
+        interval: 0,
+        expirations: 0,
+        is_open: false,
     };
 
     /// The timer once it is `now`. Due up to now, it has expired, once and once more for each whole interval since, and it is due
@@ -43,6 +54,7 @@ impl Timer {
                 due: None,
                 interval: 0,
                 expirations: self.expirations.saturating_add(1),
+                is_open: self.is_open,
             };
         }
         let late = now - due;
@@ -53,6 +65,7 @@ impl Timer {
                 .expirations
                 .saturating_add(late / self.interval)
                 .saturating_add(1),
+            is_open: self.is_open,
         }
     }
 }

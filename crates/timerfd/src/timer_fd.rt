@@ -1,8 +1,9 @@
 //! Timers as descriptors.
 
-ghost use Rattle.std.specs.Prelude.{◌≡◌, ◌<◌, ◌-◌, ◌≤ℤ◌, ◌^◌, pos, Ok, IfOk, IfErr};
+ghost use Rattle.std.specs.Prelude.{◌≡◌, ◌<◌, Ok, IfOk, IfErr};
 
 use crate::clock;
+use crate::description::{Description, another_owner};
 use crate::shared::Shared;
 use crate::timed_poller::TimedPoller;
 use std::sync::{Arc, Wait};
@@ -18,13 +19,11 @@ use vmm_sys::eventfd::EventFd;
 /// The clock of a handle that a call is given is to be that of the handle which the poller was made with. No type says so: by
 /// another clock the timer is due at another time, or never.
 ///
-/// A timer that is dropped stays open, as an [`EventFd`] does: where it is registered it is still reported, and its number and
-/// its memory never come back.
+/// It is open until the last of its copies is [closed](TimerFd::close). One that is only dropped stays open, as an [`EventFd`] does:
+/// where it is registered it is still reported, and its number and its memory don't come back.
 #[derive(Drop)]
 pub struct TimerFd<C = EventFd> {
-    timers: Arc<Shared<C>>,
-    fd: RawFd,
-    ghost from_0_up: { pos 0 ≤ℤ fd },
+    description: Arc<Description<C>>,
 }
 
 impl<C: Counter + Drop> TimerFd<C> {
@@ -32,29 +31,51 @@ impl<C: Counter + Drop> TimerFd<C> {
 
     /// Opens a timer, disarmed.
     ///
-    /// `EMFILE`: the poller has 2147483648 timers. `ENOMEM`: memory, or one more owner of the timers, was refused. A refused call
+    /// `EMFILE`: 2147483648 timers of the poller are open. `ENOMEM`: memory, or one more owner of the timers, was refused. A refused call
     /// opens nothing.
     pub fn new<P, Q, R: Wait>(timed: &TimedPoller<P, Q, C>, rt: &R) -> Result<TimerFd<C>, Errno>
         ensures { IfErr result IsOpeningError }
     {
-        let timers = another_owner(&timed.timers)?;
-        let index = timers.state.lock(rt).timers.add()?;
-        Ok(TimerFd {
-            timers,
-            fd: descriptor_at(index),
-        })
+        Self::open(&timed.timers, rt)
     }
 
-    /// Another handle on the same timer. `ENOMEM`: one more owner of the timers was refused; then nothing changed.
+    /// Opens another timer of the same poller, disarmed: as [`new`](TimerFd::new), for who has a timer and no poller, as in a job or
+    /// in a body of `with_senders`.
+    pub fn open_another<R: Wait>(&self, rt: &R) -> Result<TimerFd<C>, Errno>
+        ensures { IfErr result IsOpeningError }
+    {
+        Self::open(&self.description.timers, rt)
+    }
+
+    // Opens a timer beside the others.
+    fn open<R: Wait>(timers: &Arc<Shared<C>>, rt: &R) -> Result<TimerFd<C>, Errno>
+        ensures { IfErr result IsOpeningError }
+    {
+        let timers = another_owner(timers)?;
+        let alloc = timers.alloc;
+        let index = timers.state.lock(rt).timers.add()?;
+        match Arc::new(alloc, Description::new(timers, index)) {
+            Ok(description) => Ok(TimerFd { description }),
+            Err(refused) => {
+                refused.value.close(rt);
+                Err(Errno::ENOMEM)
+            }
+        }
+    }
+
+    /// Another handle on the same timer. `ENOMEM`: the `Arc` refused a copy; then nothing changed.
     pub fn try_clone(&self) -> Result<TimerFd<C>, Errno>
         ensures same_descriptor { IfOk result (λ other. descriptor_of other ≡ descriptor_of self.now) }
         ensures errors { IfErr result (λ e. e ≡ Errno.ENOMEM) }
     {
-        let timers = another_owner(&self.timers)?;
-        Ok(TimerFd {
-            timers,
-            fd: self.fd,
-        })
+        let description = another_owner(&self.description)?;
+        Ok(TimerFd { description })
+    }
+
+    /// Gives this handle up. With the last handle on a timer it is closed, and its interest is gone; its number may be given to a
+    /// timer that is opened later, the highest first. So remove a timer from a manager before you close it.
+    pub fn close<R: Wait>(self, rt: &R) {
+        Description::give_up(self.description, rt);
     }
 
     /// Arms the timer: it is due after this duration, and then again after each interval; without one it is due once. A duration of
@@ -75,7 +96,8 @@ impl<C: Counter + Drop> TimerFd<C> {
         }
         let due = clock::now(rt)?.saturating_add(clock::nanoseconds(duration));
         let interval = interval.map_or(0, clock::nanoseconds);
-        self.timers.arm(self.index(), due, interval, rt)
+        let index = self.description.index();
+        self.description.timers.arm(index, due, interval, rt)
     }
 
     /// Takes how often the timer has expired since the last such call, or since it was armed, up to the time that the poller's
@@ -87,42 +109,33 @@ impl<C: Counter + Drop> TimerFd<C> {
     pub fn wait<R: Wait + Clock>(&self, rt: &R) -> Result<u64, Errno>
         ensures some { IfOk result (λ expirations. 0 < expirations) }
     {
-        let told = self
-            .timers
-            .state
-            .lock(rt)
-            .timers
-            .take_expirations(self.index());
+        let Description { timers, .. } = &*self.description;
+        let index = self.description.index();
+        let told = timers.state.lock(rt).timers.take_expirations(index);
         if let Some(expirations) = told {
             return Ok(expirations);
         }
         let now = clock::now(rt)?;
-        let mut state = self.timers.state.lock(rt);
+        let mut state = timers.state.lock(rt);
         state.timers.set_time(now);
-        state
-            .timers
-            .take_expirations(self.index())
-            .ok_or(Errno::EAGAIN)
+        state.timers.take_expirations(index).ok_or(Errno::EAGAIN)
     }
 
     /// Whether the timer is due at some time to come. The clock's error is answered as in [`reset`](TimerFd::reset).
     pub fn is_armed<R: Wait + Clock>(&self, rt: &R) -> Result<bool, Errno> {
         let now = clock::now(rt)?;
-        let mut state = self.timers.state.lock(rt);
+        let mut state = self.description.timers.state.lock(rt);
         state.timers.set_time(now);
-        Ok(state.timers.is_armed(self.index()))
+        Ok(state.timers.is_armed(self.description.index()))
     }
 
     /// Disarms the timer. Expirations that weren't taken are dropped.
     pub fn clear<R: Wait>(&self, rt: &R) -> Result<(), Errno>
         ensures { result ≡ Ok tt }
     {
-        self.timers.state.lock(rt).timers.disarm(self.index());
+        let index = self.description.index();
+        self.description.timers.state.lock(rt).timers.disarm(index);
         Ok(())
-    }
-
-    fn index(&self) -> usize {
-        (RawFd::MAX - self.fd) as usize
     }
 }
 
@@ -132,22 +145,6 @@ impl<C> AsRawFd for TimerFd<C> {
     ghost descriptor = { descriptor_of };
 
     fn as_raw_fd(&self) -> RawFd {
-        self.fd
+        self.description.fd
     }
-}
-
-// Another owner of the same timers. `ENOMEM`: the `Arc` refused a copy.
-fn another_owner<C>(timers: &Arc<Shared<C>>) -> Result<Arc<Shared<C>>, Errno>
-    ensures { IfErr result (λ e. e ≡ Errno.ENOMEM) }
-{
-    Arc::try_clone(timers).map_err(|_| Errno::ENOMEM)
-}
-
-// The descriptor of the timer of this index.
-fn descriptor_at(index: usize) -> RawFd
-    requires { index < 2 ^ 31 }
-    ensures number { result ≡ pos (2147483647 - index) }
-    ensures from_0_up { pos 0 ≤ℤ result }
-{
-    RawFd::MAX - index as RawFd
 }

@@ -1,11 +1,11 @@
 //! Timers with a list of interests in them.
 
-ghost use Rattle.std.specs.Prelude.{◌≡◌, ◌==◌, ◌<◌, ◌≤◌, ◌^◌, [], ◌∷◌, ◌++◌, pos, is_some, find, length, slice_set, IfOk, IfErr, MatchOption, if◌then◌else◌};
-ghost use Rattle.vmm_sys.specs.Table.{ctl_of, wait_of, filled, reported_entries, is_ready};
+ghost use Rattle.std.specs.Prelude.{◌≡◌, ◌==◌, ◌<◌, ◌≤◌, ◌^◌, [], pos, is_some, find, length, IfOk, IfErr, MatchOption, if◌then◌else◌};
+ghost use Rattle.vmm_sys.specs.Table.{ctl_of, close_of, wait_of, filled, first_closed, reported_entries, is_ready};
 ghost use Rattle.timerfd.specs.Dues.{IsFirstOf, dues};
-ghost use Rattle.timerfd.specs.Timer.{disarmed, armed};
+ghost use Rattle.timerfd.specs.Timer.{armed, stopped};
 ghost use Rattle.timerfd.specs.Timers.{timer_at, with_timer, told, NoneIsDue, HasExpired};
-ghost use Rattle.timerfd.specs.TimerTable.{line, table_of, with_told, reported_by, AreLines, AreReached, Changes, IsOpeningError};
+ghost use Rattle.timerfd.specs.TimerTable.{line, table_of, with_line, with_told, reported_by, AreLines, AreReached, Changes, Closes, IsOpened, IsOpeningError};
 
 use crate::timers::Timers;
 use std::alloc::Global;
@@ -44,22 +44,48 @@ impl TimerTable {
         }
     }
 
-    /// Adds a timer, disarmed and without an interest, and answers its index: how many there were before.
+    /// Opens a timer, disarmed and without an interest, and answers its index: the lowest of a closed one, or else how many there
+    /// were before.
     ///
-    /// `EMFILE`: there are 2147483648. `ENOMEM`: memory was refused. Then the timers are as they were.
+    /// `EMFILE`: 2147483648 are open. `ENOMEM`: memory was refused. Then the timers are as they were.
     pub fn add(&mut self) -> Result<usize, Errno>
-        ensures added { IfOk result (λ index. (index ≡ length self.old.told.timers) × (self.new ≡ with_told self.old (record self.old.told { timers = self.old.told.timers ++ disarmed ∷ [] }))) }
+        ensures added { IfOk result (λ index. IsOpened (first_closed (table_of self.old)) self.old.told index self.new.told × (self.new ≡ with_told self.old self.new.told)) }
         ensures few { IfOk result (λ index. index < 2 ^ 31) }
         ensures refused { IfErr result (λ e. IsOpeningError self.old e × (self.new ≡ self.old)) }
     {
-        let Ok(index) = self.timers.add() else {
+        let Ok(last) = self.timers.add() else {
             return Err(Errno::ENOMEM);
         };
-        if let Err(errno) = self.table.add_line() {
-            self.timers.remove_last();
-            return Err(errno);
+        match self.table.add_line() {
+            Ok(number) => {
+                let index = number as usize;
+                if index != last {
+                    // That of a closed timer is given again.
+                    self.timers.remove_last();
+                    self.timers.open(index);
+                }
+                Ok(index)
+            }
+            Err(errno) => {
+                self.timers.remove_last();
+                Err(errno)
+            }
         }
-        Ok(index)
+    }
+
+    /// Closes the timer of this index, with its interest. Its index is given again. No memory is requested.
+    ///
+    /// `EBADF`: none is open.
+    pub fn close(&mut self, index: usize) -> Result<(), Errno>
+        ensures { Closes (close_of (table_of self.old) (pos index)) index self.old result self.new }
+    {
+        match RawFd::try_from(index) {
+            Ok(number) => self.table.close(number)?,
+            // No line has such a number.
+            Err(_) => return Err(Errno::EBADF),
+        }
+        self.timers.close(index);
+        Ok(())
     }
 
     /// How many there are.
@@ -102,7 +128,7 @@ impl TimerTable {
 
     /// As [`Timers::arm`].
     pub fn arm(&mut self, index: usize, due: u64, interval: u64)
-        ensures { self.new ≡ with_told self.old (with_timer self.old.told index (armed due interval)) }
+        ensures { self.new ≡ with_told self.old (with_timer self.old.told index (armed due interval (timer_at self.old.told.timers index))) }
     {
         self.timers.arm(index, due, interval);
         set_ready(&mut self.table, index, false);
@@ -110,7 +136,7 @@ impl TimerTable {
 
     /// As [`Timers::disarm`].
     pub fn disarm(&mut self, index: usize)
-        ensures { self.new ≡ with_told self.old (with_timer self.old.told index disarmed) }
+        ensures { self.new ≡ with_told self.old (with_timer self.old.told index (stopped (timer_at self.old.told.timers index))) }
     {
         self.timers.disarm(index);
         set_ready(&mut self.table, index, false);
@@ -172,11 +198,11 @@ impl TimerTable {
     }
 }
 
-// The timer of this index is ready for `IN`, or for nothing; where there is no such timer, nothing changes.
+// The timer of this index is ready for `IN`, or for nothing; where none is open, nothing changes.
 fn set_ready(table: &mut Table, index: usize, ready: bool)
     requires lines { AreLines table.old.sources }
     requires few { length table.old.sources ≤ 2 ^ 31 }
-    ensures { table.new ≡ record table.old { sources = slice_set table.old.sources index (line ready) } }
+    ensures { table.new ≡ record table.old { sources = with_line table.old.sources index (line ready) } }
 {
     let set = if ready {
         EventSet::IN

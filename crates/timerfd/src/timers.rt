@@ -1,7 +1,7 @@
 //! Timers by index.
 
 ghost use Rattle.std.specs.Prelude.{◌≡◌, ◌<◌, ◌==◌, [], ◌∷◌, ◌++◌, ◌-◌, length, take, is_ok, is_some, map, IfOk, MatchOption, if◌then◌else◌};
-ghost use Rattle.timerfd.specs.Timer.{disarmed, armed, expired};
+ghost use Rattle.timerfd.specs.Timer.{disarmed, closed, armed, stopped, expired};
 ghost use Rattle.timerfd.specs.Dues.{IsFirstOf, dues};
 ghost use Rattle.timerfd.specs.Timers.{timer_at, with_timer, told, NoneIsDue, HasExpired};
 
@@ -105,14 +105,16 @@ impl Timers {
     ///
     /// It takes as long as the logarithm of how many timers there are.
     pub fn arm(&mut self, index: usize, due: u64, interval: u64)
-        ensures { self.new ≡ with_timer self.old index (armed due interval) }
+        ensures { self.new ≡ with_timer self.old index (armed due interval (timer_at self.old.timers index)) }
     {
+        let is_open = self.timer(index).is_open;
         self.replace(
             index,
             Timer {
                 due: Some(due),
                 interval,
                 expirations: 0,
+                is_open,
             },
         );
     }
@@ -121,9 +123,28 @@ impl Timers {
     ///
     /// It takes as long as the logarithm of how many timers there are.
     pub fn disarm(&mut self, index: usize)
+        ensures { self.new ≡ with_timer self.old index (stopped (timer_at self.old.timers index)) }
+    {
+        let timer = if self.timer(index).is_open {
+            Timer::DISARMED
+        } else {
+            Timer::CLOSED
+        };
+        self.replace(index, timer);
+    }
+
+    /// Opens the timer of this index, disarmed; where there is none, nothing changes.
+    pub fn open(&mut self, index: usize)
         ensures { self.new ≡ with_timer self.old index disarmed }
     {
         self.replace(index, Timer::DISARMED);
+    }
+
+    /// Closes the timer of this index; where there is none, nothing changes.
+    pub fn close(&mut self, index: usize)
+        ensures { self.new ≡ with_timer self.old index closed }
+    {
+        self.replace(index, Timer::CLOSED);
     }
 
     /// How often the timer has expired since they were last taken, or it was armed or disarmed; none, where it hasn't, and where
@@ -140,6 +161,7 @@ impl Timers {
                 due: timer.due,
                 interval: timer.interval,
                 expirations: 0,
+                is_open: timer.is_open,
             },
         );
         if timer.expirations == 0 {

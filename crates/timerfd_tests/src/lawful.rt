@@ -26,11 +26,13 @@ fn expect_timers<R: Abort>(rt: &R, timers: &Timers, first: (u64, u64), second: (
         due: Some(first.0),
         interval: 10,
         expirations: first.1,
+        is_open: true,
     };
     let second = Timer {
         due: second.0,
         interval: 0,
         expirations: second.1,
+        is_open: true,
     };
     expect_same(rt, &[timers.timer(0), timers.timer(1)], &[first, second]);
 }

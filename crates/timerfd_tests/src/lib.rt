@@ -9,6 +9,8 @@ pub mod by_laws;
 #[cfg(test)]
 mod clock;
 #[cfg(test)]
+mod closings;
+#[cfg(test)]
 mod due_times;
 #[cfg(test)]
 mod expecting;

@@ -1,6 +1,6 @@
 //! One timer as a descriptor, by a clock that the test sets.
 
-use crate::expecting::expect_same;
+use crate::expecting::{expect_ok, expect_same};
 use crate::steps::Step::{Arm, ArmAgain, Armed, Clear, Reads, Reset, Share, Take, Time};
 use crate::steps::Which::{First, Other};
 use crate::steps::run;
@@ -175,4 +175,15 @@ fn the_numbers_of_timers_count_down_from_the_highest(rt: HostRuntime) {
         let found = open_timer(&rt, &timed).as_raw_fd();
         expect_same(&rt, &found, &number);
     }
+}
+
+#[test]
+fn a_timer_opens_another_beside_itself(host: HostRuntime) {
+    let timed = open(&host, host.alloc());
+    let timer = open_timer(&host, &timed);
+    let other = expect_ok(&host, timer.open_another(&host));
+    expect_same(&host, &other.as_raw_fd(), &2147483646);
+    expect_ok(&host, other.reset(Duration::from_secs(3600), None, &host));
+    expect_same(&host, &timer.is_armed(&host), &Ok(false));
+    expect_same(&host, &other.is_armed(&host), &Ok(true));
 }

@@ -1,5 +1,6 @@
 pub mod Prelude
 pub mod Closing
+pub mod ClosedNumbers
 pub mod FirstReady
 pub mod Firsts
 pub mod Held

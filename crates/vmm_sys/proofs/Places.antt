@@ -45,6 +45,12 @@ module _ {A : Type 0} (p : A → Bool) where
       let t : ltb (position_or_len p xs) (length xs) ≡ true = lt-ltb (position_or_len p xs) (length xs) (omega arith) in
       rw (t, r.0) refl
 
+  -- the element at that place passes
+  pub at-passes : (xs : List A) (k : ℕ) (d : A) → At xs k → (p (get_or xs k d) ≡ true) × (k < length xs)
+  at-passes [] k d h = absurd h
+  at-passes (x ∷ xs) zero d h = (h, omega arith)
+  at-passes (x ∷ xs) (suc k) d h = let r = at-passes xs k d h.1 in (r.0, omega arith)
+
   -- more elements behind it leave the place
   pub At-append : (xs ys : List A) (a : ℕ) → At xs a → At (xs ++ ys) a
   At-append [] ys a h = absurd h

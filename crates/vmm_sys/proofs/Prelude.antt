@@ -6,4 +6,4 @@ pub use Rattle.std.proofs.lemmas.Bool.{cases_lt, false≢true, lt-ltb, le-ltb, l
 pub use Rattle.std.proofs.lemmas.Option.{get_or_from_slice_get, none-some, same_Some, slice_get-get_or, slice_get_within, slice_get_read}
 pub use Rattle.vmm_sys.specs.Interests.{InterestsState, slot_at, AreMarked, passes, AgreeBut, NoneHolds, AloneHolds, place_at, Holds, AreInSlots, AreMarkedBut}
 pub use Rattle.vmm_sys.specs.Lists.{held, without_first}
-pub use Rattle.vmm_sys.specs.ReadySet.{NoneFrom, IsFirstFrom, IsMarked, NoneBelow, NoneInWordFrom, IsEmptyWord, MarksWords}
+pub use Rattle.vmm_sys.specs.NumberSet.{NoneFrom, IsFirstFrom, IsMarked, NoneBelow, NoneInWordFrom, IsEmptyWord, MarksWords}

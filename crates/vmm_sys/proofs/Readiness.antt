@@ -10,19 +10,19 @@ use Rattle.vmm_sys.specs.Table.{state_of, state_at, is_ready}
 by_state : (xs ys : List Source) (i : Interest) → state_at (slice_get xs i.descriptor) ≡ state_at (slice_get ys i.descriptor) → is_ready xs i ≡ is_ready ys i
 by_state xs ys i e = ap (λ state. not (bit_and (bit_or (bits_of (set_of i.event)) 0x18) state == 0)) e
 
-get-set : {A : Type 0} (xs : List A) (n d : ℕ) (y : A) → d ≢ n → slice_get (set xs n y) d ≡ slice_get xs d
+pub get-set : {A : Type 0} (xs : List A) (n d : ℕ) (y : A) → d ≢ n → slice_get (set xs n y) d ≡ slice_get xs d
 get-set [] n d y h = refl
 get-set (x ∷ xs) zero zero y h = absurd (h refl)
 get-set (x ∷ xs) zero (suc d) y h = refl
 get-set (x ∷ xs) (suc n) zero y h = refl
 get-set (x ∷ xs) (suc n) (suc d) y h = get-set xs n d y (λ e. h (ap suc e))
 
-get-set_here : {A : Type 0} (xs : List A) (n : ℕ) (x y : A) → slice_get xs n ≡ Some x → slice_get (set xs n y) n ≡ Some y
+pub get-set_here : {A : Type 0} (xs : List A) (n : ℕ) (x y : A) → slice_get xs n ≡ Some x → slice_get (set xs n y) n ≡ Some y
 get-set_here [] n x y e = absurd cc
 get-set_here (z ∷ xs) zero x y e = refl
 get-set_here (z ∷ xs) (suc n) x y e = get-set_here xs n x y e
 
-get-push : {A : Type 0} (xs : List A) (d : ℕ) (y : A) → d ≢ length xs → slice_get (xs ++ y ∷ []) d ≡ slice_get xs d
+pub get-push : {A : Type 0} (xs : List A) (d : ℕ) (y : A) → d ≢ length xs → slice_get (xs ++ y ∷ []) d ≡ slice_get xs d
 get-push [] zero y h = absurd (h refl)
 get-push [] (suc d) y h = refl
 get-push (x ∷ xs) zero y h = refl

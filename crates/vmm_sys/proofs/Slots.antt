@@ -34,7 +34,7 @@ not-at n (None ∷ slots) k none a = not-at n slots k (λ t h. none (suc t) h) a
 not-at n (Some j ∷ slots) zero none a = none 0 (holds-by (Some j ∷ slots) 0 n j refl (eqb-true j.descriptor n a))
 not-at n (Some j ∷ slots) (suc k) none a = not-at n slots k (λ t h. none (suc t) h) a.1
 
-none_by : (o : Option ℕ) → ((k : ℕ) → o ≡ Some k → ⊥) → o ≡ None
+pub none_by : (o : Option ℕ) → ((k : ℕ) → o ≡ Some k → ⊥) → o ≡ None
 none_by None h = refl
 none_by (Some k) h = absurd (h k refl)
 
@@ -237,6 +237,13 @@ module _ (places : List (Option ℕ)) (slots : List (Option Interest)) (a : AreI
   slot-of n None e = place-none n e
   slot-of n (Some s) e = place-alone n s e
 
+-- with its only interest out of its slot, none holds one
+pub none-left : (slots : List (Option Interest)) (s n : ℕ) → AloneHolds slots s n → NoneHolds (set slots s None) n
+none-left slots s n a t h = elim (cases_eq t s) [
+  | inl d ↦ none-some _ (sym (ap (slot_at (set slots s None)) d ∙ get_or-set_same slots s None None (holds-within slots s n a.it)) ∙ h.1)
+  | inr d ↦ d (a.alone t (h.0, sym (get_or-set_other slots s t None None d) ∙ h.1))
+]
+
 -- rows that hold the same hold an interest of n, or none, together
 find-held : (slots : List (Option Interest)) (n : ℕ) (k : ℕ) → At (is_of n) (held slots) k → (s : ℕ) × Holds slots s n
 find-held [] n k a = absurd a
@@ -254,6 +261,11 @@ holds-at (Some j ∷ slots) (suc s) n h =
       | inl e ↦ (0, eq-eqb j.descriptor n e)
       | inr e ↦ let r = holds-at slots s n h in (suc r.0, (ne_eqb j.descriptor n e, r.1))
     ]
+
+pub none-held : (slots : List (Option Interest)) (n : ℕ) → position (is_of n) (held slots) ≡ None → NoneHolds slots n
+none-held slots n e s h =
+    let r = holds-at slots s n h in
+    none-some r.0 (sym e ∙ position-from_At (is_of n) (held slots) r.0 r.1)
 
 pub none-kept : (slots rows : List (Option Interest)) (n : ℕ) → held rows ≡ held slots → NoneHolds slots n → NoneHolds rows n
 none-kept slots rows n e none s h =

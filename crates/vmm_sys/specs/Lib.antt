@@ -7,9 +7,10 @@ pub mod Lists
 pub mod Codes
 pub mod ScriptPoller
 pub mod FaultPoller
-pub mod ReadySet
+pub mod NumberSet
 pub mod Row
 pub mod Table
+pub mod ClosedNumbers
 pub mod Interests
 pub mod TablePoller
 pub mod ServiceBound

@@ -6,7 +6,7 @@ use Rattle.vmm_sys.specs.declared.entries.ControlOperation.TheVariants.{Delete}
 use Rattle.vmm_sys.specs.declared.event_set.EventSet.{EventSet}
 use Rattle.vmm_sys.specs.declared.errno.Errno.{Errno}
 use Rattle.vmm_sys.specs.declared.table.interests.Interest.{Interest}
-use Rattle.vmm_sys.specs.Table.{TableState, is_ready, is_of, place_of, chosen, ctl_of, wait_of, write_of, read_of, set_line_of, add_counter_of, add_line_of}
+use Rattle.vmm_sys.specs.Table.{TableState, is_ready, is_of, place_of, chosen, ctl_of, wait_of, write_of, read_of, set_line_of, add_counter_of, add_line_of, close_of}
 
 -- a step of a table: one of its calls, or a call to which memory was refused
 pub data TableStep : Type 0 where
@@ -17,6 +17,7 @@ pub data TableStep : Type 0 where
   SetLine : ℤ → EventSet → TableStep
   AddCounter : ℕ → TableStep
   AddLine : TableStep
+  Close : ℤ → TableStep
   WithoutMemory : TableStep
 
 -- the table that a call leaves: a refused one leaves it as it was
@@ -33,6 +34,7 @@ after t (Read fd) = left_by t (read_of t fd)
 after t (SetLine fd set) = left_by t (set_line_of t fd set)
 after t (AddCounter value) = left_by t (add_counter_of t value)
 after t AddLine = left_by t (add_line_of t)
+after t (Close fd) = left_by t (close_of t fd)
 after t WithoutMemory = t
 
 -- how many interests a step may report
@@ -45,9 +47,10 @@ abbrev pub Reports : ℕ → TableState → TableStep → Type 0
 Reports n t (Wait c) = Any (λ i. is_of n i ≡ true) (chosen t c)
 Reports n t _ = ⊥
 
--- the step is no Delete of the interest of n
+-- the step doesn't take the interest of n out
 abbrev pub Keeps : ℕ → TableStep → Type 0
 Keeps n (Ctl Delete fd event) = fd ≢ pos n
+Keeps n (Close fd) = fd ≢ pos n
 Keeps n _ = Unit {0}
 
 -- where the step is a wait, the interest of n is ready
@@ -55,13 +58,13 @@ abbrev pub IsReadyFor : ℕ → TableState → TableStep → Type 0
 IsReadyFor n t (Wait c) = (i : Interest) × (find (is_of n) t.interests ≡ Some i) × (is_ready t.sources i ≡ true)
 IsReadyFor n t _ = Unit {0}
 
--- from the table t the step leaves u, in which no interest has a later place than before, unless it was deleted or reported; a ready one that a wait doesn't report is further in front by the wait's room
+-- from the table t the step leaves u, in which no interest has a later place than before, unless it was taken out or reported; a ready one that a wait doesn't report is further in front by the wait's room
 abbrev pub MovesForward : TableState → TableStep → TableState → Type 0
 MovesForward t s u =
     (n a : ℕ) → place_of t n ≡ Some a → Keeps n s →
     Reports n t s ⊎ ((b : ℕ) × (place_of u n ≡ Some b) × (b ≤ a) × (IsReadyFor n t s → b + room s ≤ a))
 
--- along a list of steps the interest of n isn't deleted, and is ready at each wait
+-- along a list of steps the interest of n isn't taken out, and is ready at each wait
 abbrev pub StaysReady : ℕ → TableState → List TableStep → Type 0
 StaysReady n t [] = Unit {0}
 StaysReady n t (s ∷ steps) = Keeps n s × IsReadyFor n t s × StaysReady n (after t s) steps

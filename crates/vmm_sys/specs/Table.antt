@@ -1,5 +1,5 @@
 -- The in-process table: what it holds, and what each call answers and leaves.
-use Rattle.std.specs.Prelude.{ℕ, ℤ, pos, negsuc, ◌+◌, ◌<◌, ◌≤◌, ◌≡◌, ◌⊎◌, Bool, false, not, ◌==◌, nat_lt, nat_le, if◌then◌else◌, List, [], ◌∷◌, ◌++◌, length, map, filter, take, drop, remove, slice_get, slice_set, position, Option, Some, None, Result, Ok, Err, IsOk}
+use Rattle.std.specs.Prelude.{ℕ, ℤ, pos, negsuc, ◌+◌, ◌≤◌, ◌≡◌, ◌⊎◌, Bool, true, false, not, ◌==◌, nat_lt, nat_le, if◌then◌else◌, List, [], ◌∷◌, ◌++◌, length, map, filter, take, drop, remove, slice_get, slice_set, position, Option, Some, None, Result, Ok, Err, IsOk}
 use Rattle.std.specs.Int.RustNames.{bit_and, bit_or}
 use Rattle.std.specs.List.{All, count_by}
 use Rattle.vmm_sys.specs.declared.entries.EpollEvent.{EpollEvent}
@@ -9,13 +9,13 @@ use Rattle.vmm_sys.specs.declared.event_set.EventSet.{EventSet}
 use Rattle.vmm_sys.specs.declared.errno.Errno.{Errno}
 use Rattle.vmm_sys.specs.declared.errno.TheConstants.Errno.{EBADF, EINVAL, EEXIST, ENOENT, EAGAIN, EMFILE, ENOMEM}
 use Rattle.vmm_sys.specs.declared.table.Source.{Source}
-use Rattle.vmm_sys.specs.declared.table.Source.TheVariants.{Counter, Line}
+use Rattle.vmm_sys.specs.declared.table.Source.TheVariants.{Counter, Line, Closed}
 use Rattle.vmm_sys.specs.declared.table.interests.Interest.{Interest}
 use Rattle.vmm_sys.specs.EventSet.{bits_of, with_bits}
 use Rattle.vmm_sys.specs.EpollEvent.{event, set_of, word_of}
 use Rattle.vmm_sys.specs.Lists.{without_first}
 
--- what the descriptors stand for, by their numbers; the interests, in the order in which a wait looks at them; how many descriptors may be opened
+-- what the descriptors stand for, by their numbers, closed ones too; the interests, in the order in which a wait looks at them; how many descriptors may be opened
 pub record TableState : Type 0 where
   pub sources : List Source
   pub interests : List Interest
@@ -25,12 +25,28 @@ pub record TableState : Type 0 where
 abbrev pub new_table : TableState
 new_table = record { sources = []; interests = []; limit = 2147483648 }
 
+-- a source of a number that was closed
+abbrev pub is_closed : Source → Bool
+is_closed (Counter value) = false
+is_closed (Line set) = false
+is_closed Closed = true
+
+-- whether what is found at a number is open: it was opened, and not closed since
+abbrev pub is_open : Option Source → Bool
+is_open None = false
+is_open (Some s) = not (is_closed s)
+
+-- descriptor n is open
+abbrev pub IsOpen : List Source → ℕ → Type 0
+IsOpen sources n = is_open (slice_get sources n) ≡ true
+
 -- What an interest reports
 
--- the state of a source: a counter has IN above 0 and OUT below its highest value, 18446744073709551614; a line has what was set
+-- the state of a source: a counter has IN above 0 and OUT below its highest value, 18446744073709551614; a line has what was set; what is closed has nothing
 abbrev pub state_of : Source → ℕ
 state_of (Counter value) = bit_or (if nat_lt 0 value then 0x1 else 0) (if nat_lt value 18446744073709551614 then 0x4 else 0)
 state_of (Line set) = bits_of set
+state_of Closed = 0
 
 -- a number that was never opened has the empty state
 abbrev pub state_at : Option Source → ℕ
@@ -64,10 +80,19 @@ AnswersWithMemory r before result now = Answers r before result now ⊎ MemoryRe
 
 -- Openings
 
-abbrev pub open_of : TableState → Source → Result (ℤ × TableState) Errno
-open_of t s =
+-- the lowest number that was closed
+abbrev pub first_closed : TableState → Option ℕ
+first_closed t = position is_closed t.sources
+
+-- the lowest closed number is given, or else the next one
+abbrev pub open_at : TableState → Source → Option ℕ → Result (ℤ × TableState) Errno
+open_at t s (Some n) = Ok (pos n, record t { sources = slice_set t.sources n s })
+open_at t s None =
     if nat_le t.limit (length t.sources) then Err EMFILE
     else Ok (pos (length t.sources), record t { sources = t.sources ++ s ∷ [] })
+
+abbrev pub open_of : TableState → Source → Result (ℤ × TableState) Errno
+open_of t s = open_at t s (first_closed t)
 
 abbrev pub add_counter_of : TableState → ℕ → Result (ℤ × TableState) Errno
 add_counter_of t value = if value == 18446744073709551615 then Err EINVAL else open_of t (Counter value)
@@ -79,7 +104,7 @@ add_line_of t = open_of t (Line (with_bits 0))
 
 -- the number of an open descriptor
 abbrev pub opened : TableState → ℤ → Option ℕ
-opened t (pos n) = if nat_lt n (length t.sources) then Some n else None
+opened t (pos n) = if is_open (slice_get t.sources n) then Some n else None
 opened t (negsuc n) = None
 
 -- whether an interest is of this descriptor
@@ -115,6 +140,21 @@ ctl_at t op (Some n) e = if has_mode op e then Err EINVAL else changed t op (rec
 abbrev pub ctl_of : TableState → ControlOperation → ℤ → EpollEvent → Result (Unit {0} × TableState) Errno
 ctl_of t op fd e = ctl_at t op (opened t fd) e
 
+-- Closings
+
+-- the interests without the one at a place
+abbrev pub without : List Interest → Option ℕ → List Interest
+without interests None = interests
+without interests (Some k) = remove interests k
+
+-- the descriptor is closed, and its interest is gone
+abbrev pub close_at : TableState → Option ℕ → Result (Unit {0} × TableState) Errno
+close_at t None = Err EBADF
+close_at t (Some n) = Ok (tt, record t { sources = slice_set t.sources n Closed; interests = without t.interests (place_of t n) })
+
+abbrev pub close_of : TableState → ℤ → Result (Unit {0} × TableState) Errno
+close_of t fd = close_at t (opened t fd)
+
 -- Reads, writes and settings
 
 -- the source of a descriptor
@@ -132,6 +172,7 @@ write_to t fd value (Some (Counter held)) =
     else if nat_lt 18446744073709551614 (held + value) then Err EAGAIN
     else Ok (tt, with_source t fd (Counter (held + value)))
 write_to t fd value (Some (Line set)) = Err EBADF
+write_to t fd value (Some Closed) = Err EBADF
 write_to t fd value None = Err EBADF
 
 abbrev pub write_of : TableState → ℤ → ℕ → Result (Unit {0} × TableState) Errno
@@ -140,6 +181,7 @@ write_of t fd value = write_to t fd value (source_of t fd)
 abbrev pub read_from : TableState → ℤ → Option Source → Result (ℕ × TableState) Errno
 read_from t fd (Some (Counter held)) = if held == 0 then Err EAGAIN else Ok (held, with_source t fd (Counter 0))
 read_from t fd (Some (Line set)) = Err EBADF
+read_from t fd (Some Closed) = Err EBADF
 read_from t fd None = Err EBADF
 
 abbrev pub read_of : TableState → ℤ → Result (ℕ × TableState) Errno
@@ -148,6 +190,7 @@ read_of t fd = read_from t fd (source_of t fd)
 abbrev pub set_at : TableState → ℤ → EventSet → Option Source → Result (Unit {0} × TableState) Errno
 set_at t fd set (Some (Counter held)) = Err EBADF
 set_at t fd set (Some (Line old)) = Ok (tt, with_source t fd (Line set))
+set_at t fd set (Some Closed) = Err EBADF
 set_at t fd set None = Err EBADF
 
 abbrev pub set_line_of : TableState → ℤ → EventSet → Result (Unit {0} × TableState) Errno
@@ -196,10 +239,11 @@ filled r buffer = reported_entries r ++ drop (length (reported_entries r)) buffe
 abbrev pub HasAllowedValue : Source → Type 0
 HasAllowedValue (Counter value) = value ≤ 18446744073709551614
 HasAllowedValue (Line set) = Unit {0}
+HasAllowedValue Closed = Unit {0}
 
 -- each table that calls have made: its counters have allowed values; its interests are of open descriptors, one of each at most, and without modes
 pub record IsReachable (t : TableState) : Type 0 where
   pub values : All HasAllowedValue t.sources
-  pub descriptors : All (λ i. i.descriptor < length t.sources) t.interests
+  pub descriptors : All (λ i. IsOpen t.sources i.descriptor) t.interests
   pub one_each : (n : ℕ) → count_by (is_of n) t.interests ≤ 1
   pub without_modes : All (λ i. has_mode Add i.event ≡ false) t.interests

@@ -33,6 +33,12 @@ pub trait Counter: AsRawFd + Bell {
     /// Takes the value, how often it was rung, so that it isn't ready until the next ring.
     fn clear<R: Wait + Clock>(&self, rt: &R) -> std::result::Result<u64, Errno>
         ensures { clears self.now result };
+
+    /// Gives it up: by its drop, unless it says otherwise.
+    fn close<R: Wait>(self, _rt: &R)
+    where
+        Self: Sized + Drop,
+    {}
 }
 
 /// Rings by writing 1: `EAGAIN` where the value is 18446744073709551614.
@@ -50,5 +56,9 @@ impl Counter for EventFd {
 
     fn clear<R: Wait + Clock>(&self, rt: &R) -> std::result::Result<u64, Errno> {
         self.read(rt)
+    }
+
+    fn close<R: Wait>(self, rt: &R) {
+        EventFd::close(self, rt);
     }
 }

@@ -1,11 +1,12 @@
 //! A counter of a shared table.
 
-ghost use Rattle.std.specs.Prelude.{◌≡◌, ◌≤ℤ◌, pos, IsErr, IfErr, IfOk};
+ghost use Rattle.std.specs.Prelude.{◌≡◌, IsErr, IfErr, IfOk};
 
+use crate::description::{self, Handle, another_handle, first_handle};
 use crate::descriptors::{AsRawFd, RawFd};
 use crate::epoll::Epoll;
 use crate::errno::Errno;
-use crate::shared_table::{TableOwner, another_owner};
+use crate::shared_table::another_owner;
 use std::sync::Wait;
 
 /// A counter in the table of an [`Epoll`], with values from 0 to 18446744073709551614.
@@ -14,13 +15,12 @@ use std::sync::Wait;
 /// table, under its lock.
 ///
 /// Its descriptor is a number of this table: a poller over another table takes it for its own
-/// descriptor of that number. A counter that is dropped stays open: where it is registered it is
-/// still reported, and its number and its memory never come back.
+/// descriptor of that number. It is open until the last of its handles, the copies among them, is
+/// [closed](EventFd::close). One that is only dropped stays open: where it is registered it is still
+/// reported, and its number and its memory never come back.
 #[derive(Drop)]
 pub struct EventFd {
-    table: TableOwner,
-    fd: RawFd,
-    ghost from_0_up: { pos 0 ≤ℤ fd },
+    handle: Handle,
 }
 
 impl EventFd {
@@ -30,32 +30,38 @@ impl EventFd {
 
     /// Opens a counter of this value: a number, and not flags as in `vmm-sys-util`.
     ///
-    /// `EINVAL`: the value is 18446744073709551615. `EMFILE`: the table gave number 2147483647.
-    /// `ENOMEM`: memory, or one more owner of the table, was refused. A refused call opens nothing.
+    /// `EINVAL`: the value is 18446744073709551615. `EMFILE`: 2147483648 are open in the table. `ENOMEM`: memory, or one more owner of the table, was refused. A refused call opens nothing.
     pub fn new<R: Wait>(epoll: &Epoll<R>, value: u64, rt: &R) -> Result<EventFd, Errno>
         ensures too_high { value ≡ 18446744073709551615 → IsErr result }
         ensures errors { IfErr result (IsOpeningError value) }
     {
         let table = another_owner(&epoll.table)?;
         let fd = table.add_counter(value, rt)?;
-        Ok(EventFd { table, fd })
+        let handle = first_handle(table, fd, rt)?;
+        Ok(EventFd { handle })
     }
 
-    /// Another handle on the same counter. `ENOMEM`: one more owner of the table was refused; then
-    /// nothing changed.
+    /// Another handle on the same counter. `ENOMEM`: the `Arc` refused a copy; then nothing changed.
     pub fn try_clone(&self) -> Result<EventFd, Errno>
         ensures same_descriptor { IfOk result (λ other. descriptor_of other ≡ descriptor_of self.now) }
         ensures errors { IfErr result (λ e. e ≡ Errno.ENOMEM) }
     {
-        let table = another_owner(&self.table)?;
-        Ok(EventFd { table, fd: self.fd })
+        let handle = another_handle(&self.handle)?;
+        Ok(EventFd { handle })
+    }
+
+    /// Gives this handle up. With the last handle on a counter its descriptor is closed, as
+    /// [`Table::close`](crate::table::Table::close) does it: its interest is gone, and its number may
+    /// be given to what is opened next. So remove a counter from a manager before you close it.
+    pub fn close<R: Wait>(self, rt: &R) {
+        description::close(self.handle, rt);
     }
 
     /// Takes the value, which is then 0. `EAGAIN`: it is 0.
     pub fn read<R: Wait>(&self, rt: &R) -> Result<u64, Errno>
         ensures { AnswersOfSome (λ t. read_of t (descriptor_of self.now)) result }
     {
-        self.table.read(self.fd, rt)
+        self.handle.table.read(self.handle.fd, rt)
     }
 
     /// Adds to the value; `value` may be 0.
@@ -65,7 +71,7 @@ impl EventFd {
     pub fn write<R: Wait>(&self, value: u64, rt: &R) -> Result<(), Errno>
         ensures { AnswersOfSome (λ t. write_of t (descriptor_of self.now) value) result }
     {
-        self.table.write(self.fd, value, rt)
+        self.handle.table.write(self.handle.fd, value, rt)
     }
 }
 
@@ -75,6 +81,6 @@ impl AsRawFd for EventFd {
     ghost descriptor = { descriptor_of };
 
     fn as_raw_fd(&self) -> RawFd {
-        self.fd
+        self.handle.fd
     }
 }

@@ -9,6 +9,7 @@
 #![tactic(auto)]
 
 pub mod counter;
+mod description;
 mod descriptors;
 mod entries;
 pub mod epoll;

@@ -1,12 +1,13 @@
 //! A line of a shared table.
 
-ghost use Rattle.std.specs.Prelude.{◌≡◌, ◌≤ℤ◌, pos, IfErr, IfOk};
+ghost use Rattle.std.specs.Prelude.{◌≡◌, IfErr, IfOk};
 
+use crate::description::{self, Handle, another_handle, first_handle};
 use crate::descriptors::{AsRawFd, RawFd};
 use crate::epoll::Epoll;
 use crate::errno::Errno;
 use crate::event_set::EventSet;
-use crate::shared_table::{TableOwner, another_owner};
+use crate::shared_table::another_owner;
 use std::sync::Wait;
 
 /// A descriptor in the table of an [`Epoll`] whose state is set; it stands in for a socket or a
@@ -16,9 +17,7 @@ use std::sync::Wait;
 /// dropped, holds what is said of an [`EventFd`](crate::eventfd::EventFd).
 #[derive(Drop)]
 pub struct Line {
-    table: TableOwner,
-    fd: RawFd,
-    ghost from_0_up: { pos 0 ≤ℤ fd },
+    handle: Handle,
 }
 
 impl Line {
@@ -28,24 +27,29 @@ impl Line {
 
     /// Opens a line with the empty set.
     ///
-    /// `EMFILE`: the table gave number 2147483647. `ENOMEM`: memory, or one more owner of the
+    /// `EMFILE`: 2147483648 are open in the table. `ENOMEM`: memory, or one more owner of the
     /// table, was refused. A refused call opens nothing.
     pub fn new<R: Wait>(epoll: &Epoll<R>, rt: &R) -> Result<Line, Errno>
         ensures { IfErr result IsOpeningError }
     {
         let table = another_owner(&epoll.table)?;
         let fd = table.add_line(rt)?;
-        Ok(Line { table, fd })
+        let handle = first_handle(table, fd, rt)?;
+        Ok(Line { handle })
     }
 
-    /// Another handle on the same line. `ENOMEM`: one more owner of the table was refused; then
-    /// nothing changed.
+    /// Another handle on the same line. `ENOMEM`: the `Arc` refused a copy; then nothing changed.
     pub fn try_clone(&self) -> Result<Line, Errno>
         ensures same_descriptor { IfOk result (λ other. descriptor_of other ≡ descriptor_of self.now) }
         ensures errors { IfErr result (λ e. e ≡ Errno.ENOMEM) }
     {
-        let table = another_owner(&self.table)?;
-        Ok(Line { table, fd: self.fd })
+        let handle = another_handle(&self.handle)?;
+        Ok(Line { handle })
+    }
+
+    /// As [`EventFd::close`](crate::eventfd::EventFd::close).
+    pub fn close<R: Wait>(self, rt: &R) {
+        description::close(self.handle, rt);
     }
 
     /// Sets the state. The table's one refusal, `EBADF` for what is no line, is never met by the
@@ -53,7 +57,7 @@ impl Line {
     pub fn set<R: Wait>(&self, set: EventSet, rt: &R) -> Result<(), Errno>
         ensures { AnswersOfSome (λ t. set_line_of t (descriptor_of self.now) set) result }
     {
-        self.table.set_line(self.fd, set, rt)
+        self.handle.table.set_line(self.handle.fd, set, rt)
     }
 }
 
@@ -63,6 +67,6 @@ impl AsRawFd for Line {
     ghost descriptor = { descriptor_of };
 
     fn as_raw_fd(&self) -> RawFd {
-        self.fd
+        self.handle.fd
     }
 }

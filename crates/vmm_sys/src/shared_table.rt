@@ -2,7 +2,7 @@
 
 ghost use Rattle.std.specs.Prelude.{◌≡◌, ◌≤◌, ◌<◌, ◌≤ℤ◌, pos, length, IfOk, IsOkUnless};
 ghost use Rattle.vmm_sys.specs.Poller.{reported};
-ghost use Rattle.vmm_sys.specs.Table.{write_of, read_of, set_line_of, add_counter_of, add_line_of};
+ghost use Rattle.vmm_sys.specs.Table.{write_of, read_of, set_line_of, add_counter_of, add_line_of, close_of};
 ghost use Rattle.vmm_sys.specs.SharedTable.{AnswersOfSome, AnswersOfSomeWithMemory, Changed, Waited};
 
 use crate::descriptors::RawFd;
@@ -18,6 +18,7 @@ use std::time::{Clock, Duration};
 pub(crate) struct SharedTable {
     table: Mutex<Table>,
     changed: Condvar,
+    pub(crate) alloc: Global,
 }
 
 // Not derived: then who owns one has a call to prove, and not a drop of all that is in it.
@@ -26,6 +27,7 @@ impl Drop for SharedTable {
         let SharedTable {
             table: _,
             changed: _,
+            alloc: _,
         } = self;
     }
 }
@@ -40,6 +42,7 @@ pub(crate) fn new_table(alloc: Global) -> Result<TableOwner, Errno>
     let shared = SharedTable {
         table: Mutex::new(Table::new(alloc)),
         changed: Condvar::new(),
+        alloc,
     };
     match Arc::new(alloc, shared) {
         Ok(owner) => Ok(owner),
@@ -81,6 +84,12 @@ impl SharedTable {
         let answer = self.table.lock(rt).add_line();
         self.tell(&answer);
         answer
+    }
+
+    pub(crate) fn close<R: Wait>(&self, fd: RawFd, rt: &R) -> Result<(), Errno>
+        ensures { AnswersOfSome (λ t. close_of t fd) result }
+    {
+        self.table.lock(rt).close(fd)
     }
 
     pub(crate) fn ctl<R: Wait>(

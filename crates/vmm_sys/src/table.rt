@@ -1,15 +1,17 @@
 //! The in-process table: counters and lines, and a list of interests in them.
 
-ghost use Rattle.std.specs.Prelude.{false, ◌≡◌, ◌≢◌, ◌<◌, ◌≤◌, ◌+◌, ◌-◌, ◌^◌, List, length, ◌++◌, ◌∷◌, take, drop, filter, find, map, slice_get, slice_set, ℕ, Bool, Some, None, IsSome, is_some};
+ghost use Rattle.std.specs.Prelude.{false, true, not, ◌≡◌, ◌≢◌, ◌<◌, ◌≤◌, ◌+◌, ◌-◌, ◌^◌, List, length, ◌++◌, ◌∷◌, take, drop, filter, find, map, slice_get, slice_set, ℕ, Bool, Some, None, IsSome, IfSome, is_some};
+ghost use Rattle.std.specs.List.{All};
 ghost use Rattle.vmm_sys.specs.EventSet.{bits_of};
-ghost use Rattle.vmm_sys.specs.Table.{new_table, state_of, state_at, is_ready, entry_of as entry_in, opened, source_of as source_in, with_source, place_of as place_in, changed, has_mode, Answers, AnswersWithMemory, IsReachable, HasAllowedValue, ctl_of, wait_of, write_of, read_of, set_line_of, open_of, add_counter_of, add_line_of, filled, counted, chosen, moved_back, first_ready, first_ready_last};
+ghost use Rattle.vmm_sys.specs.Table.{new_table, state_of, state_at, is_ready, entry_of as entry_in, opened, source_of as source_in, with_source, place_of as place_in, changed, has_mode, Answers, AnswersWithMemory, IsReachable, HasAllowedValue, IsOpen, is_open, is_closed, first_closed, without, close_of, ctl_of, wait_of, write_of, read_of, set_line_of, open_of, add_counter_of, add_line_of, filled, counted, chosen, moved_back, first_ready, first_ready_last};
 ghost use Rattle.vmm_sys.specs.Lists.{held};
 ghost use Rattle.vmm_sys.specs.Interests.{slot_at, Holds, AreMarked, AgreeBut};
-ghost use Rattle.vmm_sys.specs.ServiceBound.{Ctl, Wait, MovesForward, EachStepMovesForward, ReportedWithinRooms, ReportedWithinWaits};
+ghost use Rattle.vmm_sys.specs.declared.table.Source.TheVariants.{Closed};
+ghost use Rattle.vmm_sys.specs.ServiceBound.{Ctl, Wait, Close, MovesForward, EachStepMovesForward, ReportedWithinRooms, ReportedWithinWaits};
 ghost use Rattle.vmm_sys.specs.TablePoller.{table_code, MayCtl, MayWait};
 
 mod interests;
-mod ready_set;
+mod number_set;
 
 use crate::descriptors::RawFd;
 use crate::entries::{ControlOperation, EpollEvent};
@@ -18,6 +20,7 @@ use crate::event_set::EventSet;
 use crate::poller::Poller;
 pub use interests::Interest;
 use interests::Interests;
+use number_set::NumberSet;
 use std::alloc::Global;
 use std::marker::Model;
 
@@ -34,6 +37,8 @@ pub enum Source {
     Counter(u64),
     /// A set of events that is set.
     Line(EventSet),
+    /// Nothing: the number was closed.
+    Closed,
 }
 
 impl Source {
@@ -55,14 +60,25 @@ impl Source {
                 read.union(write)
             }
             Source::Line(set) => set,
+            Source::Closed => EventSet::empty(),
+        }
+    }
+
+    fn is_open(&self) -> bool
+        ensures { result ≡ not (is_closed self.now) }
+    {
+        match self {
+            Source::Counter(_) => true,
+            Source::Line(_) => true,
+            Source::Closed => false,
         }
     }
 }
 
-/// Descriptors, numbered from 0 in the order of opening, and a list of interests in them; it stands
-/// in for `epoll`.
+/// Descriptors, and a list of interests in them; it stands in for `epoll`.
 ///
-/// A descriptor is a counter or a line, and is never closed. The state of a counter is `IN` where
+/// A descriptor is a counter or a line. Its number is the lowest that isn't open, as POSIX has it:
+/// so from 0 in the order of opening, as long as nothing is closed. The state of a counter is `IN` where
 /// its value is above 0 and `OUT` where it is below 18446744073709551614; that of a line is the set
 /// last given to [`Table::set_line`], at first the empty one. With a descriptor comes the room for
 /// its interest, which is found, moved and taken out without a look at the others, but that once in
@@ -77,6 +93,8 @@ impl Source {
 /// list is answered.
 pub struct Table {
     sources: Vec<Source>,
+    // Their numbers, of those that were closed.
+    closed: NumberSet,
     interests: Interests,
     limit: usize,
 }
@@ -86,6 +104,7 @@ impl Drop for Table {
     fn drop(self) {
         let Table {
             sources: _,
+            closed: _,
             interests: _,
             limit: _,
         } = self;
@@ -96,6 +115,7 @@ impl Model for Table {
     ghost use Rattle.std.specs.Prelude.{◌≡◌, ◌≤◌, ◌^◌, length};
     ghost use Rattle.vmm_sys.specs.Lists.{held};
     ghost use Rattle.vmm_sys.specs.Table.{TableState, IsReachable, is_ready};
+    ghost use Rattle.vmm_sys.specs.ClosedNumbers.{AreMarkedClosed};
     ghost use Rattle.vmm_sys.specs.Interests.{AreMarked};
 
     ghost Value = { TableState };
@@ -103,31 +123,73 @@ impl Model for Table {
     ghost view = { λ t. record { sources = t.sources.items; interests = held t.interests.slots; limit = t.limit } };
 
     ghost invariant = { λ t. (t.limit ≤ 2 ^ 31) × (t.interests.room ≡ length t.sources.items) × AreMarked (is_ready t.sources.items) t.interests
-        × IsReachable (record { sources = t.sources.items; interests = held t.interests.slots; limit = t.limit }) };
+        × IsReachable (record { sources = t.sources.items; interests = held t.interests.slots; limit = t.limit })
+        × (length t.sources.items ≤ t.limit) × (length t.sources.items ≤ length t.closed) × AreMarkedClosed t.sources.items t.closed };
 }
 
 impl Table {
-    /// A table without descriptors, which may open 2147483648.
+    /// A table without descriptors, of which 2147483648 may be open.
     pub fn new(alloc: Global) -> Table
         ensures { result ≡ new_table }
     {
         Table {
             sources: Vec::new(alloc),
+            closed: NumberSet::new(alloc),
             interests: Interests::new(alloc),
             limit: DESCRIPTORS,
         }
     }
 
     fn open(&mut self, source: Source) -> Result<RawFd, Errno>
-        requires { HasAllowedValue source }
+        requires value { HasAllowedValue source }
+        requires open { is_closed source ≡ false }
+        ensures answer { AnswersWithMemory (open_of self.old source) self.old result self.new }
+        ensures again { IsSome (first_closed self.old) → Answers (open_of self.old source) self.old result self.new }
+    {
+        if let Some(number) = self.first_closed() {
+            self.open_again(number, source);
+            return Ok(number as RawFd);
+        }
+        self.open_next(source)
+    }
+
+    // The lowest number that was closed.
+    fn first_closed(&mut self) -> Option<usize>
+        ensures same { self.new ≡ self.old }
+        ensures first { result ≡ first_closed self.old }
+        ensures below { IfSome result (λ n. n < 2 ^ 31) }
+    {
+        self.closed.first()
+    }
+
+    // Opens a number that was closed.
+    fn open_again(&mut self, number: usize, source: Source)
+        requires closed { first_closed self.old ≡ Some number }
+        requires value { HasAllowedValue source }
+        requires open { is_closed source ≡ false }
+        ensures { self.new ≡ record self.old { sources = slice_set self.old.sources number source } }
+    {
+        // It has no interest, so none is marked anew.
+        self.sources[number] = source;
+        self.closed.remove(number);
+    }
+
+    // Opens the number behind all others.
+    fn open_next(&mut self, source: Source) -> Result<RawFd, Errno>
+        requires none { first_closed self.old ≡ None }
+        requires value { HasAllowedValue source }
+        requires open { is_closed source ≡ false }
         ensures { AnswersWithMemory (open_of self.old source) self.old result self.new }
     {
         let number = self.sources.len();
         if number >= self.limit {
             return Err(Errno::EMFILE);
         }
-        // With the room for its interest an `Add` takes no memory.
+        // With the room for its interest an `Add` takes no memory, and with that for its mark a close takes none.
         if self.sources.reserve(1).is_err() {
+            return Err(Errno::ENOMEM);
+        }
+        if self.closed.make_room(number + 1).is_err() {
             return Err(Errno::ENOMEM);
         }
         if self.interests.make_room().is_err() {
@@ -139,10 +201,11 @@ impl Table {
 
     /// Opens a counter of this value; the answer is its descriptor.
     ///
-    /// `EINVAL`: the value is 18446744073709551615. `EMFILE`: number 2147483647 was given.
-    /// `ENOMEM`: memory was refused.
+    /// `EINVAL`: the value is 18446744073709551615. `EMFILE`: 2147483648 are open. `ENOMEM`: memory
+    /// was refused, of which none is requested where a number was closed.
     pub fn add_counter(&mut self, value: u64) -> Result<RawFd, Errno>
-        ensures { AnswersWithMemory (add_counter_of self.old value) self.old result self.new }
+        ensures answer { AnswersWithMemory (add_counter_of self.old value) self.old result self.new }
+        ensures again { IsSome (first_closed self.old) → Answers (add_counter_of self.old value) self.old result self.new }
     {
         if value == u64::MAX {
             return Err(Errno::EINVAL);
@@ -152,17 +215,57 @@ impl Table {
 
     /// Opens a line with the empty set; the answer is its descriptor.
     ///
-    /// `EMFILE`: number 2147483647 was given. `ENOMEM`: memory was refused.
+    /// `EMFILE`, `ENOMEM`: as of [`Table::add_counter`].
     pub fn add_line(&mut self) -> Result<RawFd, Errno>
-        ensures { AnswersWithMemory (add_line_of self.old) self.old result self.new }
+        ensures answer { AnswersWithMemory (add_line_of self.old) self.old result self.new }
+        ensures again { IsSome (first_closed self.old) → Answers (add_line_of self.old) self.old result self.new }
     {
         self.open(Source::Line(EventSet::empty()))
+    }
+
+    /// Closes a descriptor, and takes its interest out. Its number is then given once more, unless a
+    /// lower one isn't open. No memory is requested.
+    ///
+    /// `EBADF`: `fd` isn't open.
+    pub fn close(&mut self, fd: RawFd) -> Result<(), Errno>
+        ensures reachable { IsReachable self.old }
+        ensures answer { Answers (close_of self.old fd) self.old result self.new }
+        ensures forward { MovesForward self.old (Close fd) self.new }
+    {
+        self.stays_reachable();
+        let Some(number) = self.descriptor(fd) else {
+            return Err(Errno::EBADF);
+        };
+        self.take_out(number);
+        self.mark_closed(number);
+        Ok(())
+    }
+
+    // Takes out the interest of a descriptor, where it has one.
+    fn take_out(&mut self, number: usize)
+        requires { number < length self.old.sources }
+        ensures left { self.new ≡ record self.old { interests = without self.old.interests (place_in self.old number) } }
+        ensures gone { place_in self.new number ≡ None }
+    {
+        if let Some(slot) = self.interests.slot_of(number) {
+            self.interests.remove(slot, number);
+        }
+    }
+
+    // Closes a descriptor without an interest.
+    fn mark_closed(&mut self, number: usize)
+        requires open { IsOpen self.old.sources number }
+        requires without_interest { place_in self.old number ≡ None }
+        ensures { self.new ≡ record self.old { sources = slice_set self.old.sources number Closed } }
+    {
+        self.sources[number] = Source::Closed;
+        self.closed.insert(number);
     }
 
     /// Puts an interest in as the last one, changes it at its place, or takes it out. For `Delete`
     /// the event is without effect.
     ///
-    /// `EBADF`: `fd` was never opened. `EINVAL`: `Add` or `Modify` of an event with one of the four
+    /// `EBADF`: `fd` isn't open. `EINVAL`: `Add` or `Modify` of an event with one of the four
     /// modes. `EEXIST`: `Add` where `fd` has an interest. `ENOENT`: `Modify` or `Delete` where it
     /// has none. No memory is requested.
     #[inline(always)]
@@ -190,6 +293,7 @@ impl Table {
         ensures reachable { IsReachable self.old }
         ensures answer { Answers (counted (wait_of self.old (length buffer.old))) self.old result self.new }
         ensures entries { buffer.new ≡ filled (wait_of self.old (length buffer.old)) buffer.old }
+        ensures open { All (λ i. IsOpen self.old.sources i.descriptor) (chosen self.old (length buffer.old)) }
         ensures forward { MovesForward self.old (Wait (length buffer.old)) self.new }
     {
         self.stays_reachable();
@@ -285,17 +389,19 @@ impl Table {
     }
 
     // The number of an open descriptor.
+    #[inline(always)]
     fn descriptor(&self, fd: RawFd) -> Option<usize>
-        ensures { result ≡ opened self.now fd }
+        ensures number { result ≡ opened self.now fd }
+        ensures open { IfSome result (λ n. IsOpen self.now.sources n) }
+        ensures there { IfSome result (λ n. n < length self.now.sources) }
     {
         if fd < 0 {
             return None;
         }
         let number = fd as usize;
-        if number < self.sources.len() {
-            Some(number)
-        } else {
-            None
+        match self.sources.get(number) {
+            Some(source) if source.is_open() => Some(number),
+            _ => None,
         }
     }
 
@@ -310,8 +416,9 @@ impl Table {
 
     #[inline(always)]
     fn replace(&mut self, fd: RawFd, source: Source)
-        requires there { IsSome (source_in self.old fd) }
+        requires there { is_open (source_in self.old fd) ≡ true }
         requires value { HasAllowedValue source }
+        requires open { is_closed source ≡ false }
         ensures { self.new ≡ with_source self.old fd source }
     {
         if fd >= 0 {
@@ -319,11 +426,12 @@ impl Table {
         }
     }
 
-    // Replaces the source of a descriptor; where its state changes, its interest is marked anew.
+    // Replaces the source of an open descriptor; where its state changes, its interest is marked anew.
     #[inline(always)]
     fn set_source(&mut self, number: usize, source: Source)
-        requires there { number < length self.old.sources }
+        requires there { IsOpen self.old.sources number }
         requires value { HasAllowedValue source }
+        requires open { is_closed source ≡ false }
         ensures { self.new ≡ record self.old { sources = slice_set self.old.sources number source } }
     {
         let before = self.sources[number].state();
@@ -336,6 +444,7 @@ impl Table {
     #[inline(always)]
     fn change(&mut self, op: ControlOperation, interest: Interest) -> Result<(), Errno>
         requires there { interest.descriptor < length self.old.sources }
+        requires open { IsOpen self.old.sources interest.descriptor }
         requires without_mode { has_mode op interest.event ≡ false }
         ensures { Answers (changed self.old op interest (place_in self.old interest.descriptor)) self.old result self.new }
     {
@@ -531,9 +640,9 @@ fn report_and_move(
 
 /// States how long an interest of a [`Table`] may have to wait for its report; it does nothing.
 ///
-/// No call gives an interest a later place, unless it deletes or reports it, and a wait that
+/// No call gives an interest a later place, unless it takes it out or reports it, and a wait that
 /// doesn't report a ready one moves it forward by the length of its buffer. So an interest with `a`
-/// others before it that isn't deleted and is ready at each of the waits is reported by the time
+/// others before it that isn't taken out, by a `Delete` or a close, and is ready at each of the waits is reported by the time
 /// the lengths of the buffers add up to more than `a`; with buffers of one length `c` above 0, in
 /// one of the first `a / c + 1` waits. It holds of any list of calls, refused ones included.
 pub fn service_bound()

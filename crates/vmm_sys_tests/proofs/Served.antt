@@ -15,8 +15,8 @@ use Rattle.vmm_sys.specs.Poller.{reported}
 use Rattle.vmm_sys.specs.ServiceBound.{Wait, IsReadyFor, Reports, EachStepMovesForward, ReportedWithinRooms, after, left_by}
 use Rattle.vmm_sys.specs.Table.{TableState, Answers, chosen, counted, entry_of, filled, is_of, is_ready, moved_back, wait_of}
 use Rattle.vmm_sys.proofs.Firsts.{find-from_position}
-use Rattle.vmm_sys.proofs.Places.{At, At-from_position, position-from_At}
-use Rattle.vmm_sys.proofs.Reachable.{at-passes, moved-permutation}
+use Rattle.vmm_sys.proofs.Places.{At, At-from_position, position-from_At, at-passes}
+use Rattle.vmm_sys.proofs.Reachable.{moved-permutation}
 
 -- where one passes at most
 module _ {A : Type 0} (p : A → Bool) where

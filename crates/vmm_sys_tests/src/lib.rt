@@ -4,6 +4,8 @@
 
 pub mod by_laws;
 #[cfg(test)]
+mod closings;
+#[cfg(test)]
 mod event_sets;
 #[cfg(test)]
 mod expecting;
@@ -17,6 +19,8 @@ mod lawful;
 mod missed;
 #[cfg(test)]
 mod random_calls;
+#[cfg(test)]
+mod random_closings;
 #[cfg(test)]
 mod shared_table;
 #[cfg(test)]

@@ -3,9 +3,9 @@
 ghost use Rattle.std.specs.Prelude.{◌≡◌, ◌≢◌, ◌<◌, ◌≤◌, ◌+◌, ◌*◌, ◌^◌, ◌++◌, ◌∷◌, [], ℕ, Bool, true, false, length, map, slice_index_or, slice_set, Some, None, IsSome, IsTrue, IfSome, MatchOption, OnOk, OnErr};
 ghost use Rattle.vmm_sys.specs.Lists.{held};
 ghost use Rattle.vmm_sys.specs.Interests.{slot_at, place_at, Holds, NoneHolds, AloneHolds, AreMarked, AreMarkedBut};
-ghost use Rattle.vmm_sys.specs.ReadySet.{IsMarked, IsFirstFrom, NoneFrom};
+ghost use Rattle.vmm_sys.specs.NumberSet.{IsMarked, IsFirstFrom, NoneFrom};
 
-use super::ready_set::ReadySet;
+use super::number_set::NumberSet;
 use crate::entries::EpollEvent;
 use std::alloc::{AllocError, Global};
 use std::marker::Model;
@@ -28,7 +28,7 @@ pub struct Interest {
 pub(super) struct Interests {
     slots: Vec<Option<Interest>>,
     places: Vec<Option<usize>>,
-    ready: ReadySet,
+    ready: NumberSet,
 }
 
 impl Model for Interests {
@@ -50,7 +50,7 @@ impl Interests {
         Interests {
             slots: Vec::new(alloc),
             places: Vec::new(alloc),
-            ready: ReadySet::new(alloc),
+            ready: NumberSet::new(alloc),
         }
     }
 
@@ -314,7 +314,7 @@ fn set_event(held: &mut Option<Interest>, interest: Interest)
 
 // Takes the mark of one number for another, or the lack of one.
 #[inline(always)]
-fn move_mark(ready: &mut ReadySet, from: usize, to: usize)
+fn move_mark(ready: &mut NumberSet, from: usize, to: usize)
     requires from { from < length ready.old }
     requires to { to < length ready.old }
     ensures length { length ready.new ≡ length ready.old }

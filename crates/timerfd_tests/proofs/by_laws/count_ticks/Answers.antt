@@ -1,12 +1,12 @@
 use Rattle.std.proofs.Common.{◌≡◌, rules, refl, sym, ◌∙◌, zero-add, None, arith}
-use Rattle.timerfd.specs.Timer.{armed, expired}
+use Rattle.timerfd.specs.Timer.{armed, disarmed, expired}
 use Rattle.timerfd_tests.proofs.by_laws.count_ticks.Goals as goal
 
 pub returns : goal.returns
 returns c =
     let now = c.args.now in
     let due = c.args.due in
-    let timer = armed due c.args.interval in
+    let timer = armed due c.args.interval disarmed in
     let count : c.unwrap_or.result ≡ (expired now timer).expirations = search rules in
     let next : c.timer-next.result.due ≡ (expired now timer).due = search rules in
     record {

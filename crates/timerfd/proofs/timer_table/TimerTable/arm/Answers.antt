@@ -1,5 +1,6 @@
 use Rattle.std.proofs.Common.{refl, false}
 use Rattle.timerfd.specs.Timer.{armed}
+use Rattle.timerfd.specs.Timers.{timer_at}
 use Rattle.timerfd.proofs.Lines.{all_lines, tied_put}
 use Rattle.timerfd.proofs.timer_table.TimerTable.arm.Goals as goal
 
@@ -7,4 +8,4 @@ pub set_ready-requires-clause-lines : goal.set_ready-requires-clause-lines
 set_ready-requires-clause-lines c = all_lines c.self.inside.timers c.self.inside.table c.self.invariant
 
 pub invariant_of-self : goal.invariant_of-self
-invariant_of-self c = tied_put c.self.inside.timers c.self.inside.table c.self.invariant c.args.index (armed c.args.due c.args.interval) false c.arm.new.self c.set_ready.new.table refl c.arm.ensures c.set_ready.ensures
+invariant_of-self c = tied_put c.self.inside.timers c.self.inside.table c.self.invariant c.args.index (armed c.args.due c.args.interval (timer_at c.self.inside.timers.timers c.args.index)) false c.arm.new.self c.set_ready.new.table refl refl c.arm.ensures c.set_ready.ensures

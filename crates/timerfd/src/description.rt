@@ -1,0 +1,62 @@
+//! What the copies of a timer share: it is open until the last of them is closed.
+
+ghost use Rattle.std.specs.Prelude.{◌≡◌, ◌<◌, ◌-◌, ◌≤ℤ◌, ◌^◌, pos, IfOk, IfErr};
+ghost use Rattle.std.specs.Arc.{arc_value};
+
+use crate::shared::Shared;
+use std::sync::{Arc, Wait};
+use vmm_sys::epoll::RawFd;
+use vmm_sys::errno::Errno;
+
+/// A timer of a poller.
+#[derive(Drop)]
+pub(crate) struct Description<C> {
+    pub(crate) timers: Arc<Shared<C>>,
+    pub(crate) fd: RawFd,
+    ghost from_0_up: { pos 0 ≤ℤ fd },
+}
+
+/// Another owner of the same. `ENOMEM`: the `Arc` refused a copy.
+pub(crate) fn another_owner<T>(owner: &Arc<T>) -> Result<Arc<T>, Errno>
+    ensures same { IfOk result (λ other. arc_value other ≡ arc_value owner.now) }
+    ensures errors { IfErr result (λ e. e ≡ Errno.ENOMEM) }
+{
+    Arc::try_clone(owner).map_err(|_| Errno::ENOMEM)
+}
+
+impl<C: Drop> Description<C> {
+    /// The timer of this index.
+    pub(crate) fn new(timers: Arc<Shared<C>>, index: usize) -> Description<C>
+        requires { index < 2 ^ 31 }
+    {
+        Description {
+            timers,
+            fd: descriptor_at(index),
+        }
+    }
+
+    pub(crate) fn index(&self) -> usize {
+        (RawFd::MAX - self.fd) as usize
+    }
+
+    /// Gives an owner up; with the last one the timer is closed.
+    pub(crate) fn give_up<R: Wait>(owner: Arc<Description<C>>, rt: &R) {
+        if let Some(last) = Arc::into_inner(owner) {
+            last.close(rt);
+        }
+    }
+
+    pub(crate) fn close<R: Wait>(self, rt: &R) {
+        // Only a description closes its timer, and once.
+        let _ = self.timers.state.lock(rt).timers.close(self.index());
+    }
+}
+
+// The descriptor of the timer of this index.
+fn descriptor_at(index: usize) -> RawFd
+    requires { index < 2 ^ 31 }
+    ensures number { result ≡ pos (2147483647 - index) }
+    ensures from_0_up { pos 0 ≤ℤ result }
+{
+    RawFd::MAX - index as RawFd
+}

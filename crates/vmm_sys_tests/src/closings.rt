@@ -1,0 +1,166 @@
+//! What is closed: a counter or a line by the last of its handles, and its number is given again.
+
+use crate::expecting::{expect_ok, expect_same};
+use crate::fixture::{Host, entry, no_event, want};
+use std::alloc::Global;
+use std::process::Abort;
+use std::thread;
+use vmm_sys::counter::Counter;
+use vmm_sys::epoll::{AsRawFd, ControlOperation, Epoll, EpollEvent, EventSet, RawFd};
+use vmm_sys::errno::Errno;
+use vmm_sys::eventfd::EventFd;
+use vmm_sys::line::Line;
+use vmm_sys::poller::Poller;
+use vmm_sys::table::Table;
+
+/// How often threads close the handles of one counter at once.
+const ROUNDS: u32 = 200;
+
+/// How many handles are closed at once.
+const HANDLES: usize = 4;
+
+#[test]
+fn calls_on_descriptors_that_are_closed(rt: HostRuntime) {
+    let mut table = Table::new(rt.alloc());
+    for number in 0..4 {
+        expect_same(&rt, &table.add_counter(1), &Ok(number));
+        let event = EpollEvent::new(EventSet::IN, u64::from(number.unsigned_abs()));
+        expect_ok(&rt, table.ctl(ControlOperation::Add, number, event));
+    }
+    for (fd, answer) in [
+        (2, Ok(())),
+        (0, Ok(())),
+        (2, Err(Errno::EBADF)),
+        (4, Err(Errno::EBADF)),
+        (-1, Err(Errno::EBADF)),
+    ] {
+        expect_same(&rt, &table.close(fd), &answer);
+    }
+    expect_refused(&rt, &mut table, 2);
+    expect_words(&rt, &mut table, &[1, 3]);
+    // The lowest comes first, without an interest.
+    for number in [0, 2, 4] {
+        expect_same(&rt, &table.add_counter(1), &Ok(number));
+    }
+    expect_words(&rt, &mut table, &[1, 3]);
+}
+
+fn expect_refused<R: Abort>(rt: &R, table: &mut Table, fd: RawFd) {
+    expect_same(rt, &table.write(fd, 1), &Err(Errno::EBADF));
+    expect_same(rt, &table.read(fd), &Err(Errno::EBADF));
+    expect_same(rt, &table.set_line(fd, EventSet::IN), &Err(Errno::EBADF));
+    let deleted = table.ctl(ControlOperation::Delete, fd, no_event());
+    expect_same(rt, &deleted, &Err(Errno::EBADF));
+}
+
+// A wait with room for four reports entries with these words.
+fn expect_words<P: Poller, R: Abort>(rt: &R, poller: &mut P, words: &[u64]) {
+    let mut buffer = [no_event(); 4];
+    let count = expect_ok(rt, poller.wait(0, &mut buffer)).min(buffer.len());
+    expect_same(rt, &count, &words.len());
+    for (reported, word) in buffer.iter().zip(words) {
+        expect_same(rt, &reported.data(), word);
+    }
+}
+
+#[test]
+fn a_copy_keeps_a_counter_open(rt: HostRuntime) {
+    let mut epoll = expect_ok(&rt, Epoll::new(rt, rt.alloc()));
+    let counter = expect_ok(&rt, EventFd::new(&epoll, 1, &rt));
+    let copy = expect_ok(&rt, counter.try_clone());
+    want(&rt, &mut epoll, &counter, EventSet::IN);
+    counter.close(&rt);
+    expect_words(&rt, &mut epoll, &[0]);
+    expect_same(&rt, &copy.read(&rt), &Ok(1));
+    expect_ok(&rt, copy.write(1, &rt));
+    expect_next_is(&rt, &epoll, 1);
+    copy.close(&rt);
+    expect_words(&rt, &mut epoll, &[]);
+    expect_next_is(&rt, &epoll, 0);
+}
+
+#[test]
+fn a_copy_keeps_a_line_open(rt: HostRuntime) {
+    let mut epoll = expect_ok(&rt, Epoll::new(rt, rt.alloc()));
+    let line = expect_ok(&rt, Line::new(&epoll, &rt));
+    let copy = expect_ok(&rt, line.try_clone());
+    want(&rt, &mut epoll, &line, EventSet::IN);
+    line.close(&rt);
+    expect_ok(&rt, copy.set(EventSet::IN, &rt));
+    expect_words(&rt, &mut epoll, &[0]);
+    expect_next_is(&rt, &epoll, 1);
+    copy.close(&rt);
+    expect_words(&rt, &mut epoll, &[]);
+    expect_next_is(&rt, &epoll, 0);
+}
+
+// The number that is given next, and is closed again.
+fn expect_next_is<R: Host>(rt: &R, epoll: &Epoll<R>, fd: RawFd) {
+    let next = expect_ok(rt, EventFd::new(epoll, 0, rt));
+    expect_same(rt, &next.as_raw_fd(), &fd);
+    next.close(rt);
+}
+
+#[test]
+fn a_number_that_is_given_again_has_no_interest(rt: HostRuntime) {
+    let mut epoll = expect_ok(&rt, Epoll::new(rt, rt.alloc()));
+    let first = expect_ok(&rt, EventFd::new(&epoll, 1, &rt));
+    want(&rt, &mut epoll, &first, EventSet::IN);
+    // As a channel closes the counter that it was given.
+    Counter::close(first, &rt);
+    let second = expect_ok(&rt, EventFd::new(&epoll, 1, &rt));
+    expect_same(&rt, &second.as_raw_fd(), &0);
+    expect_words(&rt, &mut epoll, &[]);
+    want(&rt, &mut epoll, &second, EventSet::IN);
+    let mut buffer = [no_event()];
+    expect_same(&rt, &epoll.wait(0, &mut buffer), &Ok(1));
+    expect_same(&rt, &buffer, &[entry(&second, EventSet::IN)]);
+}
+
+#[test]
+fn a_handle_that_is_dropped_stays_open(rt: HostRuntime) {
+    let mut epoll = expect_ok(&rt, Epoll::new(rt, rt.alloc()));
+    let counter = expect_ok(&rt, EventFd::new(&epoll, 1, &rt));
+    let copy = expect_ok(&rt, counter.try_clone());
+    want(&rt, &mut epoll, &counter, EventSet::IN);
+    // Whichever of the two goes last, it goes by its drop.
+    counter.close(&rt);
+    drop(copy);
+    expect_words(&rt, &mut epoll, &[0]);
+    expect_next_is(&rt, &epoll, 1);
+}
+
+#[test]
+fn handles_that_are_closed_at_once_close_once(rt: HostRuntime) {
+    let epoll = expect_ok(&rt, Epoll::new(rt, rt.alloc()));
+    for _round in 0..ROUNDS {
+        close_at_once(rt, rt.alloc(), &epoll);
+        expect_next_is(&rt, &epoll, 0);
+    }
+}
+
+// Each handle of a counter is closed by a thread of its own.
+fn close_at_once<R: Host>(rt: R, alloc: Global, epoll: &Epoll<R>) {
+    let counter = expect_ok(&rt, EventFd::new(epoll, 0, &rt));
+    let mut threads = Vec::new(alloc);
+    for _ in 1..HANDLES {
+        let copy = expect_ok(&rt, counter.try_clone());
+        let thread = expect_ok(&rt, thread::spawn(&rt, move || copy.close(&rt)));
+        expect_same(&rt, &threads.push(thread).is_ok(), &true);
+    }
+    counter.close(&rt);
+    for thread in threads {
+        thread.join(&rt);
+    }
+}
+
+#[test]
+fn what_is_opened_and_closed_leaves_no_number_behind(rt: HostRuntime) {
+    let mut epoll = expect_ok(&rt, Epoll::new(rt, rt.alloc()));
+    for _ in 0..100_000 {
+        let counter = expect_ok(&rt, EventFd::new(&epoll, 1, &rt));
+        want(&rt, &mut epoll, &counter, EventSet::IN);
+        counter.close(&rt);
+    }
+    expect_next_is(&rt, &epoll, 0);
+}
