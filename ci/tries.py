@@ -88,9 +88,9 @@ def run(room, crate, words, stderr, given=b""):
         raise NotRun(f"rt try did not end: {error}") from error
 
 
-def tests_of(room, crate):
+def tests_of(room, crate, words=()):
     """What became of each test of a crate of the copy, by its path."""
-    said = run(room, crate, ["--test"], subprocess.STDOUT).stdout.decode(errors="replace")
+    said = run(room, crate, ["--test", *words], subprocess.STDOUT).stdout.decode(errors="replace")
     became = {}
     for path, end, text in re.findall(r"^test (\S+) \.\.\. (ok|FAILED)\n((?:    .*\n)*)", said, re.M):
         is_stopped = "no-answer" in text.split("races:")[0]

@@ -2,7 +2,7 @@
 
 ghost use Rattle.std.specs.Prelude.{◌≡◌, ◌++◌, List, OnErr};
 
-use crate::shared::Shared;
+use crate::shared::{self, Shared};
 use std::alloc::AllocError;
 use std::sync::{Arc, Wait};
 use std::time::Clock;
@@ -14,7 +14,7 @@ use vmm_sys::eventfd::EventFd;
 /// closed.
 ///
 /// One that is only dropped stays open: sends are still agreed to, and what waits is dropped with the last sender. Its descriptor
-/// is open as long as an end is there, and for ever where the last one is only dropped.
+/// is closed where the last of all ends closes, and stays open where that one is only dropped.
 #[derive(Drop)]
 pub struct Receiver<M, C = EventFd> {
     pub(crate) shared: Arc<Shared<M, C>>,
@@ -59,7 +59,7 @@ impl<M: Drop, C: Counter + Drop> Receiver<M, C> {
         let shared = &*self.shared;
         let mut signal = shared.signal(rt);
         let waiting = shared.queue.lock(rt).close(&mut signal);
-        Shared::give_up(self.shared, rt);
+        shared::close(self.shared, rt);
         waiting
     }
 }

@@ -4,7 +4,7 @@ ghost use Rattle.std.specs.Prelude.{◌≡◌, Err, IfOk, IfErr};
 ghost use Rattle.channels.specs.Ends.{counter_of_sender, IsSendRefusal};
 
 use crate::errors::{CloseError, SendError};
-use crate::shared::Shared;
+use crate::shared::{self, Shared};
 use std::alloc::AllocError;
 use std::sync::{Arc, Wait};
 use std::time::Clock;
@@ -58,7 +58,7 @@ impl<M: Drop, C: Counter + Drop> Sender<M, C> {
         let left = shared.queue.lock(rt).leave(&mut signal);
         match left {
             Ok(()) => {
-                Shared::give_up(self.shared, rt);
+                shared::close(self.shared, rt);
                 Ok(())
             }
             Err(errno) => Err(CloseError {

@@ -14,14 +14,14 @@ pub(crate) struct Shared<M, C> {
     pub(crate) counter: C,
 }
 
-impl<M: Drop, C: Counter + Drop> Shared<M, C> {
-    /// Gives an end's share up; with the last one the counter is closed.
-    pub(crate) fn give_up<R: Wait>(share: Arc<Self>, rt: &R) {
-        if let Some(last) = Arc::into_inner(share) {
-            last.close(rt);
-        }
+/// Gives an end's share up; with the last one the counter is closed.
+pub(crate) fn close<M: Drop, C: Counter + Drop, R: Wait>(share: Arc<Shared<M, C>>, rt: &R) {
+    if let Some(last) = Arc::into_inner(share) {
+        last.close(rt);
     }
+}
 
+impl<M: Drop, C: Counter + Drop> Shared<M, C> {
     fn close<R: Wait>(self, rt: &R) {
         let Shared { queue, counter } = self;
         drop(queue);

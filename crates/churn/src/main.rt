@@ -2,8 +2,8 @@
 //! rounds, its argument, or 1000000. A visitor leaves once its timer has expired and all of its messages are there; these are sent
 //! by the loop's thread, and in each 50th round by another one. Then its ends and its timer are closed.
 //!
-//! Each visitor must have the descriptors of the first, and behind the thousandth the process may take no more than a megabyte. Else the
-//! program ends with 1 and says what is otherwise.
+//! Each visitor must have the descriptors of the first, and after the thousandth the process may take at most a megabyte more. Else
+//! the program ends with 1 and says what is otherwise.
 #![tactic(auto)]
 
 pub mod memory;

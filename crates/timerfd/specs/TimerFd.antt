@@ -7,7 +7,7 @@ use Rattle.timerfd.specs.declared.timer_fd.TimerFd.{TimerFd}
 
 -- its descriptor
 abbrev pub descriptor_of : {C : Type 0} → TimerFd C → ℤ
-descriptor_of timer = (arc_value timer.description).fd
+descriptor_of timer = (arc_value timer.handle).fd
 
 -- why no timer is opened
 abbrev pub IsOpeningError : Errno → Type 0

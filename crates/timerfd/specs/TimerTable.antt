@@ -8,7 +8,7 @@ use Rattle.vmm_sys.specs.declared.table.Source.{Source}
 use Rattle.vmm_sys.specs.declared.table.Source.TheVariants.{Line, Closed}
 use Rattle.vmm_sys.specs.declared.table.interests.Interest.{Interest}
 use Rattle.vmm_sys.specs.EventSet.{with_bits}
-use Rattle.vmm_sys.specs.Table.{TableState, IsReachable, is_open, moved_back}
+use Rattle.vmm_sys.specs.Table.{TableState, IsReachable, is_open, first_closed, moved_back}
 use Rattle.timerfd.specs.declared.timer.Timer.{Timer}
 use Rattle.timerfd.specs.Timer.{disarmed, closed}
 use Rattle.timerfd.specs.Timers.{TimersAt, with_timer}
@@ -69,6 +69,6 @@ Changes (Err errno) before answer now = (answer ≡ Err errno) × (now ≡ befor
 abbrev pub reported_by : TimerTableState → ℕ → TimerTableState
 reported_by s room = record s { interests = (moved_back (table_of s) room).interests }
 
--- why no timer is added
+-- why no timer is added: memory was refused, or 2147483648 are open
 abbrev pub IsOpeningError : TimerTableState → Errno → Type 0
-IsOpeningError s e = (e ≡ ENOMEM) ⊎ ((e ≡ EMFILE) × (length s.told.timers ≡ 2 ^ 31))
+IsOpeningError s e = (e ≡ ENOMEM) ⊎ ((e ≡ EMFILE) × (first_closed (table_of s) ≡ None) × (length s.told.timers ≡ 2 ^ 31))

@@ -1,4 +1,4 @@
-//! What the copies of a timer share: it is open until the last of them is closed.
+//! What the handles of a timer share: it is closed where the last of them is.
 
 ghost use Rattle.std.specs.Prelude.{◌≡◌, ◌<◌, ◌-◌, ◌≤ℤ◌, ◌^◌, pos, IfOk, IfErr};
 ghost use Rattle.std.specs.Arc.{arc_value};
@@ -16,12 +16,22 @@ pub(crate) struct Description<C> {
     ghost from_0_up: { pos 0 ≤ℤ fd },
 }
 
+/// One of the handles on a timer.
+pub(crate) type Handle<C> = Arc<Description<C>>;
+
 /// Another owner of the same. `ENOMEM`: the `Arc` refused a copy.
 pub(crate) fn another_owner<T>(owner: &Arc<T>) -> Result<Arc<T>, Errno>
     ensures same { IfOk result (λ other. arc_value other ≡ arc_value owner.now) }
     ensures errors { IfErr result (λ e. e ≡ Errno.ENOMEM) }
 {
     Arc::try_clone(owner).map_err(|_| Errno::ENOMEM)
+}
+
+/// Gives a handle up; with the last one the timer is closed.
+pub(crate) fn close<C: Drop, R: Wait>(handle: Handle<C>, rt: &R) {
+    if let Some(last) = Arc::into_inner(handle) {
+        last.close(rt);
+    }
 }
 
 impl<C: Drop> Description<C> {
@@ -37,13 +47,6 @@ impl<C: Drop> Description<C> {
 
     pub(crate) fn index(&self) -> usize {
         (RawFd::MAX - self.fd) as usize
-    }
-
-    /// Gives an owner up; with the last one the timer is closed.
-    pub(crate) fn give_up<R: Wait>(owner: Arc<Description<C>>, rt: &R) {
-        if let Some(last) = Arc::into_inner(owner) {
-            last.close(rt);
-        }
     }
 
     pub(crate) fn close<R: Wait>(self, rt: &R) {

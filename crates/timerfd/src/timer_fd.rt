@@ -3,7 +3,7 @@
 ghost use Rattle.std.specs.Prelude.{◌≡◌, ◌<◌, Ok, IfOk, IfErr};
 
 use crate::clock;
-use crate::description::{Description, another_owner};
+use crate::description::{self, Description, Handle, another_owner};
 use crate::shared::Shared;
 use crate::timed_poller::TimedPoller;
 use std::sync::{Arc, Wait};
@@ -19,11 +19,12 @@ use vmm_sys::eventfd::EventFd;
 /// The clock of a handle that a call is given is to be that of the handle which the poller was made with. No type says so: by
 /// another clock the timer is due at another time, or never.
 ///
-/// It is open until the last of its copies is [closed](TimerFd::close). One that is only dropped stays open, as an [`EventFd`] does:
-/// where it is registered it is still reported, and its number and its memory don't come back.
+/// It is closed where the last of its handles, the copies among them, ends by [`close`](TimerFd::close). Where that one is only
+/// dropped it stays open, as an [`EventFd`] does: if it is registered it is still reported, and its number and its memory never come
+/// back.
 #[derive(Drop)]
 pub struct TimerFd<C = EventFd> {
-    description: Arc<Description<C>>,
+    handle: Handle<C>,
 }
 
 impl<C: Counter + Drop> TimerFd<C> {
@@ -31,8 +32,8 @@ impl<C: Counter + Drop> TimerFd<C> {
 
     /// Opens a timer, disarmed.
     ///
-    /// `EMFILE`: 2147483648 timers of the poller are open. `ENOMEM`: memory, or one more owner of the timers, was refused. A refused call
-    /// opens nothing.
+    /// `EMFILE`: 2147483648 timers of the poller are open. `ENOMEM`: memory, or one more owner of the timers, was refused. A refused
+    /// call opens nothing.
     pub fn new<P, Q, R: Wait>(timed: &TimedPoller<P, Q, C>, rt: &R) -> Result<TimerFd<C>, Errno>
         ensures { IfErr result IsOpeningError }
     {
@@ -44,7 +45,7 @@ impl<C: Counter + Drop> TimerFd<C> {
     pub fn open_another<R: Wait>(&self, rt: &R) -> Result<TimerFd<C>, Errno>
         ensures { IfErr result IsOpeningError }
     {
-        Self::open(&self.description.timers, rt)
+        Self::open(&self.handle.timers, rt)
     }
 
     // Opens a timer beside the others.
@@ -55,7 +56,7 @@ impl<C: Counter + Drop> TimerFd<C> {
         let alloc = timers.alloc;
         let index = timers.state.lock(rt).timers.add()?;
         match Arc::new(alloc, Description::new(timers, index)) {
-            Ok(description) => Ok(TimerFd { description }),
+            Ok(handle) => Ok(TimerFd { handle }),
             Err(refused) => {
                 refused.value.close(rt);
                 Err(Errno::ENOMEM)
@@ -68,14 +69,14 @@ impl<C: Counter + Drop> TimerFd<C> {
         ensures same_descriptor { IfOk result (λ other. descriptor_of other ≡ descriptor_of self.now) }
         ensures errors { IfErr result (λ e. e ≡ Errno.ENOMEM) }
     {
-        let description = another_owner(&self.description)?;
-        Ok(TimerFd { description })
+        let handle = another_owner(&self.handle)?;
+        Ok(TimerFd { handle })
     }
 
     /// Gives this handle up. With the last handle on a timer it is closed, and its interest is gone; its number may be given to a
     /// timer that is opened later, the highest first. So remove a timer from a manager before you close it.
     pub fn close<R: Wait>(self, rt: &R) {
-        Description::give_up(self.description, rt);
+        description::close(self.handle, rt);
     }
 
     /// Arms the timer: it is due after this duration, and then again after each interval; without one it is due once. A duration of
@@ -96,8 +97,8 @@ impl<C: Counter + Drop> TimerFd<C> {
         }
         let due = clock::now(rt)?.saturating_add(clock::nanoseconds(duration));
         let interval = interval.map_or(0, clock::nanoseconds);
-        let index = self.description.index();
-        self.description.timers.arm(index, due, interval, rt)
+        let index = self.handle.index();
+        self.handle.timers.arm(index, due, interval, rt)
     }
 
     /// Takes how often the timer has expired since the last such call, or since it was armed, up to the time that the poller's
@@ -109,8 +110,8 @@ impl<C: Counter + Drop> TimerFd<C> {
     pub fn wait<R: Wait + Clock>(&self, rt: &R) -> Result<u64, Errno>
         ensures some { IfOk result (λ expirations. 0 < expirations) }
     {
-        let Description { timers, .. } = &*self.description;
-        let index = self.description.index();
+        let Description { timers, .. } = &*self.handle;
+        let index = self.handle.index();
         let told = timers.state.lock(rt).timers.take_expirations(index);
         if let Some(expirations) = told {
             return Ok(expirations);
@@ -124,17 +125,17 @@ impl<C: Counter + Drop> TimerFd<C> {
     /// Whether the timer is due at some time to come. The clock's error is answered as in [`reset`](TimerFd::reset).
     pub fn is_armed<R: Wait + Clock>(&self, rt: &R) -> Result<bool, Errno> {
         let now = clock::now(rt)?;
-        let mut state = self.description.timers.state.lock(rt);
+        let mut state = self.handle.timers.state.lock(rt);
         state.timers.set_time(now);
-        Ok(state.timers.is_armed(self.description.index()))
+        Ok(state.timers.is_armed(self.handle.index()))
     }
 
     /// Disarms the timer. Expirations that weren't taken are dropped.
     pub fn clear<R: Wait>(&self, rt: &R) -> Result<(), Errno>
         ensures { result ≡ Ok tt }
     {
-        let index = self.description.index();
-        self.description.timers.state.lock(rt).timers.disarm(index);
+        let index = self.handle.index();
+        self.handle.timers.state.lock(rt).timers.disarm(index);
         Ok(())
     }
 }
@@ -145,6 +146,6 @@ impl<C> AsRawFd for TimerFd<C> {
     ghost descriptor = { descriptor_of };
 
     fn as_raw_fd(&self) -> RawFd {
-        self.description.fd
+        self.handle.fd
     }
 }

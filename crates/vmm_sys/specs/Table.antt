@@ -15,13 +15,13 @@ use Rattle.vmm_sys.specs.EventSet.{bits_of, with_bits}
 use Rattle.vmm_sys.specs.EpollEvent.{event, set_of, word_of}
 use Rattle.vmm_sys.specs.Lists.{without_first}
 
--- what the descriptors stand for, by their numbers, closed ones too; the interests, in the order in which a wait looks at them; how many descriptors may be opened
+-- what the descriptors stand for, by their numbers, closed ones too; the interests, in the order in which a wait looks at them; how many descriptors may be open
 pub record TableState : Type 0 where
   pub sources : List Source
   pub interests : List Interest
   pub limit : ℕ
 
--- the table before any call, which may open the descriptors 0 to 2147483647
+-- the table before any call; its descriptors may be 0 to 2147483647
 abbrev pub new_table : TableState
 new_table = record { sources = []; interests = []; limit = 2147483648 }
 

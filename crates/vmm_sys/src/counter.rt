@@ -34,7 +34,7 @@ pub trait Counter: AsRawFd + Bell {
     fn clear<R: Wait + Clock>(&self, rt: &R) -> std::result::Result<u64, Errno>
         ensures { clears self.now result };
 
-    /// Gives it up: by its drop, unless it says otherwise.
+    /// Gives this handle up: by its drop, where the type has no other way.
     fn close<R: Wait>(self, _rt: &R)
     where
         Self: Sized + Drop,

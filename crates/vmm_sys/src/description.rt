@@ -36,17 +36,6 @@ pub(crate) fn first_handle<R: Wait>(table: TableOwner, fd: RawFd, rt: &R) -> Res
     }
 }
 
-/// Another handle. `ENOMEM`: the `Arc` refused a copy.
-pub(crate) fn another_handle(handle: &Handle) -> Result<Handle, Errno>
-    ensures same { IfOk result (λ other. arc_value other ≡ arc_value handle.now) }
-    ensures errors { IsOkUnless result Errno.ENOMEM }
-{
-    match Arc::try_clone(handle) {
-        Ok(copy) => Ok(copy),
-        Err(_) => Err(Errno::ENOMEM),
-    }
-}
-
 /// Gives a handle up; with the last one the descriptor is closed.
 pub(crate) fn close<R: Wait>(handle: Handle, rt: &R) {
     if let Some(last) = Arc::into_inner(handle) {

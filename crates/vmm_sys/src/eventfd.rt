@@ -2,7 +2,7 @@
 
 ghost use Rattle.std.specs.Prelude.{◌≡◌, IsErr, IfErr, IfOk};
 
-use crate::description::{self, Handle, another_handle, first_handle};
+use crate::description::{self, Handle, first_handle};
 use crate::descriptors::{AsRawFd, RawFd};
 use crate::epoll::Epoll;
 use crate::errno::Errno;
@@ -15,9 +15,11 @@ use std::sync::Wait;
 /// table, under its lock.
 ///
 /// Its descriptor is a number of this table: a poller over another table takes it for its own
-/// descriptor of that number. It is open until the last of its handles, the copies among them, is
-/// [closed](EventFd::close). One that is only dropped stays open: where it is registered it is still
-/// reported, and its number and its memory never come back.
+/// descriptor of that number.
+///
+/// It is closed where the last of its handles, the copies among them, ends by
+/// [`close`](EventFd::close). Where that one is only dropped it stays open: if it is registered it is
+/// still reported, and its number and its memory never come back.
 #[derive(Drop)]
 pub struct EventFd {
     handle: Handle,
@@ -30,7 +32,8 @@ impl EventFd {
 
     /// Opens a counter of this value: a number, and not flags as in `vmm-sys-util`.
     ///
-    /// `EINVAL`: the value is 18446744073709551615. `EMFILE`: 2147483648 are open in the table. `ENOMEM`: memory, or one more owner of the table, was refused. A refused call opens nothing.
+    /// `EINVAL`: the value is 18446744073709551615. `EMFILE`: 2147483648 are open in the table.
+    /// `ENOMEM`: memory, or one more owner of the table, was refused. A refused call opens nothing.
     pub fn new<R: Wait>(epoll: &Epoll<R>, value: u64, rt: &R) -> Result<EventFd, Errno>
         ensures too_high { value ≡ 18446744073709551615 → IsErr result }
         ensures errors { IfErr result (IsOpeningError value) }
@@ -46,7 +49,7 @@ impl EventFd {
         ensures same_descriptor { IfOk result (λ other. descriptor_of other ≡ descriptor_of self.now) }
         ensures errors { IfErr result (λ e. e ≡ Errno.ENOMEM) }
     {
-        let handle = another_handle(&self.handle)?;
+        let handle = another_owner(&self.handle)?;
         Ok(EventFd { handle })
     }
 

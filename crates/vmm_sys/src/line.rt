@@ -2,7 +2,7 @@
 
 ghost use Rattle.std.specs.Prelude.{◌≡◌, IfErr, IfOk};
 
-use crate::description::{self, Handle, another_handle, first_handle};
+use crate::description::{self, Handle, first_handle};
 use crate::descriptors::{AsRawFd, RawFd};
 use crate::epoll::Epoll;
 use crate::errno::Errno;
@@ -43,7 +43,7 @@ impl Line {
         ensures same_descriptor { IfOk result (λ other. descriptor_of other ≡ descriptor_of self.now) }
         ensures errors { IfErr result (λ e. e ≡ Errno.ENOMEM) }
     {
-        let handle = another_handle(&self.handle)?;
+        let handle = another_owner(&self.handle)?;
         Ok(Line { handle })
     }
 

@@ -78,11 +78,11 @@ impl Source {
 /// Descriptors, and a list of interests in them; it stands in for `epoll`.
 ///
 /// A descriptor is a counter or a line. Its number is the lowest that isn't open, as POSIX has it:
-/// so from 0 in the order of opening, as long as nothing is closed. The state of a counter is `IN` where
-/// its value is above 0 and `OUT` where it is below 18446744073709551614; that of a line is the set
-/// last given to [`Table::set_line`], at first the empty one. With a descriptor comes the room for
-/// its interest, which is found, moved and taken out without a look at the others, but that once in
-/// as many moves as there are descriptors all interests are moved together.
+/// so from 0 in the order of opening, as long as nothing is closed. The state of a counter is `IN`
+/// where its value is above 0 and `OUT` where it is below 18446744073709551614; that of a line is the
+/// set last given to [`Table::set_line`], at first the empty one. With a descriptor comes the room
+/// for its interest, which is found, moved and taken out without a look at the others, but that once
+/// in as many moves as there are descriptors all interests are moved together.
 ///
 /// An interest is ready where its descriptor's state has something of what is wanted, or `ERROR` or
 /// `HANG_UP`: that is what is reported, with the interest's word. It is level-triggered, as Linux's
@@ -93,7 +93,7 @@ impl Source {
 /// list is answered.
 pub struct Table {
     sources: Vec<Source>,
-    // Their numbers, of those that were closed.
+    // The numbers that are `Closed`.
     closed: NumberSet,
     interests: Interests,
     limit: usize,
@@ -223,8 +223,8 @@ impl Table {
         self.open(Source::Line(EventSet::empty()))
     }
 
-    /// Closes a descriptor, and takes its interest out. Its number is then given once more, unless a
-    /// lower one isn't open. No memory is requested.
+    /// Closes a descriptor, and takes its interest out. What is opened next has its number, or a
+    /// lower one that isn't open. No memory is requested.
     ///
     /// `EBADF`: `fd` isn't open.
     pub fn close(&mut self, fd: RawFd) -> Result<(), Errno>
@@ -642,9 +642,10 @@ fn report_and_move(
 ///
 /// No call gives an interest a later place, unless it takes it out or reports it, and a wait that
 /// doesn't report a ready one moves it forward by the length of its buffer. So an interest with `a`
-/// others before it that isn't taken out, by a `Delete` or a close, and is ready at each of the waits is reported by the time
-/// the lengths of the buffers add up to more than `a`; with buffers of one length `c` above 0, in
-/// one of the first `a / c + 1` waits. It holds of any list of calls, refused ones included.
+/// others before it that isn't taken out, by a `Delete` or a close, and is ready at each of the waits
+/// is reported by the time the lengths of the buffers add up to more than `a`; with buffers of one
+/// length `c` above 0, in one of the first `a / c + 1` waits. It holds of any list of calls, refused
+/// ones included.
 pub fn service_bound()
     ensures forward { EachStepMovesForward }
     ensures within_rooms { ReportedWithinRooms }

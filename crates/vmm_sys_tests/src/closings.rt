@@ -118,12 +118,18 @@ fn a_number_that_is_given_again_has_no_interest(rt: HostRuntime) {
 }
 
 #[test]
-fn a_handle_that_is_dropped_stays_open(rt: HostRuntime) {
+fn the_last_handle_closes_by_its_close_alone(rt: HostRuntime) {
     let mut epoll = expect_ok(&rt, Epoll::new(rt, rt.alloc()));
     let counter = expect_ok(&rt, EventFd::new(&epoll, 1, &rt));
     let copy = expect_ok(&rt, counter.try_clone());
     want(&rt, &mut epoll, &counter, EventSet::IN);
-    // Whichever of the two goes last, it goes by its drop.
+    drop(copy);
+    expect_words(&rt, &mut epoll, &[0]);
+    counter.close(&rt);
+    expect_words(&rt, &mut epoll, &[]);
+    let counter = expect_ok(&rt, EventFd::new(&epoll, 1, &rt));
+    let copy = expect_ok(&rt, counter.try_clone());
+    want(&rt, &mut epoll, &counter, EventSet::IN);
     counter.close(&rt);
     drop(copy);
     expect_words(&rt, &mut epoll, &[0]);
