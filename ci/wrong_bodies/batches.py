@@ -45,7 +45,7 @@ class TestedEdit(Edit):
         super().__init__(path, ("test", "request", "case", "output", "crate"))
         self.target, self.case = self.said.get("crate", self.crate), self.said.get("case")
         self.is_of_a_program = "case" in self.said or "output" in self.said
-        # for `rt try`
+        # the words by which `rt try` refuses a request of the test's
         self.refusing = ["--fail-alloc", self.said["request"]] if "request" in self.said else []
         self.test = self.said.get("test") or self.case or ("the stored output" if self.said.get("output") == "stored" else None)
         if not self.test or not self.changes:
@@ -57,12 +57,10 @@ class TestedEdit(Edit):
 
 
 def batches_of(edits):
-    """The edits in groups for a run each: those of one crate that tests of one crate must show, with one request for memory refused
-    or none, or those that one program must."""
+    """The edits in groups for a run each: those of one crate that tests of one crate must show, or those that one program must."""
     groups = {}
     for it in edits:
-        key = it.target if it.is_of_a_program else it.crate, it.target, it.is_of_a_program, *it.refusing
-        groups.setdefault(key, []).append(it)
+        groups.setdefault((it.target if it.is_of_a_program else it.crate, it.target, it.is_of_a_program), []).append(it)
     for group in groups.values():
         count = -(-len(group) // MOST)
         yield from (group[at::count] for at in range(count))
