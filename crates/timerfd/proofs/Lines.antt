@@ -15,7 +15,7 @@ use Rattle.vmm_sys.specs.declared.table.Source.TheVariants.{Counter, Line, Close
 use Rattle.vmm_sys.specs.EventSet.{with_bits}
 use Rattle.vmm_sys.specs.Table.{TableState, Answers, AnswersWithMemory, is_open, first_closed, open_at, add_line_of, close_at, close_of, set_at, set_line_of}
 use Rattle.timerfd.specs.declared.timer.Timer.{Timer}
-use Rattle.timerfd.specs.Timer.{disarmed, expired}
+use Rattle.timerfd.specs.Timer.{disarmed, armed, stopped, expired}
 use Rattle.timerfd.specs.Dues.{is_due}
 use Rattle.timerfd.specs.Timers.{TimersAt, timer_at, with_timer, told as told_at}
 use Rattle.timerfd.specs.TimerTable.{line, line_of, with_line, IsTableOf, IsOpened, AreLines}
@@ -76,22 +76,40 @@ line_by : (b : Bool) (t : Timer) (ready : Bool) → t.is_open ≡ b → not (t.e
 line_by true t ready e is = rw (e, is) refl
 line_by false t ready e is = rw e refl
 
-put_here : (b : Bool) (x t : Timer) (ready : Bool) (ys : List Source) → x.is_open ≡ b → t.is_open ≡ b → not (t.expirations == 0) ≡ ready →
+put_here : (b : Bool) (x t : Timer) (ready : Bool) (ys : List Source) → x.is_open ≡ b → t.is_open ≡ b → (b ≡ true → not (t.expirations == 0) ≡ ready) →
     line_of t ∷ ys ≡ (if is_open (Some (line_of x)) then line ready ∷ ys else line_of x ∷ ys)
-put_here true x t ready ys e f is = rw (e, f, is) refl
+put_here true x t ready ys e f is = rw (e, f, is refl) refl
 put_here false x t ready ys e f is = rw (e, f) refl
 
 push_if : (b : Bool) (y : Source) (xs ys : List Source) → y ∷ (if b then xs else ys) ≡ (if b then y ∷ xs else y ∷ ys)
 push_if true y xs ys = refl
 push_if false y xs ys = refl
 
-put_line : (timers : List Timer) (index : ℕ) (t : Timer) (ready : Bool) → t.is_open ≡ (timer_at timers index).is_open → not (t.expirations == 0) ≡ ready →
+put_line : (timers : List Timer) (index : ℕ) (t : Timer) (ready : Bool) → t.is_open ≡ (timer_at timers index).is_open → (t.is_open ≡ true → not (t.expirations == 0) ≡ ready) →
     map line_of (set timers index t) ≡ with_line (map line_of timers) index (line ready)
 put_line [] zero t ready same is = refl
 put_line [] (suc index) t ready same is = refl
-put_line (x ∷ timers) zero t ready same is = put_here x.is_open x t ready (map line_of timers) refl same is
+put_line (x ∷ timers) zero t ready same is = put_here x.is_open x t ready (map line_of timers) refl same (λ there. is (same ∙ there))
 put_line (x ∷ timers) (suc index) t ready same is =
     ap (λ l. line_of x ∷ l) (put_line timers index t ready same is) ∙ push_if (is_open (slice_get (map line_of timers) index)) (line_of x) (set (map line_of timers) index (line ready)) (map line_of timers)
+
+-- what takes a timer's place is as open as that, and an open one has nothing to take
+abbrev StaysWithNothing : Timer → Timer → Type 0
+StaysWithNothing t new = (new.is_open ≡ t.is_open) × (new.is_open ≡ true → not (new.expirations == 0) ≡ false)
+
+armed_if : (b : Bool) (due interval : ℕ) (t : Timer) → t.is_open ≡ b → StaysWithNothing t (armed due interval t)
+armed_if true due interval t e = rw e (refl, λ there. refl)
+armed_if false due interval t e = rw e (refl, λ there. cc)
+
+pub armed_anew : (due interval : ℕ) (t : Timer) → StaysWithNothing t (armed due interval t)
+armed_anew due interval t = armed_if t.is_open due interval t refl
+
+stopped_if : (b : Bool) (t : Timer) → t.is_open ≡ b → StaysWithNothing t (stopped t)
+stopped_if true t e = rw e (refl, λ there. refl)
+stopped_if false t e = rw e (refl, λ there. cc)
+
+pub stopped_anew : (t : Timer) → StaysWithNothing t (stopped t)
+stopped_anew t = stopped_if t.is_open t refl
 
 -- a timer that is due has something to take once it has expired
 pub ready_once_expired : (now : ℕ) (t : Timer) → is_due now t.due ≡ true → not ((expired now t).expirations == 0) ≡ true
@@ -124,7 +142,7 @@ module _ (told : TimersAt) (table : TableState) (tied : IsTableOf told table) wh
   limit_is = ap (λ (t : TableState). t.limit) tied.0
 
   -- a timer and its line are put in together
-  pub tied_put : (index : ℕ) (t : Timer) (ready : Bool) (told' : TimersAt) (table' : TableState) → t.is_open ≡ (timer_at told.timers index).is_open → not (t.expirations == 0) ≡ ready
+  pub tied_put : (index : ℕ) (t : Timer) (ready : Bool) (told' : TimersAt) (table' : TableState) → t.is_open ≡ (timer_at told.timers index).is_open → (t.is_open ≡ true → not (t.expirations == 0) ≡ ready)
       → told' ≡ with_timer told index t → table' ≡ record table { sources = with_line table.sources index (line ready) } → IsTableOf told' table'
   tied_put index t ready told' table' same_state is timers lines =
       let same = ap (λ (x : TableState). record table { limit = x.limit; sources = with_line x.sources index (line ready) }) tied.0 in

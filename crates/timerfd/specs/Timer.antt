@@ -29,13 +29,14 @@ expired now t = elim t.due [ None ↦ t | Some due ↦ if nat_le due now then ex
 abbrev pub disarmed : Timer
 disarmed = record { due = None; interval = 0; expirations = 0; is_open = true }
 
+-- closed, not due, with nothing to take
 abbrev pub closed : Timer
 closed = record { due = None; interval = 0; expirations = 0; is_open = false }
 
--- a timer once it is due at a time, and after each interval, with nothing to take
+-- an open timer once it is due at a time, and after each interval, with nothing to take; a closed one stays as it is
 abbrev pub armed : ℕ → ℕ → Timer → Timer
-armed due interval t = record t { due = Some due; interval = interval; expirations = 0 }
+armed due interval t = if t.is_open then record t { due = Some due; interval = interval; expirations = 0 } else t
 
--- a timer once it isn't due, with nothing to take
+-- an open timer once it isn't due, with nothing to take; a closed one stays as it is
 abbrev pub stopped : Timer → Timer
-stopped t = record t { due = None; interval = 0; expirations = 0 }
+stopped t = if t.is_open then record t { due = None; interval = 0; expirations = 0 } else t

@@ -1,7 +1,7 @@
 //! One timer.
 
 ghost use Rattle.std.specs.Prelude.{◌≡◌, ◌≤◌};
-ghost use Rattle.timerfd.specs.Timer.{expired, expired_since};
+ghost use Rattle.timerfd.specs.Timer.{armed, stopped, expired, expired_since};
 
 /// A timer. Times are in nanoseconds.
 #[derive(Clone, Copy, PartialEq, Eq, Debug)]
@@ -32,6 +32,32 @@ impl Timer {
         expirations: 0,
         is_open: false,
     };
+
+    /// The timer once it is due at a time, and after each interval, with nothing to take; a closed one stays as it is.
+    pub(crate) fn armed(self, due: u64, interval: u64) -> Timer
+        ensures { result ≡ armed due interval self }
+    {
+        if !self.is_open {
+            return self;
+        }
+        Timer {
+            due: Some(due),
+            interval,
+            expirations: 0,
+            is_open: true,
+        }
+    }
+
+    /// The timer once it isn't due, with nothing to take; a closed one stays as it is.
+    pub(crate) fn stopped(self) -> Timer
+        ensures { result ≡ stopped self }
+    {
+        if self.is_open {
+            Timer::DISARMED
+        } else {
+            self
+        }
+    }
 
     /// The timer once it is `now`. Due up to now, it has expired, once and once more for each whole interval since, and it is due
     /// next at the first of its times above now; it is disarmed where it has no interval, or where that time is above

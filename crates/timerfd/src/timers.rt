@@ -100,36 +100,24 @@ impl Timers {
     }
 
     /// The timer is due at this time, and from then on after each interval; at this time alone where the interval is 0. Where this
-    /// time is past, the timer expires once a time is told. Its expirations are dropped. Where there is no such timer, nothing
-    /// changes.
+    /// time is past, the timer expires once a time is told. Its expirations are dropped. Where no timer of this index is open,
+    /// nothing changes.
     ///
     /// It takes as long as the logarithm of how many timers there are.
     pub fn arm(&mut self, index: usize, due: u64, interval: u64)
         ensures { self.new ≡ with_timer self.old index (armed due interval (timer_at self.old.timers index)) }
     {
-        let is_open = self.timer(index).is_open;
-        self.replace(
-            index,
-            Timer {
-                due: Some(due),
-                interval,
-                expirations: 0,
-                is_open,
-            },
-        );
+        let timer = self.timer(index).armed(due, interval);
+        self.replace(index, timer);
     }
 
-    /// The timer isn't due any more. Its expirations are dropped. Where there is no such timer, nothing changes.
+    /// The timer isn't due any more. Its expirations are dropped. Where no timer of this index is open, nothing changes.
     ///
     /// It takes as long as the logarithm of how many timers there are.
     pub fn disarm(&mut self, index: usize)
         ensures { self.new ≡ with_timer self.old index (stopped (timer_at self.old.timers index)) }
     {
-        let timer = if self.timer(index).is_open {
-            Timer::DISARMED
-        } else {
-            Timer::CLOSED
-        };
+        let timer = self.timer(index).stopped();
         self.replace(index, timer);
     }
 

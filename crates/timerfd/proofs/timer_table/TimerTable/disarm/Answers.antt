@@ -1,11 +1,14 @@
-use Rattle.std.proofs.Common.{refl, false}
+use Rattle.std.proofs.Common.{false}
 use Rattle.timerfd.specs.Timer.{stopped}
 use Rattle.timerfd.specs.Timers.{timer_at}
-use Rattle.timerfd.proofs.Lines.{all_lines, tied_put}
+use Rattle.timerfd.proofs.Lines.{all_lines, stopped_anew, tied_put}
 use Rattle.timerfd.proofs.timer_table.TimerTable.disarm.Goals as goal
 
 pub set_ready-requires-clause-lines : goal.set_ready-requires-clause-lines
 set_ready-requires-clause-lines c = all_lines c.self.inside.timers c.self.inside.table c.self.invariant
 
 pub invariant_of-self : goal.invariant_of-self
-invariant_of-self c = tied_put c.self.inside.timers c.self.inside.table c.self.invariant c.args.index (stopped (timer_at c.self.inside.timers.timers c.args.index)) false c.disarm.new.self c.set_ready.new.table refl refl c.disarm.ensures c.set_ready.ensures
+invariant_of-self c =
+    let t = timer_at c.self.inside.timers.timers c.args.index in
+    let (same, none) = stopped_anew t in
+    tied_put c.self.inside.timers c.self.inside.table c.self.invariant c.args.index (stopped t) false c.disarm.new.self c.set_ready.new.table same none c.disarm.ensures c.set_ready.ensures

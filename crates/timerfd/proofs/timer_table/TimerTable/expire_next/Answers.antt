@@ -11,4 +11,4 @@ pub invariant_of-self-2 : goal.invariant_of-self-2
 invariant_of-self-2 c =
     let timer = timer_at c.self.inside.timers.timers c.in_ok-index.index in
     let (within, due, expires) = c.in_ok-index.ensures in
-    tied_put c.self.inside.timers c.self.inside.table c.self.invariant c.in_ok-index.index (expired c.args.now timer) true c.expire_next.new.self c.set_ready.new.table (open_as_it_was c.args.now timer) (ready_once_expired c.args.now timer due) expires c.set_ready.ensures
+    tied_put c.self.inside.timers c.self.inside.table c.self.invariant c.in_ok-index.index (expired c.args.now timer) true c.expire_next.new.self c.set_ready.new.table (open_as_it_was c.args.now timer) (λ there. ready_once_expired c.args.now timer due) expires c.set_ready.ensures
