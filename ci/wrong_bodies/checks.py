@@ -147,21 +147,14 @@ class Copy:
     """A copy of a crate, in which bodies are changed, over the libraries that are built below a folder."""
 
     def __init__(self, folder, crate, top):
-        self.folder, self.crate, self.words, self.texts = folder, crate, words_of(crate, top), {}
+        self.folder, self.crate, self.words = folder, crate, words_of(crate, top)
         copy_parts(crate, folder)
 
     def lay(self, edit):
         """Changes what an edit changes."""
-        for file, text in edit.applied(self.folder).items():
-            self.texts.setdefault(file, text_of(f"{self.folder}/{file}"))
-            write(f"{self.folder}/{file}", text)
+        edit.apply(self.folder)
 
-    def restore(self):
-        for file, text in self.texts.items():
-            write(f"{self.folder}/{file}", text)
-        self.texts = {}
-
-    def check(self, functions, what):
+    def check(self, functions, what, *words):
         """What a check of these functions says, or of all where there is none, and whether it is content."""
-        words = [*self.words, *(word for it in sorted(functions) for word in ("--only", it))]
+        words = [*self.words, *words, *(word for it in sorted(functions) for word in ("--only", it))]
         return LANES.run(words, self.folder, f"{self.crate}, {what}")

@@ -35,6 +35,8 @@ def block_at(text, at):
     trait, found, of = head.partition(" for ")
     if not found:
         return last_name(trait)
+    if last_name(trait) == "Drop":
+        return last_name(of)
     is_any = re.search(rf"(?:^|, ){last_name(of)}\b", parameters)
     return ("Any" if is_any else last_name(of)) + last_name(trait)
 
@@ -49,6 +51,14 @@ def path_at(crate, file, text, at):
     return "::".join([*above, *([block_at(text, heads[-1].start())] if indent else []), name])
 
 
+def parts_of(text):
+    """Where the head, the body and the end of each function are that has a body of its own lines."""
+    for it in FUNCTION.finditer(text):
+        opens = re.compile(rf"^{it[1]}(?:\{{|\S.* \{{|\S.*;|\S.*\{{\}}| .*;)$", re.M).search(text, it.start())
+        if opens and opens[0].endswith("{"):
+            yield it.start(2), opens.end() - 1, text.index(f"\n{it[1]}}}\n", opens.end()) + len(it[1]) + 2
+
+
 def lines_of(text, name):
     """The first and the last line of each function of a name."""
     for it in FUNCTION.finditer(text):
@@ -61,12 +71,3 @@ def body_of(text, name):
     """The lines of the functions of a name in the text of a file."""
     lines = text.splitlines()
     return "\n".join("\n".join(lines[first - 1 : last]) for first, last in lines_of(text, name))
-
-
-def may_call(body, path):
-    """Whether there may be a call of the function of a path in a body, by the names alone."""
-    above, name = path.split("::")[-2:]
-    if above.islower():
-        return re.search(rf"(?<!\.)\b{name}\b", body) is not None
-    types = re.findall(rf"\b(\w+)(?:::<[^()]*>)?::{name}\b", body)
-    return re.search(rf"\.{name}\b", body) is not None or any(it == "Self" or above.startswith(it) for it in types)
