@@ -21,9 +21,16 @@ def parted(head):
     return "", head
 
 
+def names_in(trait, parameters):
+    """The names of the types that a trait is given, but for parameters."""
+    words = re.findall(r"\(\)|(?<!')\b\w+\b(?!::)", trait.partition("<")[2])
+    own = re.findall(r"(?:^|, )(\w+)", parameters)
+    return "".join("Unit" if it == "()" else it[0].upper() + it[1:] for it in words if it not in own)
+
+
 def block_at(text, at):
     """As the prover names it, the type whose block a position stands in, or type and trait: `EpollPoller`; of a trait for any type,
-    `AnyEventPoller`."""
+    `AnyEventPoller`; of one with a type, `RecordFaultFromAllocError`. None of a trait for references."""
     blocks = [it for it in BLOCK.finditer(text, 0, at)]
     if not blocks:
         return None
@@ -33,12 +40,12 @@ def block_at(text, at):
     if kind == "trait":
         return last_name(head.partition(":")[0])
     trait, found, of = head.partition(" for ")
-    if not found:
-        return last_name(trait)
-    if last_name(trait) == "Drop":
-        return last_name(of)
+    if not found or last_name(trait) == "Drop":
+        return last_name(of if found else trait)
+    if of.startswith("&"):
+        return None
     is_any = re.search(rf"(?:^|, ){last_name(of)}\b", parameters)
-    return ("Any" if is_any else last_name(of)) + last_name(trait)
+    return ("Any" if is_any else last_name(of)) + last_name(trait) + names_in(trait, parameters)
 
 
 def path_at(crate, file, text, at):
@@ -47,14 +54,17 @@ def path_at(crate, file, text, at):
     if not heads or re.search(rf"^{heads[-1][1]}\}}", text[heads[-1].start() : at], re.M):
         return None
     indent, name = heads[-1].groups()
+    block = block_at(text, heads[-1].start()) if indent else ""
+    if block is None:
+        return None
     above = [crate, *(it for it in file.removeprefix("src/").removesuffix(".rt").split("/") if it not in ("lib", "main", "mod"))]
-    return "::".join([*above, *([block_at(text, heads[-1].start())] if indent else []), name])
+    return "::".join(it for it in [*above, block, name] if it)
 
 
 def parts_of(text):
     """Where the head, the body and the end of each function are that has a body of its own lines."""
     for it in FUNCTION.finditer(text):
-        opens = re.compile(rf"^{it[1]}(?:\{{|\S.* \{{|\S.*;|\S.*\{{\}}| .*;)$", re.M).search(text, it.start())
+        opens = re.compile(rf"^{it[1]}(?:\{{|\S.* \{{|\S*.*\{{\}}|.*;)$", re.M).search(text, it.start())
         if opens and opens[0].endswith("{"):
             yield it.start(2), opens.end() - 1, text.index(f"\n{it[1]}}}\n", opens.end()) + len(it[1]) + 2
 
@@ -65,9 +75,3 @@ def lines_of(text, name):
         if it[2] == name:
             end = re.compile(rf"^{it[1]}\}}", re.M).search(text, it.start())
             yield text.count("\n", 0, it.start()) + 1, text.count("\n", 0, end.start() if end else len(text)) + 1
-
-
-def body_of(text, name):
-    """The lines of the functions of a name in the text of a file."""
-    lines = text.splitlines()
-    return "\n".join("\n".join(lines[first - 1 : last]) for first, last in lines_of(text, name))

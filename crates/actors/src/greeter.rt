@@ -1,51 +1,107 @@
 //! The greeter. A line that can't be printed is passed over.
 
+ghost use Rattle.std.specs.Prelude.{◌≡◌, None, if◌then◌else◌};
+
 use crate::tally::Told;
-use channels::{Receiver, Sender};
+use channels::{Receiver, Refusal, Sender};
 use event_loop::{EventSet, Events, Request, StepInput, StepSubscriber};
+use std::mem;
 use std::sync::Wait;
 use std::time::Clock;
 
-/// Greets each name that it is sent, and hands it on.
+/// Greets the names that it is sent, one at a time, and hands each on. While there is no room for one, it waits for that, and for
+/// no more names.
 #[derive(Drop)]
 pub struct Greeter<R> {
     names: Receiver<String>,
-    // Where each name goes then; one that is refused there is lost.
     tally: Sender<Told>,
+    // Its events: of its names, and of the tally's room.
+    comes: Events,
+    room: Events,
+    // Whose name is still to be handed on.
+    kept: Option<Told>,
+    waits_for_room: bool,
     rt: R,
 }
 
 impl<R> Greeter<R> {
-    /// One that is sent names here, and hands them on there.
-    pub fn new(names: Receiver<String>, tally: Sender<Told>, rt: R) -> Self {
-        Greeter { names, tally, rt }
+    /// One that is sent names here, and hands them on there, where this event tells of room.
+    pub fn new(names: Receiver<String>, tally: Sender<Told>, room: Events, rt: R) -> Self {
+        Greeter {
+            comes: Events::new(&names, EventSet::IN),
+            names,
+            tally,
+            room,
+            kept: None,
+            waits_for_room: false,
+            rt,
+        }
+    }
+
+    /// The event that it waits for.
+    fn awaited(&self) -> Events
+        ensures { result ≡ if self.now.waits_for_room then self.now.room else self.now.comes }
+    {
+        if self.waits_for_room {
+            self.room
+        } else {
+            self.comes
+        }
     }
 }
 
-/// It wants its names' event when it is added, and nothing after that. Its channels stay the same ones.
+impl<R: Wait + Clock + Print + AllocGlobal + Drop> Greeter<R> {
+    /// Whom it hands on now: the one whom it has kept, or else the next, whom it greets.
+    fn next_told(&mut self) -> Option<Told>
+        ensures { self.new ≡ record self.old { kept = None } }
+    {
+        let kept = self.kept.take();
+        if kept.is_some() {
+            return kept;
+        }
+        let name = self.names.recv(&self.rt)?;
+        let _ = println!(self.rt; "hello, {name}");
+        Some(Told::Name(name))
+    }
+
+    /// Hands one on, or keeps it for want of room. One that is refused otherwise is lost.
+    fn hand_on(&mut self)
+        ensures { self.new ≡ record self.old { kept = self.new.kept } }
+    {
+        if let Some(told) = self.next_told() {
+            if let Err(refused) = self.tally.send(told, &self.rt) {
+                if refused.why == Refusal::Full {
+                    self.kept = Some(refused.message);
+                }
+            }
+        }
+    }
+}
+
+/// It asks for its names' event when it is added. Once it keeps one, it asks for that of room in its place, and then back again.
 impl<R: Wait + Clock + Print + AllocGlobal + Drop> StepSubscriber for Greeter<R> {
-    ghost use Rattle.std.specs.Prelude.{◌≡◌};
-    ghost use Rattle.channels.specs.Ends.{counter_of_receiver};
-    ghost use Rattle.vmm_sys.specs.EventFd.{descriptor_of};
-    ghost use Rattle.actors.specs.Wanted.{wanted_on};
+    ghost use Rattle.std.specs.Prelude.{◌≡◌, is_some, if◌then◌else◌};
+    ghost use Rattle.actors.specs.Wanted.{IsWanted, waits_rightly};
 
-    ghost requests = { λ v input wanted w. (wanted ≡ wanted_on (descriptor_of (counter_of_receiver v.names)) input) × (w ≡ v) };
+    ghost requests = { λ v input wanted w. (w ≡ record v { kept = w.kept; waits_for_room = w.waits_for_room })
+        × IsWanted v.comes v.room input v.waits_for_room (is_some w.kept) wanted w.waits_for_room };
 
-    ghost requests_left = { λ v. 0 };
+    ghost requests_left = { λ v. if waits_rightly v.waits_for_room (is_some v.kept) then 0 else 1 };
 
     fn next(&mut self, input: StepInput) -> Option<Request> {
         match input {
-            StepInput::Init => Some(Request::Add(Events::new(&self.names, EventSet::IN))),
+            StepInput::Init => Some(Request::Add(self.comes)),
             StepInput::Event(_) => {
-                let mut batch = Vec::new(self.rt.alloc());
-                let _ = self.names.take(&mut batch, &self.rt);
-                for name in batch {
-                    let _ = println!(self.rt; "hello, {name}");
-                    let _ = self.tally.send(Told::Name(name), &self.rt);
-                }
-                None
+                self.hand_on();
+                (self.waits_for_room != self.kept.is_some()).then_some(Request::Remove(
+                    self.awaited(),
+                ))
             }
-            StepInput::Answer(_) => None,
+            StepInput::Answer(_) => {
+                let keeps = self.kept.is_some();
+                let waited = mem::replace(&mut self.waits_for_room, keeps);
+                (waited != keeps).then_some(Request::Add(self.awaited()))
+            }
         }
     }
 }

@@ -104,7 +104,7 @@ fn open_first<R: Looping>(rt: &R, alloc: Global, epoll: &Epoll<R>) -> (Sender<u6
 }
 
 // The descriptor that is given next, and closed again.
-fn expect_next_is<R: Looping>(rt: &R, epoll: &Epoll<R>, fd: RawFd) {
+pub fn expect_next_is<R: Looping>(rt: &R, epoll: &Epoll<R>, fd: RawFd) {
     let next = expect_ok(rt, EventFd::new(epoll, 0, rt));
     expect_same(rt, &next.as_raw_fd(), &fd);
     next.close(rt);

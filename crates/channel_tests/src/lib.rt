@@ -20,6 +20,8 @@ mod receiving;
 #[cfg(test)]
 mod rings;
 #[cfg(test)]
+mod room;
+#[cfg(test)]
 mod rounds;
 #[cfg(test)]
 mod senders;

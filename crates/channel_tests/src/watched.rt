@@ -13,8 +13,8 @@ use vmm_sys::poller::Poller;
 /// How many milliseconds a wait may last.
 const PATIENCE: i32 = 5_000;
 
-/// What the receiver's descriptor is added with, and reported with.
-fn interest() -> EpollEvent {
+/// What a descriptor is added with, and reported with.
+pub fn interest() -> EpollEvent {
     EpollEvent::new(EventSet::IN, 7)
 }
 
@@ -72,17 +72,7 @@ impl<R: Looping> Watched<R> {
 
     /// Waits until the receiver is ready. Ends the test where that takes too long.
     pub fn wait(&mut self, rt: &R) {
-        let begin = time(rt);
-        for _wait in rt.forever() {
-            let is_ready = is_reported(rt, &mut self.epoll, PATIENCE);
-            let lasted = time(rt).saturating_duration_since(begin);
-            let most = Duration::from_millis(PATIENCE as u64);
-            assert!(rt; lasted < most, "nothing wakes the receiver");
-            // A wait may end before its limit, with nothing.
-            if is_ready {
-                break;
-            }
-        }
+        wait_for(rt, &mut self.epoll, "a message");
     }
 
     /// Expects that these messages are taken.
@@ -93,14 +83,29 @@ impl<R: Looping> Watched<R> {
     }
 }
 
-/// Whether a wait of at most so many milliseconds reports the receiver.
-fn is_reported<R: Looping>(rt: &R, epoll: &mut Epoll<R>, ms: i32) -> bool {
+/// Whether a wait of at most so many milliseconds reports what was added.
+pub fn is_reported<R: Looping>(rt: &R, epoll: &mut Epoll<R>, ms: i32) -> bool {
     let mut buffer = [EpollEvent::new(EventSet::empty(), 0)];
     let count = expect_ok(rt, epoll.wait(ms, &mut buffer));
     if count > 0 {
         expect_same(rt, &buffer, &[interest()]);
     }
     count > 0
+}
+
+/// Waits until what was added is ready. Ends the test where that takes too long.
+pub fn wait_for<R: Looping>(rt: &R, epoll: &mut Epoll<R>, what: &str) {
+    let begin = time(rt);
+    for _wait in rt.forever() {
+        let is_ready = is_reported(rt, epoll, PATIENCE);
+        let lasted = time(rt).saturating_duration_since(begin);
+        let most = Duration::from_millis(PATIENCE as u64);
+        assert!(rt; lasted < most, "nothing tells of {what}");
+        // A wait may end before its limit, with nothing.
+        if is_ready {
+            break;
+        }
+    }
 }
 
 /// What time it is.

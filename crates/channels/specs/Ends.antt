@@ -1,5 +1,5 @@
 -- What is seen of the ends of a channel, and what their calls may be refused with.
-use Rattle.std.specs.Prelude.{Result, Err}
+use Rattle.std.specs.Prelude.{Result, Err, Option}
 use Rattle.std.specs.Arc.{arc_value}
 use Rattle.vmm_sys.specs.declared.errno.Errno.{Errno}
 use Rattle.channels.specs.declared.errors.Refusal.{Refusal}
@@ -11,6 +11,10 @@ module _ {M C : Type 0} where
   -- the counter that a sender rings
   abbrev pub counter_of_sender : Sender M C → C
   counter_of_sender sender = (arc_value sender.shared).counter
+
+  -- the counter by which it is told of room, if it is
+  abbrev pub room_of_sender : Sender M C → Option C
+  room_of_sender sender = (arc_value sender.shared).room
 
   -- the counter that a receiver clears, and whose descriptor it has
   abbrev pub counter_of_receiver : Receiver M C → C

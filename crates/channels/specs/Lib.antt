@@ -2,3 +2,4 @@ pub mod Messages
 pub mod RefusalText
 pub mod Ends
 pub mod Steps
+pub mod Room

@@ -1,26 +1,42 @@
 //! Both ends of a channel, made.
 
-ghost use Rattle.std.specs.Prelude.{◌≡◌, IfOk};
-ghost use Rattle.channels.specs.Ends.{counter_of_sender, counter_of_receiver};
+ghost use Rattle.std.specs.Prelude.{◌≡◌, ◌⊎◌, IfOk, IfErr, Err, None, Some};
+ghost use Rattle.vmm_sys.specs.declared.errno.TheConstants.Errno.{ENOMEM};
+ghost use Rattle.channels.specs.Ends.{counter_of_sender, counter_of_receiver, room_of_sender};
 
 use crate::queue::MessageQueue;
 use crate::receiver::Receiver;
+use crate::room::Room;
 use crate::sender::Sender;
-use crate::shared::Shared;
+use crate::shared::{Shared, State};
 use std::alloc::{AllocError, Global};
-use std::sync::{Arc, Mutex};
+use std::sync::{Arc, Mutex, Wait};
+use std::time::Clock;
 use vmm_sys::counter::Counter;
+use vmm_sys::errno::Errno;
 
-/// Both ends over these messages and this counter.
+/// Both ends over these messages and these counters.
 fn ends_of<M: Drop, C: Counter + Drop>(
     queue: MessageQueue<M>,
     counter: C,
+    room: Option<C>,
     alloc: Global,
 ) -> Result<(Sender<M, C>, Receiver<M, C>), AllocError>
     ensures counter { IfOk result (λ ends. (counter_of_sender ends.0 ≡ counter) × (counter_of_receiver ends.1 ≡ counter)) }
+    ensures room { IfOk result (λ ends. room_of_sender ends.0 ≡ room) }
 {
-    let queue = Mutex::new(queue);
-    let shared = Arc::new(alloc, Shared { queue, counter })?;
+    let state = Mutex::new(State {
+        queue,
+        room: Room { is_raised: false },
+    });
+    let shared = Arc::new(
+        alloc,
+        Shared {
+            state,
+            counter,
+            room,
+        },
+    )?;
     let other = Arc::try_clone(&shared)?;
     Ok((Sender { shared }, Receiver { shared: other }))
 }
@@ -33,8 +49,9 @@ pub fn channel<M: Drop, C: Counter + Drop>(
     alloc: Global,
 ) -> Result<(Sender<M, C>, Receiver<M, C>), AllocError>
     ensures counter { IfOk result (λ ends. (counter_of_sender ends.0 ≡ counter) × (counter_of_receiver ends.1 ≡ counter)) }
+    ensures room { IfOk result (λ ends. room_of_sender ends.0 ≡ None) }
 {
-    ends_of(MessageQueue::new(alloc), counter, alloc)
+    ends_of(MessageQueue::new(alloc), counter, None, alloc)
 }
 
 /// As [`channel`], with room for so many messages, which is made here once for all: so no send takes memory.
@@ -44,6 +61,29 @@ pub fn sync_channel<M: Drop, C: Counter + Drop>(
     alloc: Global,
 ) -> Result<(Sender<M, C>, Receiver<M, C>), AllocError>
     ensures counter { IfOk result (λ ends. (counter_of_sender ends.0 ≡ counter) × (counter_of_receiver ends.1 ≡ counter)) }
+    ensures room { IfOk result (λ ends. room_of_sender ends.0 ≡ None) }
 {
-    ends_of(MessageQueue::with_room(alloc, most)?, counter, alloc)
+    ends_of(MessageQueue::with_room(alloc, most)?, counter, None, alloc)
+}
+
+/// As [`sync_channel`], with a counter for its senders, too, [`Sender::room`], which is ready for `IN` exactly while no send is
+/// refused as `Full`: so who was refused adds it to a poller, and removes it once all is sent, as with `OUT` of a socket.
+///
+/// Refused for want of memory with `ENOMEM`, or with the number with which that counter refuses to be rung; then both are dropped.
+pub fn sync_channel_with_room<M: Drop, C: Counter + Drop, R: Wait + Clock>(
+    counter: C,
+    room: C,
+    most: usize,
+    alloc: Global,
+    rt: &R,
+) -> Result<(Sender<M, C>, Receiver<M, C>), Errno>
+    ensures counter { IfOk result (λ ends. (counter_of_sender ends.0 ≡ counter) × (counter_of_receiver ends.1 ≡ counter)) }
+    ensures room { IfOk result (λ ends. room_of_sender ends.0 ≡ Some room) }
+    ensures refused { IfErr result (λ errno. (errno ≡ ENOMEM) ⊎ C.rings room (Err errno)) }
+{
+    let queue = MessageQueue::with_room(alloc, most).map_err(|_refused| Errno::ENOMEM)?;
+    let ends = ends_of(queue, counter, Some(room), alloc).map_err(|_refused| Errno::ENOMEM)?;
+    let shared = &*ends.0.shared;
+    shared.tell_room(&mut shared.state.lock(rt), rt)?;
+    Ok(ends)
 }

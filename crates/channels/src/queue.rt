@@ -1,6 +1,7 @@
 //! The messages of a channel, without a lock.
 
 ghost use Rattle.std.specs.Prelude.{◌≡◌, ◌<◌, ◌+◌, length, vec_len, vec_capacity, IfOk, OnErr, MatchBool, not, ◌&&◌};
+ghost use Rattle.channels.specs.Room.{is_full};
 ghost use Rattle.channels.specs.Messages.{has_room, is_over, is_ready, new_messages, IsTold, IsSend, IsLeave, IsTaken, IsReceived, IsClosed, IsJoined, IsSettled};
 
 use crate::errors::{Refusal, SendError};
@@ -109,6 +110,13 @@ impl<M> MessageQueue<M> {
             Some(most) => self.waiting.len() < most,
             None => true,
         }
+    }
+
+    /// Whether a send is refused as `Full`: not, once the receiver has closed.
+    pub fn is_full(&self) -> bool
+        ensures { result ≡ is_full self.now }
+    {
+        self.is_open && !self.has_room()
     }
 
     /// Raises the signal, where there is nothing to tell yet.

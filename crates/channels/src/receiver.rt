@@ -30,7 +30,10 @@ impl<M: Drop, C: Counter + Drop> Receiver<M, C> {
     {
         let shared = &*self.shared;
         let mut signal = shared.signal(rt);
-        shared.queue.lock(rt).take(into, &mut signal)
+        let mut state = shared.state.lock(rt);
+        let taken = state.queue.take(into, &mut signal);
+        let _ = shared.tell_room(&mut state, rt);
+        taken
     }
 
     /// The message that has waited longest; none where none waits.
@@ -39,26 +42,27 @@ impl<M: Drop, C: Counter + Drop> Receiver<M, C> {
     {
         let shared = &*self.shared;
         let mut signal = shared.signal(rt);
-        shared.queue.lock(rt).receive(&mut signal)
+        let mut state = shared.state.lock(rt);
+        let message = state.queue.receive(&mut signal);
+        let _ = shared.tell_room(&mut state, rt);
+        message
     }
 
     /// Whether nothing waits and nothing will come any more: all senders have closed.
     pub fn is_over<R: Wait>(&self, rt: &R) -> bool {
-        self.shared.queue.lock(rt).is_over()
+        self.shared.state.lock(rt).queue.is_over()
     }
 
     /// How many messages wait; `None` where the channel's lock is held at this moment. It waits for nobody.
     pub fn pending(&self) -> Option<usize> {
-        let queue = self.shared.queue.try_lock()?;
-        Some(queue.waiting())
+        let state = self.shared.state.try_lock()?;
+        Some(state.queue.waiting())
     }
 
     /// Takes no message in from now on, and hands out all that wait, in the order in which they were sent. Where no other end is
     /// left, the counter is closed, too ([`Counter::close`]).
     pub fn close<R: Wait + Clock>(self, rt: &R) -> Vec<M> {
-        let shared = &*self.shared;
-        let mut signal = shared.signal(rt);
-        let waiting = shared.queue.lock(rt).close(&mut signal);
+        let waiting = self.shared.end(rt);
         shared::close(self.shared, rt);
         waiting
     }

@@ -1,7 +1,7 @@
 //! The sending end.
 
-ghost use Rattle.std.specs.Prelude.{◌≡◌, Err, IfOk, IfErr};
-ghost use Rattle.channels.specs.Ends.{counter_of_sender, IsSendRefusal};
+ghost use Rattle.std.specs.Prelude.{◌≡◌, Err, IfOk, IfErr, None, Some, MatchOption};
+ghost use Rattle.channels.specs.Ends.{counter_of_sender, room_of_sender, IsSendRefusal};
 
 use crate::errors::{CloseError, SendError};
 use crate::shared::{self, Shared};
@@ -33,16 +33,28 @@ impl<M: Drop, C: Counter + Drop> Sender<M, C> {
     {
         let shared = &*self.shared;
         let mut signal = shared.signal(rt);
-        shared.queue.lock(rt).send(message, &mut signal)
+        let mut state = shared.state.lock(rt);
+        let sent = state.queue.send(message, &mut signal);
+        let _ = shared.tell_room(&mut state, rt);
+        sent
+    }
+
+    /// The counter that is ready for `IN` while no send is refused as `Full`, of a channel that was made with one
+    /// ([`sync_channel_with_room`](crate::sync_channel_with_room)).
+    pub fn room(&self) -> Option<&C>
+        ensures { MatchOption result (room_of_sender self.now ≡ None) (λ counter. room_of_sender self.now ≡ Some counter.now) }
+    {
+        self.shared.room.as_ref()
     }
 
     /// Another sender to the same receiver. Refused for want of memory, and where 18446744073709551615 haven't closed; then
     /// nothing changed.
     pub fn try_clone<R: Wait>(&self, rt: &R) -> Result<Self, AllocError>
         ensures same_counter { IfOk result (λ other. counter_of_sender other ≡ counter_of_sender self.now) }
+        ensures same_room { IfOk result (λ other. room_of_sender other ≡ room_of_sender self.now) }
     {
         let shared = Arc::try_clone(&self.shared)?;
-        self.shared.queue.lock(rt).join()?;
+        self.shared.state.lock(rt).queue.join()?;
         Ok(Sender { shared })
     }
 
@@ -55,7 +67,7 @@ impl<M: Drop, C: Counter + Drop> Sender<M, C> {
     {
         let shared = &*self.shared;
         let mut signal = shared.signal(rt);
-        let left = shared.queue.lock(rt).leave(&mut signal);
+        let left = shared.state.lock(rt).queue.leave(&mut signal);
         match left {
             Ok(()) => {
                 shared::close(self.shared, rt);

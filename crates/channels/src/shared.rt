@@ -1,17 +1,27 @@
 //! What both ends of a channel share.
 
-ghost use Rattle.std.specs.Prelude.{◌≡◌};
+ghost use Rattle.std.specs.Prelude.{◌≡◌, IfErr, MatchOption, Ok, Err};
 
 use crate::queue::{MessageQueue, Signal};
+use crate::room::Room;
 use std::sync::{Arc, Mutex, Wait};
 use std::time::Clock;
 use vmm_sys::counter::Counter;
 use vmm_sys::errno::Errno;
 
+/// What stands under the lock of a channel.
+#[derive(Drop)]
+pub(crate) struct State<M> {
+    pub(crate) queue: MessageQueue<M>,
+    pub(crate) room: Room,
+}
+
 /// What both ends share.
 pub(crate) struct Shared<M, C> {
-    pub(crate) queue: Mutex<MessageQueue<M>>,
+    pub(crate) state: Mutex<State<M>>,
     pub(crate) counter: C,
+    // By which senders are told of room, where they are.
+    pub(crate) room: Option<C>,
 }
 
 /// Gives an end's share up; with the last one the counter is closed.
@@ -23,9 +33,16 @@ pub(crate) fn close<M: Drop, C: Counter + Drop, R: Wait>(share: Arc<Shared<M, C>
 
 impl<M: Drop, C: Counter + Drop> Shared<M, C> {
     fn close<R: Wait>(self, rt: &R) {
-        let Shared { queue, counter } = self;
-        drop(queue);
+        let Shared {
+            state,
+            counter,
+            room,
+        } = self;
+        drop(state);
         counter.close(rt);
+        if let Some(room) = room {
+            room.close(rt);
+        }
     }
 }
 
@@ -41,12 +58,40 @@ impl<M, C> Shared<M, C> {
     }
 }
 
+impl<M, C: Counter> Shared<M, C> {
+    /// Tells senders whether there is room. The number with which that is refused.
+    pub(crate) fn tell_room<R: Wait + Clock>(
+        &self,
+        state: &mut State<M>,
+        rt: &R,
+    ) -> Result<(), Errno>
+        ensures { MatchOption self.now.room (result ≡ Ok tt) (λ counter. IfErr result (λ errno. C.rings counter (Err errno))) }
+    {
+        match &self.room {
+            Some(counter) => state
+                .room
+                .tell(&state.queue, &mut CounterSignal { counter, rt }),
+            None => Ok(()),
+        }
+    }
+
+    /// Takes no message in from now on, and hands out all that wait.
+    pub(crate) fn end<R: Wait + Clock>(&self, rt: &R) -> Vec<M> {
+        let mut signal = self.signal(rt);
+        let mut state = self.state.lock(rt);
+        let waiting = state.queue.close(&mut signal);
+        let _ = self.tell_room(&mut state, rt);
+        waiting
+    }
+}
+
 // Not derived: then who owns one has a call to prove, and not a drop of all that is in it.
 impl<M: Drop, C: Drop> Drop for Shared<M, C> {
     fn drop(self) {
         let Shared {
-            queue: _,
+            state: _,
             counter: _,
+            room: _,
         } = self;
     }
 }

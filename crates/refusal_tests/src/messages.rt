@@ -3,8 +3,11 @@
 use crate::again;
 use crate::descriptors::{copy_counter, open_counter, open_epoll};
 use crate::expecting::{Host, Looping, expect_ok, expect_same, mark};
-use channels::{Receiver, Refusal, SendError, Sender, channel, sync_channel};
+use channels::{
+    Receiver, Refusal, SendError, Sender, channel, sync_channel, sync_channel_with_room,
+};
 use std::alloc::Global;
+use vmm_sys::errno::Errno;
 use vmm_sys::eventfd::EventFd;
 
 /// How many messages are sent.
@@ -90,5 +93,26 @@ fn messages_are_sent_to_a_bounded_channel(rt: HostRuntime) {
     let mut epoll = open_epoll(&rt, rt.alloc());
     let counter = open_counter(&rt, &mut epoll, 0);
     let (sender, mut receiver) = make_bounded(&rt, rt.alloc(), &counter);
+    send_and_receive(&rt, &sender, &mut receiver);
+}
+
+#[test]
+fn a_channel_is_made_that_tells_of_room(rt: HostRuntime) {
+    let mut epoll = open_epoll(&rt, rt.alloc());
+    let counter = open_counter(&rt, &mut epoll, 0);
+    let room = open_counter(&rt, &mut epoll, 1);
+    let (sender, mut receiver) = again!(
+        &rt,
+        "sync_channel_with_room",
+        sync_channel_with_room(
+            copy_counter(&rt, &counter),
+            copy_counter(&rt, &room),
+            2,
+            rt.alloc(),
+            &rt
+        ),
+        room.read(&rt) == Err(Errno::EAGAIN)
+    );
+    expect_same(&rt, "sync_channel_with_room", &room.read(&rt), &Ok(1));
     send_and_receive(&rt, &sender, &mut receiver);
 }

@@ -52,11 +52,7 @@ impl Timer {
     pub(crate) fn stopped(self) -> Timer
         ensures { result ≡ stopped self }
     {
-        if self.is_open {
-            Timer::DISARMED
-        } else {
-            self
-        }
+        if self.is_open { Timer::DISARMED } else { self }
     }
 
     /// The timer once it is `now`. Due up to now, it has expired, once and once more for each whole interval since, and it is due

@@ -1,0 +1,36 @@
+//! The room in a queue, and what tells senders of it.
+
+ghost use Rattle.channels.specs.Room.{IsRoomTold};
+
+use crate::queue::{MessageQueue, Signal};
+use vmm_sys::errno::Errno;
+
+/// What senders are told of the room in a queue, by a signal of their own: it is raised while no send is refused as `Full`, so
+/// also once the receiver has closed.
+#[derive(Clone, Copy, PartialEq, Eq, Debug)]
+pub struct Room {
+    /// Whether the signal is raised.
+    pub is_raised: bool,
+}
+
+impl Room {
+    /// Raises the signal, or lowers it, where the queue has changed so. The number with which a raise is refused; the next call
+    /// tries again.
+    pub fn tell<M, S: Signal>(
+        &mut self,
+        queue: &MessageQueue<M>,
+        signal: &mut S,
+    ) -> Result<(), Errno>
+        ensures { IsRoomTold S.raises S.lowers queue.now self.old.is_raised signal.old result self.new.is_raised signal.new }
+    {
+        let is_raised = !queue.is_full();
+        if is_raised && !self.is_raised {
+            signal.raise()?;
+        }
+        if !is_raised && self.is_raised {
+            signal.lower();
+        }
+        self.is_raised = is_raised;
+        Ok(())
+    }
+}
