@@ -1,10 +1,10 @@
 //! The loop that accepts connections, hands them to the workers, and hears what they have done.
 
 use crate::fault::Fault;
-use crate::inbox::Inbox;
 use crate::worker::{Connection, Report};
 use channels::{Receiver, Sender, channel};
 use event_manager::{Either, EventLoop, EventPoller, SubscriberOps, ThreadLoop};
+use inboxes::Inbox;
 use std::alloc::Global;
 use std::mem;
 use std::sync::Wait;

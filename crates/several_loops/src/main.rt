@@ -5,7 +5,6 @@
 
 mod acceptor;
 mod fault;
-mod inbox;
 mod worker;
 
 use acceptor::{Acceptor, Client, Lane};

@@ -1,11 +1,11 @@
 //! A loop that serves connections.
 
 use crate::fault::Fault;
-use crate::inbox::Inbox;
 use channels::{Receiver, Sender};
 use event_manager::{
     Either, EventLoop, EventPoller, Result, SubscriberId, SubscriberOps, ThreadLoop,
 };
+use inboxes::Inbox;
 use std::alloc::Global;
 use std::sync::Wait;
 use std::time::Clock;
