@@ -140,7 +140,10 @@ fn the_last_end_closes_the_counter_of_room_too(rt: HostRuntime) {
 /// Sends numbers from 0 up, and waits for room where there is none.
 fn send_numbers<R: Looping>(rt: &R, epoll: &mut Epoll<R>, sender: &Sender<u64>) {
     for number in 0..NUMBERS {
-        while sender.send(number, rt).is_err() {
+        for _try in rt.forever() {
+            if sender.send(number, rt).is_ok() {
+                break;
+            }
             wait_for(rt, epoll, "room");
         }
     }
