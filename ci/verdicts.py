@@ -21,7 +21,6 @@ PARTS = ("src", "specs", "proofs")
 # What `rt try` reads, and what a program must write.
 PARTS_TRIED = ("src", "specs", "cases", "args", "stdin", "stdout", "status")
 TOOLS = ("as_it_is.py", "cases.py", "command.py", "tries.py", "verdicts.py")
-OF_WRONG_BODIES = "wrong_bodies"
 
 
 def files_of(path):

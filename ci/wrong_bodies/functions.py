@@ -63,8 +63,9 @@ def path_at(crate, file, text, at):
 
 def parts_of(text):
     """Where the head, the body and the end of each function are that has a body of its own lines."""
-    for it in FUNCTION.finditer(text):
-        opens = re.compile(rf"^{it[1]}(?:\{{|\S.* \{{|\S*.*\{{\}}|.*;)$", re.M).search(text, it.start())
+    heads = [it.start() for it in FUNCTION.finditer(text)]
+    for it, after in zip(FUNCTION.finditer(text), [*heads[1:], len(text)]):
+        opens = re.compile(rf"^{it[1]}(?:\{{|\S.* \{{|\S*.*\{{\}}|.*;)$", re.M).search(text, it.start(), after)
         if opens and opens[0].endswith("{"):
             yield it.start(2), opens.end() - 1, text.index(f"\n{it[1]}}}\n", opens.end()) + len(it[1]) + 2
 

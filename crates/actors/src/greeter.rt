@@ -15,9 +15,8 @@ use std::time::Clock;
 pub struct Greeter<R> {
     names: Receiver<String>,
     tally: Sender<Told>,
-    // Its events: of its names, and of the tally's room.
-    comes: Events,
-    room: Events,
+    names_ready: Events,
+    room_ready: Events,
     // Whose name is still to be handed on.
     kept: Option<Told>,
     waits_for_room: bool,
@@ -25,13 +24,13 @@ pub struct Greeter<R> {
 }
 
 impl<R> Greeter<R> {
-    /// One that is sent names here, and hands them on there, where this event tells of room.
-    pub fn new(names: Receiver<String>, tally: Sender<Told>, room: Events, rt: R) -> Self {
+    /// One that is sent names here, and hands them on there, where `room_ready` is the event of the tally's room.
+    pub fn new(names: Receiver<String>, tally: Sender<Told>, room_ready: Events, rt: R) -> Self {
         Greeter {
-            comes: Events::new(&names, EventSet::IN),
+            names_ready: Events::new(&names, EventSet::IN),
             names,
             tally,
-            room,
+            room_ready,
             kept: None,
             waits_for_room: false,
             rt,
@@ -40,12 +39,12 @@ impl<R> Greeter<R> {
 
     /// The event that it waits for.
     fn awaited(&self) -> Events
-        ensures { result ≡ if self.now.waits_for_room then self.now.room else self.now.comes }
+        ensures { result ≡ if self.now.waits_for_room then self.now.room_ready else self.now.names_ready }
     {
         if self.waits_for_room {
-            self.room
+            self.room_ready
         } else {
-            self.comes
+            self.names_ready
         }
     }
 }
@@ -81,16 +80,16 @@ impl<R: Wait + Clock + Print + AllocGlobal + Drop> Greeter<R> {
 /// It asks for its names' event when it is added. Once it keeps one, it asks for that of room in its place, and then back again.
 impl<R: Wait + Clock + Print + AllocGlobal + Drop> StepSubscriber for Greeter<R> {
     ghost use Rattle.std.specs.Prelude.{◌≡◌, is_some, if◌then◌else◌};
-    ghost use Rattle.actors.specs.Wanted.{IsWanted, waits_rightly};
+    ghost use Rattle.actors.specs.Wanted.{IsWanted, is_settled};
 
     ghost requests = { λ v input wanted w. (w ≡ record v { kept = w.kept; waits_for_room = w.waits_for_room })
-        × IsWanted v.comes v.room input v.waits_for_room (is_some w.kept) wanted w.waits_for_room };
+        × IsWanted v.names_ready v.room_ready input v.waits_for_room (is_some w.kept) wanted w.waits_for_room };
 
-    ghost requests_left = { λ v. if waits_rightly v.waits_for_room (is_some v.kept) then 0 else 1 };
+    ghost requests_left = { λ v. if is_settled v.waits_for_room (is_some v.kept) then 0 else 1 };
 
     fn next(&mut self, input: StepInput) -> Option<Request> {
         match input {
-            StepInput::Init => Some(Request::Add(self.comes)),
+            StepInput::Init => Some(Request::Add(self.names_ready)),
             StepInput::Event(_) => {
                 self.hand_on();
                 (self.waits_for_room != self.kept.is_some()).then_some(Request::Remove(

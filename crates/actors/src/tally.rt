@@ -74,10 +74,9 @@ impl<R: Wait + Clock + Print + AllocGlobal + Drop> Tally<R> {
 impl<R: Wait + Clock + Print + AllocGlobal + Drop> StepSubscriber for Tally<R> {
     ghost use Rattle.std.specs.Prelude.{◌≡◌, ◌≤◌};
     ghost use Rattle.channels.specs.Ends.{counter_of_receiver};
-    ghost use Rattle.vmm_sys.specs.EventFd.{descriptor_of};
     ghost use Rattle.actors.specs.Wanted.{wanted_on};
 
-    ghost requests = { λ v input wanted w. (wanted ≡ wanted_on (descriptor_of (counter_of_receiver v.told)) input) × (w ≡ record v { count = w.count }) × (v.count ≤ w.count) };
+    ghost requests = { λ v input wanted w. (wanted ≡ wanted_on (counter_of_receiver v.told) input) × (w ≡ record v { count = w.count }) × (v.count ≤ w.count) };
 
     ghost requests_left = { λ v. 0 };
 

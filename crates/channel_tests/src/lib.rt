@@ -15,6 +15,7 @@ mod in_a_loop;
 mod looks;
 #[cfg(test)]
 mod order;
+pub mod queue_with_room;
 #[cfg(test)]
 mod receiving;
 #[cfg(test)]

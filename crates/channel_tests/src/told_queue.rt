@@ -13,8 +13,8 @@ use vmm_sys::errno::Errno;
 
 /// How often it was raised since it was last lowered.
 #[derive(Drop)]
-struct Count {
-    value: u64,
+pub(crate) struct Count {
+    pub(crate) value: u64,
 }
 
 impl Model for Count {

@@ -1,6 +1,7 @@
-//! What the counter of a queue shows while messages come and go.
+//! What the counters of a queue show while messages come and go.
 
 use crate::expecting::{expect_ok, expect_same};
+use crate::queue_with_room::QueueWithRoom;
 use crate::told_queue::ToldQueue;
 use channels::{Refusal, SendError};
 use std::process::Abort;
@@ -44,4 +45,21 @@ fn the_end_is_told_until_the_receiver_closes(rt: HostRuntime) {
     let (why, message) = (Refusal::Closed, 9);
     expect_same(&rt, &queue.send(message), &Err(SendError { why, message }));
     expect_told(&rt, &queue, 0, 0);
+}
+
+#[test]
+fn a_value_of_zero_says_that_there_is_no_room(rt: HostRuntime) {
+    let mut queue = expect_ok(&rt, QueueWithRoom::new(rt.alloc(), 1));
+    expect_same(&rt, &queue.room(), &Ok(1));
+    expect_same(&rt, &queue.send(5), &Ok(()));
+    expect_same(&rt, &queue.room(), &Ok(0));
+    let (why, message) = (Refusal::Full, 6);
+    expect_same(&rt, &queue.send(message), &Err(SendError { why, message }));
+    expect_same(&rt, &queue.room(), &Ok(0));
+    expect_same(&rt, &queue.receive(), &Some(5));
+    expect_same(&rt, &queue.room(), &Ok(1));
+    expect_same(&rt, &queue.send(7), &Ok(()));
+    expect_same(&rt, &queue.room(), &Ok(0));
+    expect_same(&rt, &queue.close().as_slice(), &[7].as_slice());
+    expect_same(&rt, &queue.room(), &Ok(1));
 }

@@ -1,1 +1,2 @@
 pub mod WakeUps
+pub mod Rooms

@@ -1,4 +1,4 @@
-//! Both ends of a channel, made.
+//! The constructors of channels.
 
 ghost use Rattle.std.specs.Prelude.{◌≡◌, ◌⊎◌, IfOk, IfErr, Err, None, Some};
 ghost use Rattle.vmm_sys.specs.declared.errno.TheConstants.Errno.{ENOMEM};
@@ -15,7 +15,6 @@ use std::time::Clock;
 use vmm_sys::counter::Counter;
 use vmm_sys::errno::Errno;
 
-/// Both ends over these messages and these counters.
 fn ends_of<M: Drop, C: Counter + Drop>(
     queue: MessageQueue<M>,
     counter: C,
@@ -41,9 +40,9 @@ fn ends_of<M: Drop, C: Counter + Drop>(
     Ok((Sender { shared }, Receiver { shared: other }))
 }
 
-/// A channel without a bound. Its receiver has the descriptor of the counter, which nobody else rings or clears, and whose value
-/// is 0. It is rung and cleared under the channel's lock, so one of your own may not send to the channel in its ring. Refused for
-/// want of memory; then the counter is dropped.
+/// A channel without a bound, whose receiver has the counter's descriptor. The counter must have the value 0, and nobody else may
+/// ring or clear it. It is rung and cleared under the channel's lock: a counter of your own may use neither end in its `ring` and
+/// `clear`. Refused where memory is; then the counter is dropped.
 pub fn channel<M: Drop, C: Counter + Drop>(
     counter: C,
     alloc: Global,
@@ -54,7 +53,7 @@ pub fn channel<M: Drop, C: Counter + Drop>(
     ends_of(MessageQueue::new(alloc), counter, None, alloc)
 }
 
-/// As [`channel`], with room for so many messages, which is made here once for all: so no send takes memory.
+/// As [`channel`], with room for `most` messages, which is allocated here: no send takes memory.
 pub fn sync_channel<M: Drop, C: Counter + Drop>(
     counter: C,
     most: usize,
@@ -66,10 +65,11 @@ pub fn sync_channel<M: Drop, C: Counter + Drop>(
     ends_of(MessageQueue::with_room(alloc, most)?, counter, None, alloc)
 }
 
-/// As [`sync_channel`], with a counter for its senders, too, [`Sender::room`], which is ready for `IN` exactly while no send is
-/// refused as `Full`: so who was refused adds it to a poller, and removes it once all is sent, as with `OUT` of a socket.
+/// As [`sync_channel`], with a counter for its senders, too ([`Sender::room`]), which is ready for `IN` while no send is refused as
+/// `Full`, as `OUT` of a socket is: a sender that was refused adds it to its poller, and removes it once all is sent. Both counters
+/// must have the value 0. Where the counter of room refuses its ring, the next send or take rings it again.
 ///
-/// Refused for want of memory with `ENOMEM`, or with the number with which that counter refuses to be rung; then both are dropped.
+/// Refused with `ENOMEM`, or with the number with which `room` refuses its first ring; then both counters are dropped.
 pub fn sync_channel_with_room<M: Drop, C: Counter + Drop, R: Wait + Clock>(
     counter: C,
     room: C,

@@ -1,4 +1,4 @@
-//! Why a message isn't taken in, or a sender not closed.
+//! Errors of sends and closes.
 
 use std::fmt;
 use vmm_sys::errno::Errno;
@@ -8,7 +8,7 @@ use vmm_sys::errno::Errno;
 pub enum Refusal {
     /// The receiver has closed.
     Closed,
-    /// As many messages wait as the channel is made for.
+    /// As many messages wait as the channel has room for.
     Full,
     /// Memory was refused.
     OutOfMemory,
@@ -34,20 +34,20 @@ impl fmt::Display for Refusal {
 
 impl std::error::Error for Refusal {}
 
-/// A message that was refused: why, and the message.
+/// A message that was refused.
 #[derive(Drop, PartialEq, Eq, Debug)]
 pub struct SendError<M> {
     /// Why.
     pub why: Refusal,
-    /// What was to be sent.
+    /// The message.
     pub message: M,
 }
 
-/// A sender that was not closed: the number with which the counter refused its ring, and the sender.
+/// A sender that was not closed.
 #[derive(Drop)]
 pub struct CloseError<S> {
-    /// The number.
+    /// The number with which the counter refused its ring.
     pub errno: Errno,
-    /// What was to be closed.
+    /// The sender.
     pub sender: S,
 }

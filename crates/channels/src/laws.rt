@@ -1,12 +1,10 @@
-//! What holds of every history of a queue: each function does nothing, and its contract is a law.
+//! Laws of every history of a queue: each function does nothing, and its contract is the law.
 
-ghost use Rattle.std.specs.Prelude.{◌≡◌, ℕ, Bool, true, List, Option, Result, Ok};
-ghost use Rattle.vmm_sys.specs.declared.errno.Errno.{Errno};
-ghost use Rattle.channels.specs.Messages.{Messages};
-ghost use Rattle.channels.specs.Room.{IsCounterTold, IsRung, is_full};
+ghost use Rattle.std.specs.Prelude.{ℕ, List, Option};
+ghost use Rattle.channels.specs.Room.{ToldOfRoom, IsCounterTold, AreStepsAndTells, NoRoomIsMissed, new_told_of_room};
 ghost use Rattle.channels.specs.Steps.{Told, AreSteps, NoWakeUpIsLost, new_told};
 
-/// What is done to a queue of messages, or to the counter that tells its receiver.
+/// A step on a queue of messages, or on its receiver's counter.
 #[derive(Drop)]
 pub enum QueueStep<M> {
     /// A message is sent.
@@ -25,20 +23,18 @@ pub enum QueueStep<M> {
     Leave,
 }
 
-/// No wake-up is lost: while the counter's value is 0, no message waits in an open queue, and not all senders have closed. That
-/// holds of a new queue, and it still holds after any list of steps, each agreed to or refused. So a loop that sleeps because the
-/// value is 0 sleeps over no message.
+/// No wake-up is lost: of a new queue, and after any steps, agreed to or refused, the counter's value is 0 only where no message
+/// waits in an open queue, and a sender is left. So a loop that sleeps because the value is 0 misses no message.
 pub fn no_wake_up_is_lost<M>()
     ensures new { (most : Option ℕ) → NoWakeUpIsLost (new_told {M = M} most) }
     ensures kept { (before : Told M) (steps : List (QueueStep M)) (after : Told M) →
         AreSteps before steps after → NoWakeUpIsLost before → NoWakeUpIsLost after }
 {}
 
-/// No room is missed: once senders are told, and their counter didn't refuse its ring, its value is 0 only while the queue is open
-/// and full. So who waits for room because the value is 0 sleeps over none.
+/// No room is missed where senders are told behind each step: the value of their counter is 0 only where a send is refused as
+/// `Full`, or the counter refused its last ring. So a sender that sleeps because the value is 0 misses no room.
 pub fn no_room_is_missed<M>()
-    ensures rung { (q : Messages M) (was is : Bool) (before after : ℕ) (answer : Result (Unit {0}) Errno) →
-        IsCounterTold q was before answer is after → IsRung was before → IsRung is after }
-    ensures told { (q : Messages M) (was is : Bool) (before after : ℕ) →
-        IsCounterTold q was before (Ok tt) is after → IsRung was before → after ≡ 0 → is_full q ≡ true }
+    ensures new { (most : Option ℕ) (after : ToldOfRoom M) → IsCounterTold (new_told_of_room most) (new_told most) after → NoRoomIsMissed after }
+    ensures kept { (before : ToldOfRoom M) (steps : List (QueueStep M)) (after : ToldOfRoom M) →
+        AreStepsAndTells before steps after → NoRoomIsMissed before → NoRoomIsMissed after }
 {}

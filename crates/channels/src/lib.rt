@@ -1,9 +1,9 @@
-//! Channels of messages whose receiving end is a descriptor: what a loop is told of.
+//! Channels of messages whose receiver has a descriptor, so that a loop waits for messages as for any event.
 //!
-//! [`channel`] makes a [`Sender`] and a [`Receiver`] over a counter, as an `EventFd` of the poller's table. A subscriber adds the
-//! receiver's descriptor for `IN`, and takes the messages at its event. Who sends needs no loop and no manager: subscribers of
-//! one loop send to each other and to themselves, as threads and other loops do. [`sync_channel`] has a bound, and [`sync_channel_with_room`] a
-//! descriptor for its senders, too, which is ready while there is room.
+//! [`channel`] makes a [`Sender`] and a [`Receiver`] over a counter, such as an `EventFd` of the poller's table. A subscriber adds
+//! the receiver's descriptor for `IN`, and takes the messages at its event. Senders need no loop: subscribers send to each other
+//! and to themselves, as threads and other loops do. [`sync_channel`] has a bound, [`sync_channel_with_room`] also a descriptor for
+//! senders.
 #![tactic(auto)]
 
 mod ends;

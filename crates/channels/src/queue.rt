@@ -11,7 +11,7 @@ use std::marker::Model;
 use std::mem;
 use vmm_sys::errno::Errno;
 
-/// What tells the receiver of a queue: that there is something for it, or nothing any more.
+/// What notifies an end of a queue.
 pub trait Signal {
     ghost use Rattle.std.specs.Prelude.{Result};
     ghost use Rattle.vmm_sys.specs.declared.errno.Errno.{Errno};
@@ -22,7 +22,7 @@ pub trait Signal {
     /// From a value, which value a lowering may leave.
     ghost lowers: { Self → Self → Type 0 };
 
-    /// There is something. The number with which that is refused.
+    /// There is something. Refused with a number of the signal's own.
     fn raise(&mut self) -> Result<(), Errno>
         ensures { raises self.old result self.new };
 
@@ -31,11 +31,10 @@ pub trait Signal {
         ensures { lowers self.old self.new };
 }
 
-/// Messages that wait, in the order in which they were sent; how many senders haven't closed; and whether the receiver hasn't.
+/// The messages that wait, in the order in which they were sent; how many senders haven't closed; and whether the receiver hasn't.
 ///
-/// The signal is raised where there was nothing to tell the receiver and now is: a message waits, or all senders have closed. It
-/// is lowered where that is over. So whoever holds a lock round the messages knows it to be raised exactly while there is
-/// something to tell, and a batch costs one raise.
+/// The signal is raised where a first message waits or the last sender has closed, and lowered where neither is so any more: it is
+/// raised exactly while there is something for the receiver, and a batch costs one raise.
 #[derive(Drop)]
 pub struct MessageQueue<M> {
     waiting: VecDeque<M>,
@@ -69,7 +68,7 @@ impl<M> MessageQueue<M> {
         }
     }
 
-    /// An open queue of one sender in which nothing waits, with room for so many messages, which is made here once for all.
+    /// As `new`, with room for `most` messages, which is allocated here.
     pub fn with_room(alloc: Global, most: usize) -> Result<Self, AllocError>
         ensures { IfOk result (λ q. q ≡ new_messages (Some most)) }
     {
@@ -88,21 +87,20 @@ impl<M> MessageQueue<M> {
         self.waiting.len()
     }
 
-    /// Whether there is something to tell the receiver.
+    /// Whether there is something for the receiver.
     pub fn is_ready(&self) -> bool
         ensures { result ≡ is_ready self.now }
     {
         self.is_open && (!self.waiting.is_empty() || self.senders == 0)
     }
 
-    /// Whether nothing waits and nothing will come any more: all senders have closed.
+    /// Whether nothing waits and all senders have closed.
     pub fn is_over(&self) -> bool
         ensures { result ≡ is_over self.now }
     {
         self.waiting.is_empty() && self.senders == 0
     }
 
-    /// Whether one more message can wait.
     fn has_room(&self) -> bool
         ensures { result ≡ has_room self.now.most (length self.now.waiting) }
     {
@@ -112,14 +110,13 @@ impl<M> MessageQueue<M> {
         }
     }
 
-    /// Whether a send is refused as `Full`: not, once the receiver has closed.
+    /// Whether a send is refused as `Full`.
     pub fn is_full(&self) -> bool
         ensures { result ≡ is_full self.now }
     {
         self.is_open && !self.has_room()
     }
 
-    /// Raises the signal, where there is nothing to tell yet.
     fn tell<S: Signal>(&self, signal: &mut S) -> Result<(), Errno>
         ensures { IsTold S.raises self.now signal.old result signal.new }
     {
@@ -129,7 +126,6 @@ impl<M> MessageQueue<M> {
         signal.raise()
     }
 
-    /// Lowers the signal, where there was something to tell and there isn't now.
     fn settle<S: Signal>(&self, was_ready: bool, signal: &mut S)
         ensures { MatchBool (was_ready && not (is_ready self.now)) (S.lowers signal.old signal.new) (signal.new ≡ signal.old) }
     {
@@ -138,11 +134,9 @@ impl<M> MessageQueue<M> {
         }
     }
 
-    /// Puts the message last, and raises the signal first where there is nothing to tell yet.
-    ///
-    /// Refused, in this order, the message in the error and the queue as it was: `Closed` where the receiver has closed; `Full`
-    /// where as many wait as there is room for; `OutOfMemory`, of a queue without a bound; `EventFd` with the number with which
-    /// the raise is refused.
+    /// Puts the message last, and raises the signal first where there is nothing for the receiver yet. Refused, in this order, and
+    /// nothing changes: `Closed`; `Full`; `OutOfMemory`, of a queue without a bound; `EventFd` with the number of the refused
+    /// raise.
     pub fn send<S: Signal>(&mut self, message: M, signal: &mut S) -> Result<(), SendError<M>>
         ensures { IsSend S.raises self.old signal.old message result self.new signal.new }
     {
@@ -161,8 +155,7 @@ impl<M> MessageQueue<M> {
         Err(SendError { why, message })
     }
 
-    /// Moves all that waits behind what the list has, in order. Refused where the list lacks room and memory for more: then nothing is
-    /// moved. Lowers the signal where nothing is to be told any more.
+    /// Moves all that waits behind what the list has, in order. Refused where the list gets no memory; then nothing is moved.
     pub fn take<S: Signal>(&mut self, into: &mut Vec<M>, signal: &mut S) -> Result<(), AllocError>
         ensures taken { IsTaken self.old into.old.items result self.new into.new.items }
         ensures refused { OnErr result (vec_capacity into.old < vec_len into.old + length self.old.waiting) }
@@ -177,7 +170,7 @@ impl<M> MessageQueue<M> {
         taken
     }
 
-    /// The message that has waited longest; none where none waits. Lowers the signal as a take does.
+    /// The message that has waited longest, if one waits.
     pub fn receive<S: Signal>(&mut self, signal: &mut S) -> Option<M>
         ensures received { IsReceived self.old result self.new }
         ensures settled { IsSettled S.lowers self.old signal.old self.new signal.new }
@@ -188,8 +181,7 @@ impl<M> MessageQueue<M> {
         message
     }
 
-    /// Takes no message in from now on, and hands out all that wait, in order. Lowers the signal where there was something to
-    /// tell.
+    /// Refuses messages from now on, and returns all that wait, in order.
     pub fn close<S: Signal>(&mut self, signal: &mut S) -> Vec<M>
         ensures closed { IsClosed self.old result.items self.new }
         ensures settled { IsSettled S.lowers self.old signal.old self.new signal.new }
@@ -214,8 +206,8 @@ impl<M> MessageQueue<M> {
         Ok(())
     }
 
-    /// Counts one sender less, and raises the signal where that was the last one and there was nothing to tell yet. Refused with
-    /// the number with which the raise is refused; then the sender counts as before.
+    /// Counts one sender less, and raises the signal where that was the last one and no message waits. Refused with the number of
+    /// the refused raise; then the sender still counts.
     pub fn leave<S: Signal>(&mut self, signal: &mut S) -> Result<(), Errno>
         ensures { IsLeave S.raises self.old signal.old result self.new signal.new }
     {

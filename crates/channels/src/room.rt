@@ -1,12 +1,11 @@
-//! The room in a queue, and what tells senders of it.
+//! How senders are notified of room.
 
 ghost use Rattle.channels.specs.Room.{IsRoomTold};
 
 use crate::queue::{MessageQueue, Signal};
 use vmm_sys::errno::Errno;
 
-/// What senders are told of the room in a queue, by a signal of their own: it is raised while no send is refused as `Full`, so
-/// also once the receiver has closed.
+/// The state of the senders' signal, which is raised while no send is refused as `Full`, so also once the receiver has closed.
 #[derive(Clone, Copy, PartialEq, Eq, Debug)]
 pub struct Room {
     /// Whether the signal is raised.
@@ -14,8 +13,8 @@ pub struct Room {
 }
 
 impl Room {
-    /// Raises the signal, or lowers it, where the queue has changed so. The number with which a raise is refused; the next call
-    /// tries again.
+    /// Raises or lowers the signal where the queue has changed so. Refused with the number of the refused raise, which the next
+    /// call makes again.
     pub fn tell<M, S: Signal>(
         &mut self,
         queue: &MessageQueue<M>,

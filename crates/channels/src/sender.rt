@@ -11,22 +11,18 @@ use std::time::Clock;
 use vmm_sys::counter::Counter;
 use vmm_sys::eventfd::EventFd;
 
-/// Sends messages to the receiver that it was made with, from any thread.
-///
-/// A sender that is only dropped counts as one that sends no more and hasn't closed: its receiver is told of the end by
-/// [`close`](Sender::close) alone, since a drop has no handle to wait with.
+/// Sends messages to the receiver that it was made with, from any thread. A drop doesn't close it, since that has no handle to wait
+/// with: the receiver learns of the end by [`close`](Sender::close) alone.
 #[derive(Drop)]
 pub struct Sender<M, C = EventFd> {
     pub(crate) shared: Arc<Shared<M, C>>,
 }
 
 impl<M: Drop, C: Counter + Drop> Sender<M, C> {
-    /// Puts the message last. The receiver is told by a ring where nothing waited, and is told already where something did: so
-    /// a full counter refuses no message behind another.
+    /// Puts the message last. The counter is rung where nothing waited, so a full counter refuses no message behind another.
     ///
-    /// Refused, in this order, the message in the error and what waits as it was: `Closed` where the receiver has closed; `Full`
-    /// where as many messages wait as the channel has room for; `OutOfMemory`, of a channel without a bound; `EventFd` with the
-    /// number with which the counter refuses its ring.
+    /// Refused, in this order, and what waits stays: `Closed`; `Full`; `OutOfMemory`, of a channel without a bound; `EventFd` with
+    /// the number with which the counter refuses its ring.
     pub fn send<R: Wait + Clock>(&self, message: M, rt: &R) -> Result<(), SendError<M>>
         ensures handed_back { IfErr result (λ refused. refused.message ≡ message) }
         ensures refusals { IfErr result (λ refused. IsSendRefusal (C.rings (counter_of_sender self.now)) refused.why) }
@@ -39,16 +35,15 @@ impl<M: Drop, C: Counter + Drop> Sender<M, C> {
         sent
     }
 
-    /// The counter that is ready for `IN` while no send is refused as `Full`, of a channel that was made with one
-    /// ([`sync_channel_with_room`](crate::sync_channel_with_room)).
+    /// The counter that is ready for `IN` while no send is refused as `Full`: see
+    /// [`sync_channel_with_room`](crate::sync_channel_with_room).
     pub fn room(&self) -> Option<&C>
         ensures { MatchOption result (room_of_sender self.now ≡ None) (λ counter. room_of_sender self.now ≡ Some counter.now) }
     {
         self.shared.room.as_ref()
     }
 
-    /// Another sender to the same receiver. Refused for want of memory, and where 18446744073709551615 haven't closed; then
-    /// nothing changed.
+    /// Another sender to the same receiver. Refused where memory is, and where 18446744073709551615 senders haven't closed.
     pub fn try_clone<R: Wait>(&self, rt: &R) -> Result<Self, AllocError>
         ensures same_counter { IfOk result (λ other. counter_of_sender other ≡ counter_of_sender self.now) }
         ensures same_room { IfOk result (λ other. room_of_sender other ≡ room_of_sender self.now) }
@@ -58,8 +53,8 @@ impl<M: Drop, C: Counter + Drop> Sender<M, C> {
         Ok(Sender { shared })
     }
 
-    /// Sends no more. Where all senders have closed, the receiver is ready for ever, and is told by a ring where nothing waits.
-    /// Where no other end is left, the counter is closed ([`Counter::close`]).
+    /// Sends no more. Once all senders have closed, the receiver stays ready; the counter is rung for that where nothing waits. The
+    /// last end closes the channel's counters, too ([`Counter::close`]).
     ///
     /// Refused with the number with which the counter refuses that ring; then the sender comes back, and hasn't closed.
     pub fn close<R: Wait + Clock>(self, rt: &R) -> Result<(), CloseError<Self>>

@@ -9,7 +9,6 @@ use std::time::Clock;
 use vmm_sys::counter::Counter;
 use vmm_sys::errno::Errno;
 
-/// What stands under the lock of a channel.
 #[derive(Drop)]
 pub(crate) struct State<M> {
     pub(crate) queue: MessageQueue<M>,
@@ -20,11 +19,10 @@ pub(crate) struct State<M> {
 pub(crate) struct Shared<M, C> {
     pub(crate) state: Mutex<State<M>>,
     pub(crate) counter: C,
-    // By which senders are told of room, where they are.
     pub(crate) room: Option<C>,
 }
 
-/// Gives an end's share up; with the last one the counter is closed.
+/// Drops a share; the last one closes the counters.
 pub(crate) fn close<M: Drop, C: Counter + Drop, R: Wait>(share: Arc<Shared<M, C>>, rt: &R) {
     if let Some(last) = Arc::into_inner(share) {
         last.close(rt);
@@ -47,7 +45,6 @@ impl<M: Drop, C: Counter + Drop> Shared<M, C> {
 }
 
 impl<M, C> Shared<M, C> {
-    /// The counter, by this handle.
     pub(crate) fn signal<'a, R>(&'a self, rt: &'a R) -> CounterSignal<'a, C, R>
         ensures { result.counter.now ≡ self.now.counter }
     {
@@ -59,7 +56,7 @@ impl<M, C> Shared<M, C> {
 }
 
 impl<M, C: Counter> Shared<M, C> {
-    /// Tells senders whether there is room. The number with which that is refused.
+    /// Tells senders whether there is room.
     pub(crate) fn tell_room<R: Wait + Clock>(
         &self,
         state: &mut State<M>,
@@ -75,7 +72,6 @@ impl<M, C: Counter> Shared<M, C> {
         }
     }
 
-    /// Takes no message in from now on, and hands out all that wait.
     pub(crate) fn end<R: Wait + Clock>(&self, rt: &R) -> Vec<M> {
         let mut signal = self.signal(rt);
         let mut state = self.state.lock(rt);
@@ -96,7 +92,7 @@ impl<M: Drop, C: Drop> Drop for Shared<M, C> {
     }
 }
 
-/// The counter of a channel, as its queue calls it: a raise rings it, and it is lowered by a clear.
+/// A counter as a signal.
 #[derive(Drop)]
 pub(crate) struct CounterSignal<'a, C, R> {
     pub(crate) counter: &'a C,

@@ -17,31 +17,31 @@ use std::fmt;
 use std::sync::{Arc, Wait};
 use std::time::Clock;
 
-/// Who is in the loop: a network device, which a vCPU's thread shares; a console; a block device; what ends the machine.
+/// The subscribers: a network device, which a vCPU's thread shares; a console; a block device; what ends the machine.
 pub type Device<Q, R> = Either<
     Arc<Locked<Net<R>, R>>,
     Either<Console<R>, Either<Block<Q, R>, Vmm<R>>>,
 >;
 
-/// What is asked of a device.
+/// A question to a device.
 #[derive(Clone, Copy)]
 pub enum ApiAction {
-    /// To tell what it has counted.
+    /// What it has counted.
     GetStatistics,
-    /// To give its rate limiter so many tokens more.
+    /// To add this many tokens to its rate limiter.
     UpdateRateLimit(u64),
 }
 
-/// What the loop replies.
+/// The loop's reply.
 #[derive(Clone, Copy, PartialEq, Eq, Debug)]
 pub enum ApiReply {
     /// What the device has counted.
     Statistics(Statistics),
-    /// The rate limiter is as it was asked.
+    /// The rate limiter was given its tokens.
     Updated,
-    /// The id of a device that was plugged in.
+    /// The id of the device that was plugged in.
     PluggedIn(SubscriberId),
-    /// The device is paused, or goes on.
+    /// Whether the device is paused now, or goes on.
     Paused(bool),
 }
 
@@ -57,7 +57,7 @@ impl fmt::Display for ApiReply {
     }
 }
 
-// What a device answers. `InvalidId`: it has no statistics, or no rate limiter.
+// `InvalidId`: the device has no statistics, or no rate limiter.
 fn answer<Q: RingName, R: Wait + Drop, W: Wait>(
     action: ApiAction,
     device: &Device<Q, R>,
@@ -89,7 +89,7 @@ impl<Q: RingName, R: Wait + Drop> Action<Device<Q, R>> for ApiAction {
     ghost use Rattle.std.specs.Prelude.{◌≡◌};
     ghost use Rattle.device_loop.specs.Answers.{IsAnswer};
 
-    // It changes nothing of what the loop holds: of a network device that is a lock.
+    // It changes nothing that the loop holds: of a network device that is a lock.
     ghost does = { λ self v told w. IsAnswer self v told × (w ≡ v) };
 
     fn act<W: Wait + Clock>(self, device: &mut Device<Q, R>, rt: &W) -> Result<ApiReply> {
@@ -115,7 +115,7 @@ impl<Q: RingName, R: Wait + Drop> Job<Device<Q, R>> for ApiRequest<Q, R> {
     ghost use Rattle.event_manager.specs.Kept.{StepGoesOn};
     ghost use Rattle.device_loop.specs.Pauses.{IsSameButPaused};
 
-    // What it puts in a device's place differs from that by the pause alone; who leaves, and what is asked for, stays open.
+    // What it puts in a device's place differs only in the pause; who leaves, and what is asked for, stays open.
     ghost may = { λ self steps reply. All (StepGoesOn IsSameButPaused) steps };
 
     ghost replies = { λ reply. Unit {0} };

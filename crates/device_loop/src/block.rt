@@ -13,7 +13,7 @@ use vmm_sys::epoll::Epoll;
 use vmm_sys::errno::Errno;
 use vmm_sys::eventfd::EventFd;
 
-// The data of its events, by which it tells them apart.
+// The data of its events, which tells them apart.
 const QUEUE: u32 = 0;
 
 const REFILL: u32 = 1;
@@ -23,7 +23,7 @@ const REFILL: u32 = 1;
 pub struct Block<Q: RingName, R> {
     /// The driver kicks it by a handle of its own.
     pub queue: EventFd,
-    /// Whoever fills its bucket again has a handle of its own.
+    /// Whatever fills its bucket again has a handle of its own.
     pub refill: EventFd,
     ring: Arc<Mutex<Ring<Q>>>,
     limiter: Limiter<Q>,
@@ -56,7 +56,7 @@ impl<Q: RingName, R> Block<Q, R> {
     ghost use Rattle.device_loop.specs.BlockEvents.{queue_event, metrics_of};
     ghost use Rattle.device_loop.specs.Buckets.{paused};
 
-    /// What it wants of its queue.
+    /// The events that it wants of its queue.
     pub fn kicks(&self) -> Events
         ensures { result ≡ queue_event self.now }
     {
@@ -92,7 +92,6 @@ impl<Q: RingName, R> Block<Q, R> {
 impl<Q: RingName, R: Wait> Block<Q, R> {
     ghost use Rattle.device_loop.specs.BlockEvents.{IsServed};
 
-    // Serves what waits, as far as its tokens reach, and keeps the first refusal.
     fn serve(&mut self)
         ensures { IsServed self.old self.new }
     {
@@ -110,7 +109,6 @@ impl<Q: RingName, R: Wait> MutEventSubscriber for Block<Q, R> {
     ghost use Rattle.event_manager.specs.Request.TheVariants.{Add};
     ghost use Rattle.device_loop.specs.BlockEvents.{queue_event, refill_event, filled, IsServed};
 
-    // It asks for its queue's event, and for that which fills its bucket, and keeps the first refusal.
     ghost begins = { λ v exchanges w. (queue refill : Answer) × (exchanges ≡ (Add (queue_event v), queue) ∷ (Add (refill_event v), refill) ∷ []) × (w ≡ record v { asked = result_and queue refill }) };
 
     // Its bucket is filled at the event for that. A paused device serves nothing; else each request costs a token that is there.

@@ -1,5 +1,4 @@
-//! The thread of the API, which plays whoever is at the other ends of the tap and of the console's line too, and who fills
-//! the block device's bucket.
+//! The API's thread, which also plays the other ends of the tap and of the console's line, and fills the block device's bucket.
 
 use crate::api::{ApiAction, ApiReply, ApiRequest, Device};
 use crate::console::Console;
@@ -15,10 +14,10 @@ use std::time::Clock;
 use vmm_sys::eventfd::EventFd;
 use vmm_sys::line::Line;
 
-/// By which the loop is asked.
+/// The endpoint by which the loop is asked.
 pub type Endpoint<Q, N, R> = RemoteEndpoint<Device<Q, R>, ApiRequest<Q, R>, N>;
 
-/// What the thread of the API has in its hands.
+/// What the thread of the API uses.
 #[derive(Drop)]
 pub struct Client<'a, R> {
     /// The id of the network device.
@@ -27,13 +26,12 @@ pub struct Client<'a, R> {
     pub tap: Line,
     /// The id of the block device.
     pub block: SubscriberId,
-    /// What fills that device's bucket.
+    /// The counter that fills that device's bucket.
     pub refill: EventFd,
-    /// What it shares with the other threads.
+    /// What the threads share.
     pub shared: &'a Shared<R>,
 }
 
-// Asks the device of an id.
 fn ask<Q: RingName, N: NamedCounter, R: Wait + Clock + Drop>(
     endpoint: &Endpoint<Q, N, R>,
     subscriber: SubscriberId,
@@ -44,7 +42,6 @@ fn ask<Q: RingName, N: NamedCounter, R: Wait + Clock + Drop>(
     Ok(endpoint.call_blocking(ApiRequest::Ask(question), rt)??)
 }
 
-// Pauses a block device, or lets it go on.
 fn set_paused<Q: RingName, N: NamedCounter, R: Wait + Clock + Drop>(
     endpoint: &Endpoint<Q, N, R>,
     device: SubscriberId,
@@ -56,11 +53,8 @@ fn set_paused<Q: RingName, N: NamedCounter, R: Wait + Clock + Drop>(
 }
 
 impl<R: Wait + Clock + Print + Copy + Drop> Client<'_, R> {
-    // Uses the network device, and prints each time what that has counted.
-    //
-    // No contract says that a reply counts what was done before. The first one comes behind the batch in which the device is
-    // set up, and each later one behind a batch that has what was done before: the jobs of a batch are run once all of it is
-    // handed out.
+    // No contract says that a reply counts what was done before. The first comes behind the batch in which the device is set up,
+    // each later one behind a batch with what was done before: a batch's jobs run once all its events are served.
     fn use_net<Q: RingName, N: NamedCounter>(
         &self,
         endpoint: &Endpoint<Q, N, R>,
@@ -78,7 +72,6 @@ impl<R: Wait + Clock + Print + Copy + Drop> Client<'_, R> {
         Ok(())
     }
 
-    // Plugs a console in, and uses it.
     fn use_console<Q: RingName, N: NamedCounter>(
         &self,
         endpoint: &Endpoint<Q, N, R>,
@@ -105,7 +98,7 @@ impl<R: Wait + Clock + Print + Copy + Drop> Client<'_, R> {
         Ok(())
     }
 
-    // Fills the bucket of the block device, pauses it while the guest reads, prints what it has served, and pauses it at last.
+    // Pauses the device while the guest reads, and at last.
     fn use_block<Q: RingName, N: NamedCounter>(
         &self,
         endpoint: &Endpoint<Q, N, R>,
@@ -129,7 +122,6 @@ impl<R: Wait + Clock + Print + Copy + Drop> Client<'_, R> {
         Ok(())
     }
 
-    // Uses one device after the other.
     fn use_devices<Q: RingName, N: NamedCounter>(
         &self,
         endpoint: &Endpoint<Q, N, R>,
@@ -140,8 +132,8 @@ impl<R: Wait + Clock + Print + Copy + Drop> Client<'_, R> {
         self.use_block(endpoint, rt)
     }
 
-    /// Uses the devices once the guest has booted, and shuts it down, whatever came of that. Where the guest was refused
-    /// something its own thread says so.
+    /// Uses the devices once the guest has booted, and shuts it down, whatever came of that; the guest's thread reports refusals to
+    /// it.
     pub fn run<Q: RingName, N: NamedCounter>(
         self,
         endpoint: &Endpoint<Q, N, R>,

@@ -12,7 +12,7 @@ pub struct Console<R> {
     line: Line,
     inputs: u64,
     hung_up: bool,
-    // What its last request was answered.
+    // The answer to its last request.
     answer: Result<()>,
     rt: R,
 }
@@ -52,10 +52,8 @@ impl<R: Wait> MutEventSubscriber for Console<R> {
     ghost use Rattle.event_manager.specs.Request.TheVariants.{Add, Remove};
     ghost use Rattle.vmm_sys.specs.Line.{descriptor_of};
 
-    // It asks to add its line, wanted for IN, and keeps the answer; all else stays.
     ghost begins = { λ v exchanges w. (exchanges ≡ (Add (record { fd = unsigned_abs (descriptor_of v.line); payload = 0; set = 0x1 }), w.answer) ∷ []) × (w ≡ record v { answer = w.answer }) };
 
-    // At a hang-up it notes that, asks to remove the event's descriptor, and keeps the answer; else it counts an input.
     ghost serves = { λ v event exchanges w. MatchBool (bit_and event.set 0x10 == 0x10)
         ((exchanges ≡ (Remove event, w.answer) ∷ []) × (w ≡ record v { hung_up = true; answer = w.answer }))
         ((exchanges ≡ []) × (w ≡ record v { inputs = next_count v.inputs })) };

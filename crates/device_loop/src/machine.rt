@@ -63,7 +63,6 @@ pub struct Machine<'a, Q: RingName, R> {
     has_exited: bool,
 }
 
-/// The loop of the devices, its jobs and its poller.
 type Loop<Q, N, R, P> = TrackedManager<Device<Q, R>, ApiRequest<Q, R>, N, P>;
 
 impl<'a, Q: RingName, R: Wait + Drop> Machine<'a, Q, R> {
@@ -79,7 +78,7 @@ impl<'a, Q: RingName, R: Wait + Drop> Machine<'a, Q, R> {
         }
     }
 
-    /// Takes the block device out of those that the loop held in the end.
+    /// Takes the block device out of the subscribers that the loop held in the end. `InvalidId`: it isn't there.
     pub fn take_block(&self, subscribers: &mut Subscribers<Device<Q, R>>) -> Result<Block<Q, R>>
         ensures { IfOk result (λ block. (id : ℕ) × (get subscribers.old id ≡ Some (Second (Second (First block))))) }
     {
@@ -90,12 +89,11 @@ impl<'a, Q: RingName, R: Wait + Drop> Machine<'a, Q, R> {
         }
     }
 
-    /// Whether the exit event has ended it.
+    /// Whether the exit event has ended the loop.
     pub fn has_exited(&self) -> bool {
         self.has_exited
     }
 
-    // Whether the exit event was served.
     fn is_to_end<N: NamedCounter, P: EventPoller>(
         &self,
         manager: &Loop<Q, N, R, P>,
@@ -110,7 +108,7 @@ impl<'a, Q: RingName, R: Wait + Drop> Machine<'a, Q, R> {
     }
 }
 
-// The network device, as its driver and whoever is at the other end of its tap have it.
+// The network device, for its driver and the other end of its tap.
 #[derive(Drop)]
 struct NetEnds<R> {
     id: SubscriberId,
@@ -119,7 +117,7 @@ struct NetEnds<R> {
     tap: Line,
 }
 
-// The block device, as its driver and whoever fills its bucket have it.
+// The block device, for its driver and what fills its bucket.
 #[derive(Drop)]
 struct BlockEnds {
     id: SubscriberId,
@@ -128,7 +126,6 @@ struct BlockEnds {
 }
 
 impl<Q: RingName, R: Wait + Clock + Copy + Drop> Machine<'_, Q, R> {
-    // Lets what waits for the exit event join, and answers that event.
     fn add_vmm<N: NamedCounter, P: EventPoller>(
         &mut self,
         manager: &mut Loop<Q, N, R, P>,
@@ -141,7 +138,6 @@ impl<Q: RingName, R: Wait + Clock + Copy + Drop> Machine<'_, Q, R> {
         Ok(exit)
     }
 
-    // Lets the network device join.
     fn add_net<N: NamedCounter, P: EventPoller>(
         &self,
         manager: &mut Loop<Q, N, R, P>,
@@ -163,7 +159,6 @@ impl<Q: RingName, R: Wait + Clock + Copy + Drop> Machine<'_, Q, R> {
         })
     }
 
-    // Lets the block device join, with the limiter of the ring.
     fn add_block<N: NamedCounter, P: EventPoller>(
         &mut self,
         manager: &mut Loop<Q, N, R, P>,

@@ -1,9 +1,6 @@
 //! Devices of a virtual machine in one event loop, in the shape that Firecracker gives them, beside a thread of the API and one
-//! that plays a virtual processor.
-//!
-//! It shows how a program uses `event_manager`: a device that asks for more once it is activated, and that another thread shares
-//! under a lock; one that is plugged in later, by a job; what is asked of devices, by another; and an exit event that ends the
-//! loop.
+//! that plays a virtual processor. It shows a device that asks for more once it is activated, and that another thread shares under
+//! a lock; one that a job plugs in later; a job that asks devices; and an exit event that ends the loop.
 #![tactic(auto)]
 
 mod api;
@@ -42,7 +39,6 @@ use std::time::Clock;
 use vmm_sys::epoll::Epoll;
 use vmm_sys::eventfd::EventFd;
 
-// The fault of the first thread that had one.
 fn all_ran(sent: Vec<Result<(), Fault>>) -> Result<(), Fault> {
     for thread_ran in sent {
         thread_ran?;
@@ -50,10 +46,10 @@ fn all_ran(sent: Vec<Result<(), Fault>>) -> Result<(), Fault> {
     Ok(())
 }
 
-/// Runs the machine, prints what has ended its loop, and how many jobs were issued and taken, and answers what came of the block
-/// device, whose life in the loop it is. Whatever the other devices, the API and the poller do, what was served is the beginning of
-/// what was queued, in order and each request once; no more than a full bucket and its refills have tokens; and nothing while the
-/// device is paused. The ring is the only one of its name, which the blank page gives.
+/// Runs the machine, prints what ended its loop and how many jobs were issued and taken, and returns what came of the block device,
+/// whose life in the loop it is. Whatever the other devices, the API and the poller do, requests are served in the order of the
+/// queue, each once, none while paused, and at most as many as a full bucket and its refills have tokens. No other ring has its
+/// name, which `blank` gives.
 fn run_machine<Q, R>(rt: &R, alloc: Global, blank: Blank) -> Result<BlockReport<Q>, Fault>
 where
     Q: RingName + Send + Sync,
@@ -85,7 +81,6 @@ where
     Ok(BlockReport::new(block, &mut ring.lock(rt), alloc)?)
 }
 
-// Runs the machine, and prints what came of the block device.
 fn tell_named<Q, R>(rt: &R, alloc: Global, blank: Blank) -> Result<(), Fault>
 where
     Q: RingName + Send + Sync,
@@ -97,7 +92,6 @@ where
     Ok(())
 }
 
-// As `tell_named`, of a ring of some name.
 fn tell<R: Threads + Wait + Clock + Print + Copy + Send + Sync + Drop>(
     rt: &R,
     alloc: Global,

@@ -13,7 +13,7 @@ use event_manager::{
 use std::sync::Wait;
 use std::time::Clock;
 
-/// A block device is paused, or is to go on.
+/// A block device is to be paused, or to go on.
 #[derive(Clone, Copy)]
 pub struct SetPaused {
     /// The id of the device.
@@ -22,7 +22,7 @@ pub struct SetPaused {
     pub is_paused: bool,
 }
 
-// Sets the flag of a block device, and replies what that wants of its queue. `InvalidId`: it is another device.
+// Sets the flag of a block device, and replies which events it wants of its queue. `InvalidId`: it is another device.
 #[derive(Clone, Copy)]
 struct SetFlag(bool);
 
@@ -45,7 +45,6 @@ impl<Q: RingName, R: Wait + Drop> Action<Device<Q, R>> for SetFlag {
     }
 }
 
-// Makes one request under the id.
 fn ask<O: SubscriberOps>(owner: &mut O, id: SubscriberId, request: Request) -> Result<Result<()>>
     ensures { (step : LoopStep O.Subscriber) × IsRequest id request result step
         × HasStepped O.Subscriber.begins O.Poller.controls O.Poller.waits (O.seen owner.old) step (O.seen owner.new) }
@@ -56,7 +55,7 @@ fn ask<O: SubscriberOps>(owner: &mut O, id: SubscriberId, request: Request) -> R
     }
 }
 
-/// Sets the flag, and takes the queue out of the loop, where its kicks would wake that in vain; or puts it in again.
+/// Sets the flag, and removes the queue from the loop, which its kicks would wake in vain, or adds it again.
 impl<Q: RingName, R: Wait + Drop> Job<Device<Q, R>> for SetPaused {
     type Reply = Result<bool>;
 

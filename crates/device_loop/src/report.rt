@@ -10,8 +10,7 @@ use std::alloc::Global;
 use std::fmt;
 use std::marker::{Model, PhantomData};
 
-/// What the driver of a ring has queued, what its device has served of that, how often the bucket was filled, and how many requests
-/// had been served when the device was paused, if it was in the end.
+/// What was queued, what was served, how often the bucket was filled, and, if paused in the end, how many were served by then.
 #[derive(Drop)]
 pub struct BlockReport<Q: RingName> {
     queued: Vec<BlockRequest>,
@@ -48,7 +47,6 @@ impl<Q: RingName> BlockReport<Q> {
     }
 }
 
-// The same requests in a list of their own.
 fn copy(requests: &[BlockRequest], alloc: Global) -> Result<Vec<BlockRequest>>
     ensures { IfOk result (λ copied. copied.items ≡ requests.now) }
 {

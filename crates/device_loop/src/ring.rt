@@ -20,7 +20,7 @@ impl RingName for Brand {
     ghost ring = { 0 };
 }
 
-/// The ledger of the requests that were served: its ring keeps the book, and its limiter has the one part.
+/// The ledger of the requests that were served: its ring has the book, and its limiter the one part.
 pub struct Served<Q> {
     of: PhantomData<Q>,
 }
@@ -31,10 +31,10 @@ impl<Q: RingName> Ledger for Served<Q> {
     ghost parts = { 1 };
 }
 
-/// A request of the driver's: to read a sector.
+/// A driver's request to read a sector.
 #[derive(Clone, Copy, PartialEq, Eq, Debug)]
 pub struct BlockRequest {
-    /// Which.
+    /// The sector.
     pub sector: u64,
 }
 
@@ -50,7 +50,7 @@ pub struct Ring<Q: RingName> {
 }
 
 impl<Q: RingName> Ring<Q> {
-    /// A ring in which nothing waits, and its limiter.
+    /// An empty ring, and its limiter.
     pub fn new(alloc: Global, blank: Blank) -> (Ring<Q>, Limiter<Q>)
         requires { (blank.name ≡ Q.ring) × (blank.parts ≡ 1) }
     {
@@ -63,7 +63,7 @@ impl<Q: RingName> Ring<Q> {
         (ring, Limiter::new(share))
     }
 
-    /// The driver queues a request.
+    /// Queues a request of the driver. Refused where memory is.
     pub fn queue(&mut self, request: BlockRequest) -> Result<(), AllocError>
         ensures served_stay { self.new.used ≡ self.old.used }
         ensures last { self.new.available.items ≡ (if is_ok result then self.old.available.items ++ request ∷ [] else self.old.available.items) }
@@ -72,7 +72,7 @@ impl<Q: RingName> Ring<Q> {
         Ok(())
     }
 
-    // The device serves up to so many of the requests that wait, and answers how many; its limiter's share notes them.
+    // Serves up to `most` of the requests that wait, and returns how many; the limiter's share notes them.
     #[tactic(auto, using(crate::proofs::Prefix::prefix_stays))]
     fn serve(&mut self, most: u64, share: &mut Share<Served<Q>>) -> Result<u64, AllocError>
         requires { share.old.parts ≡ 1 }
@@ -92,7 +92,6 @@ impl<Q: RingName> Ring<Q> {
         Ok(count)
     }
 
-    // Its book and the one share of its ledger say the same.
     fn agree(&mut self, share: &mut Share<Served<Q>>)
         requires { share.old.parts ≡ 1 }
         ensures agreed { share.old.amount ≡ length self.old.used.items }
@@ -101,14 +100,14 @@ impl<Q: RingName> Ring<Q> {
         self.book.audit(share);
     }
 
-    /// Those that were queued.
+    /// The requests that were queued.
     pub fn available(&self) -> &[BlockRequest]
         ensures { result.now ≡ self.now.available.items }
     {
         &self.available
     }
 
-    /// Those that were served.
+    /// The requests that were served.
     pub fn used(&self) -> &[BlockRequest]
         ensures same { result.now ≡ self.now.used.items }
         ensures in_order { result.now ≡ take (length result.now) self.now.available.items }

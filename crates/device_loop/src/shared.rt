@@ -3,10 +3,10 @@
 use std::sync::OnceLock;
 use vmm_sys::epoll::Epoll;
 
-/// What the loop's thread, that of the API and that of the virtual processor share.
+/// What the threads of the loop, of the API and of the virtual processor share.
 #[derive(Drop)]
 pub struct Shared<R> {
-    /// An owner of the loop's table: by it they open descriptors.
+    /// An owner of the loop's table, to open descriptors.
     pub epoll: Epoll<R>,
     /// Whether the guest has booted.
     pub has_booted: OnceLock<bool>,

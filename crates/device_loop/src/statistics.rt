@@ -27,11 +27,11 @@ pub struct BlockMetrics {
 /// What a device has counted.
 #[derive(Clone, Copy, PartialEq, Eq, Debug)]
 pub enum Statistics {
-    /// What a network device has.
+    /// The counts of a network device.
     Net(NetMetrics),
     /// The inputs that a console has served, and whether the other end hung up.
     Console { inputs: u64, hung_up: bool },
-    /// What a block device has.
+    /// The counts of a block device.
     Block(BlockMetrics),
 }
 

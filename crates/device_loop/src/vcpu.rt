@@ -15,7 +15,7 @@ const LATER: [u64; 3] = [6, 5, 4];
 
 const LAST: [u64; 2] = [10, 11];
 
-/// What the driver of a block device has in its hands.
+/// What the driver of a block device uses.
 #[derive(Drop)]
 pub struct BlockDriver<Q: RingName> {
     /// The ring, which the device has too.
@@ -25,7 +25,6 @@ pub struct BlockDriver<Q: RingName> {
 }
 
 impl<Q: RingName> BlockDriver<Q> {
-    // Queues a request for each of these sectors, and kicks the device.
     fn read<W: Wait>(&self, sectors: &[u64], rt: &W) -> Result<(), Fault> {
         {
             let mut ring = self.ring.lock(rt);
@@ -39,7 +38,7 @@ impl<Q: RingName> BlockDriver<Q> {
     }
 }
 
-/// What a virtual processor has in its hands.
+/// What a virtual processor uses.
 #[derive(Drop)]
 pub struct Vcpu<'a, Q: RingName, R> {
     /// The network device, which the loop has too.
@@ -50,12 +49,11 @@ pub struct Vcpu<'a, Q: RingName, R> {
     pub block: BlockDriver<Q>,
     /// The exit event.
     pub exit: EventFd,
-    /// What it shares with the other threads.
+    /// What the threads share.
     pub shared: &'a Shared<R>,
 }
 
 impl<Q: RingName, R: Wait + Drop> Vcpu<'_, Q, R> {
-    // The driver activates the network device, under its lock, and kicks that's queue; the other reads.
     fn boot<W: Wait>(&self, rt: &W) -> Result<(), Fault> {
         self.net.mutex.lock(rt).activate()?;
         self.queue.write(3, rt)?;

@@ -12,7 +12,7 @@ pub struct Vmm<R> {
     /// A virtual processor writes it by a handle of its own.
     pub exit: EventFd,
     has_exited: bool,
-    // What its request was answered.
+    // The answer to its request.
     asked: Result<()>,
     rt: R,
 }
@@ -42,10 +42,8 @@ impl<R: Wait> MutEventSubscriber for Vmm<R> {
     ghost use Rattle.event_manager.specs.Request.TheVariants.{Add};
     ghost use Rattle.vmm_sys.specs.EventFd.{descriptor_of};
 
-    // It asks for its exit event, and keeps the answer.
     ghost begins = { λ v exchanges w. AsksAndKeeps (Add (record { fd = unsigned_abs (descriptor_of v.exit); payload = 0; set = 0x1 })) w.asked exchanges × (w ≡ record v { asked = w.asked }) };
 
-    // It notes that the machine is to end.
     ghost serves = { λ v event exchanges w. AsksNothing exchanges × (w ≡ record v { has_exited = true }) };
 
     fn process<P: EventPoller>(&mut self, _events: Events, _ops: &mut EventOps<P>) {

@@ -3,8 +3,7 @@
 ghost use Rattle.std.specs.Prelude.{◌≡◌, ℕ, ◌<◌, ◌≤◌, ◌+◌, ◌^◌, length, vec_len, vec_capacity};
 ghost use Rattle.dispatch_tables.specs.Cancelled.{IsAscending, IsPlaceOf, HasEntered, is_among};
 
-/// Where a search ended: whether it found the descriptor, at which place it stands or would stand, and after how many
-/// probes.
+/// Whether the descriptor was found, the place where it stands or would stand, and after how many probes.
 #[derive(Clone, Copy)]
 struct SearchEnd {
     found: bool,
@@ -12,10 +11,8 @@ struct SearchEnd {
     probes: usize,
 }
 
-/// Whether the descriptor is in an ascending list, in which each entry stands once, and how many entries it was compared
-/// with: at most as many as the list's length has binary digits, none where the list is empty.
-///
-/// So each turn of a dispatch finds out whether its event was cancelled.
+/// Whether the descriptor is in the ascending list, by which a dispatch finds out that its event was cancelled; and how many
+/// entries it was compared with: at most as many as the list's length has binary digits, none where it is empty.
 pub fn cancelled_at(list: &[u32], fd: u32) -> (bool, usize)
     requires { IsAscending list.now }
     ensures answer { result.0 ≡ is_among fd list.now }

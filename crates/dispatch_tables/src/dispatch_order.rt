@@ -19,8 +19,8 @@ pub struct ClassedEntry {
     entry: EpollEvent,
 }
 
-/// Puts the first `count` entries of the buffer in the order of dispatch. The list has room for them; where all are of the
-/// lowest class, the buffer isn't written.
+/// Puts the first `count` entries of the buffer in the order of dispatch. Takes no memory: the list has room for them. Where all
+/// are of the lowest class, the buffer isn't written.
 pub fn order_by_class(
     owners: &Owners,
     buffer: &mut [EpollEvent],
@@ -37,8 +37,7 @@ pub fn order_by_class(
     }
 }
 
-/// Lists the first `count` entries of the buffer with their classes, in place of what the list has. Answers whether one is
-/// above the lowest class.
+/// Replaces the list by the first `count` entries with their classes. Returns whether one is above the lowest class.
 fn classify(
     owners: &Owners,
     buffer: &[EpollEvent],
@@ -75,7 +74,7 @@ fn write_classes(classed: &[ClassedEntry], buffer: &mut [EpollEvent])
     write_class(classed, Priority::Lowest, buffer, at);
 }
 
-/// Writes the entries of one class into the buffer, from a place on, in their order; answers the place behind them.
+/// Writes the entries of one class into the buffer, from a place on, in their order; returns the place behind them.
 fn write_class(
     classed: &[ClassedEntry],
     class: Priority,

@@ -1,8 +1,6 @@
 //! The tables that a dispatch reads: who owns which descriptor, where the subscribers stand, which descriptors each of them
-//! watches, which were removed since the wait, and the order in which a report is dispatched.
-//!
-//! None of them knows a poller, a subscriber's methods or a registration as a whole: what holds of several together is
-//! said above, where they are used.
+//! watches, which were removed since the wait, and the order in which a report is dispatched. None knows a poller, a subscriber's
+//! methods or the registrations as a whole: what holds of several tables is stated where they are used.
 #![tactic(auto)]
 
 pub mod cancelled;

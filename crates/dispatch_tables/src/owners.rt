@@ -15,8 +15,8 @@ use std::mem;
 /// Descriptors below this number are low: their owners stand in a vector, by descriptor.
 const LOW_DESCRIPTORS: u32 = 1048576;
 
-/// Who owns a descriptor: the id of a subscriber, the place where the registry was holding it when it added the
-/// descriptor, and the priority that it then gave; and where the descriptor is looked for in its watch list first.
+/// The id of a subscriber that owns a descriptor, the place where the registry held it when it added the descriptor, the priority
+/// that it then gave, and the position at which the descriptor is looked for first in its watch list.
 #[derive(Clone, Copy)]
 pub struct Owner {
     pub id: u64,
@@ -25,10 +25,8 @@ pub struct Owner {
     pub priority: Priority,
 }
 
-/// What the vector of the low owners has at a descriptor.
-///
-/// The fields stand so that they take 24 bytes. Place and position are compared where they are used; one that 32 bits don't
-/// hold is kept as the highest number.
+/// The owner of a low descriptor, if it has one; its fields are ordered to take 24 bytes. Place and position are compared where
+/// they are used; one that 32 bits don't hold is kept as the highest number.
 #[derive(Clone, Copy)]
 enum OwnerSlot {
     Vacant,
@@ -43,7 +41,6 @@ enum OwnerSlot {
 const _: () = prove!(size_of::<OwnerSlot>() == 24);
 
 impl OwnerSlot {
-    /// The slot of an owner.
     fn of(owner: Owner) -> OwnerSlot
         ensures { slot_ownership result ≡ Some (ownership_of owner) }
     {
@@ -55,7 +52,6 @@ impl OwnerSlot {
         }
     }
 
-    /// The owner, if there is one.
     fn owner(&self) -> Option<Owner>
         ensures { option_map ownership_of result ≡ slot_ownership self.now }
     {
@@ -81,8 +77,8 @@ fn shortened(index: usize) -> u32 {
     u32::try_from(index).unwrap_or(u32::MAX)
 }
 
-/// The owners of the descriptors. A look-up of a low descriptor reads one place of a vector, which is as long as the
-/// highest low descriptor that was ever added; one of another descriptor searches a hash map.
+/// The owners of the descriptors. A look-up of a low descriptor reads one place of a vector, which is as long as the highest low
+/// descriptor that was ever added; one of another descriptor searches a hash map.
 #[derive(Drop)]
 pub struct Owners {
     low: Vec<OwnerSlot>,
@@ -134,7 +130,7 @@ impl Owners {
         }
     }
 
-    /// Enters the owner of a descriptor. Where memory is refused, all owners stay as they were.
+    /// Enters the owner of a descriptor. Memory may be refused.
     pub fn insert(&mut self, fd: u32, owner: Owner) -> std::result::Result<(), AllocError>
         ensures ok { OnOk result (self.new ≡ map.insert self.old fd (ownership_of owner)) }
         ensures err { OnErr result (self.new ≡ self.old) }
@@ -147,7 +143,7 @@ impl Owners {
         Ok(())
     }
 
-    /// Takes out the owner of the descriptor, and answers it. Takes no memory.
+    /// Removes the owner of the descriptor and returns it. Takes no memory.
     pub fn remove(&mut self, fd: u32) -> Option<Owner>
         ensures value { IsOwnerAt self.old fd result }
         ensures removed { self.new ≡ map.remove self.old fd }
@@ -158,7 +154,7 @@ impl Owners {
         take_from(&mut self.high, fd)
     }
 
-    /// Notes where the descriptor stands in its owner's watch list now. Takes no memory.
+    /// Notes where the descriptor now stands in its owner's watch list. Takes no memory.
     pub fn set_position(&mut self, fd: u32, position: usize)
         ensures { self.new ≡ self.old }
     {
@@ -182,7 +178,6 @@ fn set_position_at(low: &mut Vec<OwnerSlot>, fd: usize, new_position: usize)
     }
 }
 
-/// The same of an owner in the map.
 fn set_position_in(high: &mut HashMap<u32, Owner>, fd: u32, position: usize)
     ensures { HaveSameOwners (ownership_in high.old.entries) (ownership_in high.new.entries) }
 {
@@ -191,7 +186,6 @@ fn set_position_in(high: &mut HashMap<u32, Owner>, fd: u32, position: usize)
     }
 }
 
-/// The owner of a descriptor in the map.
 #[inline(never)]
 fn find_in(high: &HashMap<u32, Owner>, fd: u32) -> Option<Owner>
     ensures { result ≡ owner_in high.now.entries fd }
@@ -199,7 +193,6 @@ fn find_in(high: &HashMap<u32, Owner>, fd: u32) -> Option<Owner>
     high.get(&fd).copied()
 }
 
-/// Enters the owner of a descriptor in the map. Where memory is refused, all owners stay as they were.
 #[inline(never)]
 fn put_in(
     high: &mut HashMap<u32, Owner>,
@@ -215,7 +208,6 @@ fn put_in(
     }
 }
 
-/// Takes the owner of a descriptor out of the map, and answers it.
 #[inline(never)]
 fn take_from(high: &mut HashMap<u32, Owner>, fd: u32) -> Option<Owner>
     ensures value { result ≡ owner_in high.old.entries fd }
@@ -224,7 +216,7 @@ fn take_from(high: &mut HashMap<u32, Owner>, fd: u32) -> Option<Owner>
     high.remove(&fd)
 }
 
-/// Puts an owner at a descriptor, and makes the vector as long as it takes. Where memory is refused, it stays.
+/// Puts an owner at a descriptor, and makes the vector as long as that takes.
 fn put_at(low: &mut Vec<OwnerSlot>, fd: usize, owner: Owner) -> std::result::Result<(), AllocError>
     requires { fd < 1048576 }
     ensures len { length low.old.items ≤ 1048576 → length low.new.items ≤ 1048576 }
@@ -238,7 +230,6 @@ fn put_at(low: &mut Vec<OwnerSlot>, fd: usize, owner: Owner) -> std::result::Res
     Ok(())
 }
 
-/// The owner at a descriptor.
 fn copy_at(low: &[OwnerSlot], fd: usize) -> Option<Owner>
     ensures { option_map ownership_of result ≡ ownership_at low.now fd }
 {
@@ -248,7 +239,6 @@ fn copy_at(low: &[OwnerSlot], fd: usize) -> Option<Owner>
     }
 }
 
-/// Takes out the owner at a descriptor, and answers it.
 fn take_at(low: &mut Vec<OwnerSlot>, fd: usize) -> Option<Owner>
     ensures value { option_map ownership_of result ≡ ownership_at low.old.items fd }
     ensures taken { HasOwnerAt low.old.items fd None low.new.items }

@@ -23,7 +23,6 @@ enum Place<S> {
 impl<S> Place<S> {
     ghost use Rattle.dispatch_tables.specs.contracts.places.Place.{the_row};
 
-    /// Whether the place holds the subscriber of the id.
     fn is_held_by(&self, id: u64) -> bool
         ensures { IsTrue result ↔ (held_id self.now ≡ Some id) }
     {
@@ -33,7 +32,6 @@ impl<S> Place<S> {
         }
     }
 
-    /// The subscriber that the place holds.
     fn subscriber(&self) -> &S
         requires { IsSome (held_id self.now) }
         ensures { subscriber_of self.now ≡ Some result.now }
@@ -44,7 +42,6 @@ impl<S> Place<S> {
         }
     }
 
-    /// Lends the subscriber that the place holds.
     fn subscriber_mut(&mut self) -> &mut S
         requires { IsSome (held_id self.old) }
         ensures* lent { sem 𝓛 (Lends (the_row S.row) S.row self.entry result (with_subscriber self.old)) }
@@ -57,18 +54,14 @@ impl<S> Place<S> {
     }
 }
 
-/// The subscribers by id, each in a place of its own.
-///
-/// A place whose subscriber left is given to one that comes later, so a number of a place says nothing of who stands
-/// there: whoever comes with one names the id too.
+/// The subscribers by id, each in a place of its own. A place whose subscriber left is given to a later one, so a place alone
+/// doesn't name a subscriber: calls name the id too.
 #[derive(Drop)]
 pub struct SubscriberPlaces<S> {
     places: Vec<Place<S>>,
     // The vacant place that is taken next, which names the next one.
     first_vacant: Option<usize>,
-    // The place of each id.
     index: HashMap<u64, usize>,
-    // The id that is given next.
     next: u64,
 }
 
@@ -88,7 +81,6 @@ impl<S> Model for SubscriberPlaces<S> {
     ghost invariant = { λ s. AreSound s.places.items s.first_vacant (get nat_eq s.index) × ArePlacedBelow s.next (get nat_eq s.index) };
 }
 
-/// The place of the id by the index.
 #[inline(never)]
 fn place_in(index: &HashMap<u64, usize>, id: u64) -> Option<usize>
     ensures { result ≡ get nat_eq index.now id }
@@ -115,8 +107,7 @@ fn place_by_hint<S>(
     place_in(index, id)
 }
 
-/// The vacant place that is taken next. Where there is none, one more place is made; where memory for that is refused,
-/// all stays as it was.
+/// The next vacant place; where there is none, one more is made, for which memory may be refused.
 fn vacant_place<S: Drop>(
     places: &mut Vec<Place<S>>,
     first_vacant: &mut Option<usize>,
@@ -142,14 +133,14 @@ fn vacant_place<S: Drop>(
 impl<S> SubscriberPlaces<S> {
     ghost use Rattle.dispatch_tables.specs.contracts.places.SubscriberPlaces.{the_row};
 
-    /// No place, and 1 is given next.
+    /// Without subscribers; the first id is 1.
     pub fn new(alloc: Global) -> Self
         ensures { result ≡ nobody }
     {
         SubscriberPlaces::from_id(alloc, 1)
     }
 
-    /// No place, and this id is given next.
+    /// Without subscribers; the first id is `first`.
     pub fn from_id(alloc: Global, first: u64) -> Self
         ensures { result ≡ record nobody { next = first } }
     {
@@ -161,7 +152,7 @@ impl<S> SubscriberPlaces<S> {
         }
     }
 
-    /// The id that is given next: no subscriber has it or a later one.
+    /// The id that is given next.
     pub fn next_id(&self) -> u64
         ensures next { result ≡ self.now.next }
         ensures below { AreBelow self.now }
@@ -169,8 +160,7 @@ impl<S> SubscriberPlaces<S> {
         self.next
     }
 
-    /// Gives the subscriber the next id and a place, and answers the place. Where memory is refused all stays as it was,
-    /// and the subscriber doesn't come back.
+    /// Gives the subscriber the next id and a place, and returns the place. Where memory is refused the subscriber is dropped.
     pub fn insert(&mut self, subscriber: S) -> Result<usize, AllocError>
     where
         S: Drop,
@@ -192,7 +182,7 @@ impl<S> SubscriberPlaces<S> {
         Ok(place)
     }
 
-    /// Takes the subscriber of the id out, and leaves its place to one that comes later; answers both. Takes no memory.
+    /// Removes the subscriber of the id, whose place goes to a later one; returns both. Takes no memory.
     pub fn remove(&mut self, id: u64) -> Option<(usize, S)>
         ensures value { option_map (λ left. left.1) result ≡ map.get self.old.by_id id }
         ensures removed { OnSome result (self.new ≡ without_member self.old id) }
@@ -210,7 +200,7 @@ impl<S> SubscriberPlaces<S> {
         }
     }
 
-    /// The place that the next newcomer gets.
+    /// The place that the next subscriber gets.
     pub fn next_place(&self) -> usize {
         self.first_vacant.unwrap_or(self.places.len())
     }
@@ -225,7 +215,7 @@ impl<S> SubscriberPlaces<S> {
         self.index.get(&id).copied()
     }
 
-    /// The subscriber of the id, which is found by the index.
+    /// The subscriber of the id, found by the index.
     pub fn get(&self, id: u64) -> Option<&S>
         ensures { option_copied result ≡ map.get self.now.by_id id }
     {
@@ -235,7 +225,7 @@ impl<S> SubscriberPlaces<S> {
         }
     }
 
-    /// Lends the subscriber of the id, which is found by the index. Takes no memory.
+    /// Lends the subscriber of the id, found by the index. Takes no memory.
     pub fn get_mut(&mut self, id: u64) -> Option<&mut S>
         ensures* lent { sem 𝓛 (LendsIf (the_row S.row) S.row self.entry result (with_member self.old id) self.old) }
         ensures value { option_copied_mut result ≡ map.get self.old.by_id id }
@@ -246,8 +236,7 @@ impl<S> SubscriberPlaces<S> {
         }
     }
 
-    /// Lends the subscriber of the id, as [`get_mut`](SubscriberPlaces::get_mut) does whatever the place is; without a
-    /// search where it is the subscriber's place.
+    /// Lends as [`get_mut`](SubscriberPlaces::get_mut), whatever the place; without a search where it is the subscriber's place.
     #[inline(always)]
     pub fn get_mut_at(&mut self, place: usize, id: u64) -> Option<&mut S>
         ensures* lent { sem 𝓛 (LendsIf (the_row S.row) S.row self.entry result (with_member self.old id) self.old) }

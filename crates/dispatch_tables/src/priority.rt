@@ -3,11 +3,10 @@
 ghost use Rattle.std.specs.Prelude.{◌≡◌, ◌≤◌, ◌<◌, MatchOption, nat_lt};
 ghost use Rattle.dispatch_tables.specs.Priority.{number_of};
 
-/// The priority of a descriptor, a number from 0 up to 3: in each batch the events of a higher one are dispatched before
-/// those of a lower one.
+/// The priority of a descriptor, from 0 up to 3: in each batch events of a higher one are dispatched before those of a lower one.
 #[derive(Clone, Copy, PartialEq, Eq, PartialOrd, Ord, Debug)]
 pub enum Priority {
-    /// 0, that of a descriptor that is added without one.
+    /// 0, for a descriptor that is added without a priority.
     Lowest,
     /// 1.
     Low,

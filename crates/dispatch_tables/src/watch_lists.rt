@@ -15,11 +15,9 @@ struct WatchList {
     fds: Vec<u32>,
 }
 
-/// The descriptors of each subscriber, by id.
-///
-/// A list is looked for at the place that its subscriber has in the registry, and a descriptor at the position where it was
-/// put; only where they aren't there, all places are looked at. What is empty goes to the next id at its place, with the
-/// room that it has.
+/// The descriptors of each subscriber, by id. A list is looked for at the place that its subscriber has in the registry (`near`),
+/// and a descriptor at the position where it was put; only if they aren't there, at all places. An empty list goes to the next id
+/// at its place, with the memory that it has.
 #[derive(Drop)]
 pub struct WatchLists {
     lists: Vec<WatchList>,
@@ -28,7 +26,7 @@ pub struct WatchLists {
     alloc: Global,
 }
 
-/// A descriptor that stands at another position of its list, since one before it was taken out.
+/// A descriptor that moved to the position of one that was removed from its list.
 #[derive(Clone, Copy)]
 pub struct Moved {
     pub fd: u32,
@@ -36,7 +34,7 @@ pub struct Moved {
 }
 
 impl WatchLists {
-    /// No descriptor in any list.
+    /// Without any list.
     pub fn new(alloc: Global) -> Self
         ensures empty { (i fd : ℕ) → times_watched result i fd ≡ 0 }
         ensures distinct { AreDistinct result }
@@ -48,7 +46,6 @@ impl WatchLists {
         }
     }
 
-    /// The place of the list of the id: `near`, or found by a look at each.
     fn place_of(&self, id: u64, near: usize) -> Option<usize>
         requires { AreDistinct self.now }
         ensures { MatchOption result (LacksList self.now.lists.items id) (λ place. IsListOf self.now.lists.items id place) }
@@ -64,8 +61,7 @@ impl WatchLists {
         self.lists.iter().position(|list| list.id == id)
     }
 
-    /// Opens the list of an id, at its place if no other has descriptors there, and answers where it stands. Where memory is
-    /// refused, all stays as it was.
+    /// Opens a list for the id, if it has none: at `near` if an empty one stands there, else at the end. Returns its place.
     pub fn open(&mut self, id: u64, near: usize) -> Result<usize, AllocError>
         requires { AreDistinct self.old }
         ensures distinct { AreDistinct self.new }
@@ -82,8 +78,7 @@ impl WatchLists {
         Ok(place)
     }
 
-    /// Puts the descriptor into the list of the id, and answers its position there. Where memory is refused, each list has
-    /// what it had.
+    /// Puts the descriptor into the list of the id, and returns its position there. Memory may be refused.
     pub fn insert(&mut self, id: u64, near: usize, fd: u32) -> Result<usize, AllocError>
         requires { AreDistinct self.old }
         ensures distinct { AreDistinct self.new }
@@ -94,8 +89,7 @@ impl WatchLists {
         push_at(&mut self.lists, place, fd)
     }
 
-    /// Takes a descriptor out of the list of the id, which is looked for at the place and the position; answers the one that
-    /// stands there now, where it was the last before. Takes no memory.
+    /// Removes the descriptor from the list of the id, and returns the one that took its position, if any. Takes no memory.
     pub fn remove(&mut self, id: u64, near: usize, fd: u32, position: usize) -> Option<Moved>
         requires distinct { AreDistinct self.old }
         requires listed { times_watched self.old id fd ≡ 1 }
@@ -108,7 +102,7 @@ impl WatchLists {
         }
     }
 
-    /// Takes the whole list of the id, in ascending order. Takes no memory.
+    /// Removes all descriptors of the id and returns them, in ascending order. Takes no memory.
     pub fn take(&mut self, id: u64, near: usize) -> Vec<u32>
         requires { AreDistinct self.old }
         ensures distinct { AreDistinct self.new }
@@ -126,7 +120,7 @@ impl WatchLists {
         }
     }
 
-    /// Leaves the room of a list that was taken to the next at its place. Takes no memory.
+    /// Gives the memory of `fds`, a list that was taken, to the list at `near`, if that is empty. Takes no memory.
     pub fn keep_room(&mut self, near: usize, fds: Vec<u32>)
         requires { AreDistinct self.old }
         ensures distinct { AreDistinct self.new }
@@ -169,7 +163,6 @@ fn make_list(
     Ok(place)
 }
 
-/// Puts a descriptor behind the others of the list at the place, and answers its position.
 fn push_at(lists: &mut Vec<WatchList>, place: usize, fd: u32) -> Result<usize, AllocError>
     requires { place < length lists.old.items }
     ensures ok { OnOk result (HasChangedAt place (λ before after. IsOneMore before fd after) lists.old.items lists.new.items) }
@@ -181,7 +174,6 @@ fn push_at(lists: &mut Vec<WatchList>, place: usize, fd: u32) -> Result<usize, A
     Ok(position)
 }
 
-/// Takes a descriptor out of the list at the place, and answers the one that took its position.
 fn take_at(lists: &mut Vec<WatchList>, place: usize, fd: u32, position: usize) -> Option<Moved>
     requires within { place < length lists.old.items }
     requires listed { (d : WatchList) → 0 < times_in (slice_index_or lists.old.items place d).fds.items fd }
@@ -190,7 +182,7 @@ fn take_at(lists: &mut Vec<WatchList>, place: usize, fd: u32, position: usize) -
     take_out(&mut lists[place].fds, fd, position)
 }
 
-/// Takes a descriptor out of a list, and answers the one that took its position.
+/// Removes a descriptor from a list, and returns the one that took its position.
 fn take_out(fds: &mut Vec<u32>, fd: u32, near: usize) -> Option<Moved>
     requires { 0 < times_in fds.old.items fd }
     ensures { IsOneMore fds.new.items fd fds.old.items }
@@ -203,7 +195,6 @@ fn take_out(fds: &mut Vec<u32>, fd: u32, near: usize) -> Option<Moved>
     }
 }
 
-/// The position of a descriptor in a list: `near`, or found by a look at each.
 fn position_of(fds: &[u32], fd: u32, near: usize) -> Option<usize>
     ensures { MatchOption result (All (λ one. one ≢ fd) fds.now) (λ at. (at < length fds.now) × ((d : ℕ) → slice_index_or fds.now at d ≡ fd)) }
 {

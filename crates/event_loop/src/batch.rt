@@ -18,7 +18,6 @@ use std::marker::Model;
 use vmm_sys::epoll::{EpollEvent, EventSet};
 use vmm_sys::errno::Errno;
 
-/// One entry of the ready list, whether it was cancelled, and whether it is on the endpoint's descriptor.
 #[derive(Clone, Copy)]
 pub(crate) struct ReadyEntry {
     pub(crate) entry: EpollEvent,
@@ -26,11 +25,8 @@ pub(crate) struct ReadyEntry {
     pub(crate) is_endpoint: bool,
 }
 
-/// The entries of a report in the order of dispatch, how many of them were taken, and the descriptors that were cancelled
-/// since the wait.
-///
-/// The list of cancelled descriptors is empty where nothing is to come; the list of classed entries has room for a whole
-/// buffer, so that no wait takes memory.
+/// The entries of a report in the order of dispatch, how many were taken, and the descriptors cancelled since the wait: none once
+/// all are taken. `classed` has room for a whole buffer, so after `new` only `make_room` takes memory.
 #[derive(Drop)]
 pub(crate) struct ReadyList {
     buffer: Vec<EpollEvent>,
@@ -60,7 +56,6 @@ impl Model for ReadyList {
 }
 
 impl ReadyList {
-    /// Nothing to come, with room for a batch of `capacity` entries.
     pub(crate) fn new(alloc: Global, capacity: usize) -> std::result::Result<Self, AllocError>
         ensures { IfOk result (λ b. (b.capacity ≡ capacity) × (b.ready ≡ [])) }
     {
@@ -75,7 +70,7 @@ impl ReadyList {
         })
     }
 
-    /// Makes room to cancel one descriptor more than `owned`, for which there is room already.
+    /// Makes room to cancel one descriptor more than `owned`.
     pub(crate) fn make_room(&mut self, owned: usize) -> std::result::Result<(), AllocError>
         requires { owned ≤ self.old.room }
         ensures same { self.new ≡ record self.old { room = self.new.room } }
@@ -86,8 +81,6 @@ impl ReadyList {
         Ok(())
     }
 
-    /// Cancels the entries on the descriptor that are still to come; where none is, no descriptor is entered as cancelled.
-    /// Takes no memory.
     pub(crate) fn cancel(&mut self, events: Events)
         requires { 0 < self.old.room }
         ensures cancelled { self.new ≡ record self.old { ready = cancel_on events.fd self.old.ready; room = self.new.room } }
@@ -123,8 +116,7 @@ impl ReadyList {
         None
     }
 
-    /// Waits for a batch, which takes the place of the one before, with no descriptor cancelled, and puts it in the order of
-    /// dispatch. Takes no memory.
+    /// Waits for a batch, which replaces the one before, and puts it in the order of dispatch.
     pub(crate) fn wait<P: EventPoller>(
         &mut self,
         poller: &mut P,

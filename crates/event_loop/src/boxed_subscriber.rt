@@ -20,23 +20,21 @@ pub enum StepInput {
     Init,
     /// An event was dispatched to it.
     Event(Events),
-    /// The answer to the request that it wanted last.
+    /// The answer to the request that it returned last.
     Answer(Result<()>),
 }
 
-/// A subscriber that says one request at a time, and so can be boxed: its one method names no poller.
-///
-/// Each input begins with `Init` or `Event`; each request that it then wants is made, and its answer is the next input,
-/// until it wants none.
+/// A subscriber that asks for one request at a time. Its one method names no poller, so it can be boxed. It is called with `Init`
+/// or `Event`; each request that it returns is made, and its answer is the next input, until it returns `None`.
 pub trait StepSubscriber: Drop {
     ghost use Rattle.std.specs.Prelude.{ℕ, Option};
     ghost use Rattle.event_loop.specs.declared.boxed_subscriber.StepInput.{StepInput};
     ghost use Rattle.event_loop.specs.declared.events.Request.{Request};
 
-    /// Which request it may want on an input, or none, from the value before to the value after.
+    /// Which request it may return on an input, or none, from the value before to the value after.
     ghost requests: { Self → StepInput → Option Request → Self → Type 0 };
 
-    /// How many requests it may still want after an answer: so it comes to an end.
+    /// How many requests it may still return after an answer: so it comes to an end.
     ghost requests_left: { Self → ℕ };
 
     /// The next request that it wants.
@@ -45,8 +43,8 @@ pub trait StepSubscriber: Drop {
         ensures fewer { LeavesFewer input result (requests_left self.old) (requests_left self.new) };
 }
 
-/// A [`StepSubscriber`] of any kind, in a box that the caller makes: a manager of these holds several kinds.
-/// It can't be downcast: what comes back from a leave is a box of some kind.
+/// A [`StepSubscriber`] of any type, in a box that the caller makes: a manager of these holds several types. It can't be downcast:
+/// a removed one comes back as a box of some type.
 #[derive(Drop)]
 pub struct BoxedSubscriber(pub Box<dyn StepSubscriber + Send>);
 
@@ -58,7 +56,6 @@ impl BoxedSubscriber {
         self.0.next(input)
     }
 
-    /// Makes each request that the subscriber wants, until it wants none.
     fn exchange<P: EventPoller>(&mut self, start: StepInput, ops: &mut EventOps<P>)
         ensures { (exchanges : Exchanges) × (calls : List PollerCall)
             × ((y : _) × HoldsNow self.old.0 self.new.0 y × Reaches (⟦<(dyn StepSubscriber + Send) as StepSubscriber>⟧ self.old.0.vtable).requests self.old.0.value start exchanges None y)

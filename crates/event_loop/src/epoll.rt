@@ -24,9 +24,8 @@ use std::marker::Model;
 use vmm_sys::epoll::{ControlOperation, EpollEvent};
 use vmm_sys::errno::Errno;
 
-/// Who owns which descriptor, and what is still to come of the current batch.
-///
-/// All owned descriptors can be cancelled without memory: an addition makes the room that its removal needs.
+/// Who owns which descriptor, and what is still to come of the current batch. After `new` only `open` and `register` take memory,
+/// and an addition makes the room that its removal needs: all owned descriptors can be cancelled without memory.
 #[derive(Drop)]
 pub(crate) struct RegistrationState {
     registrations: Registrations,
@@ -49,7 +48,6 @@ impl Model for RegistrationState {
 }
 
 impl RegistrationState {
-    /// No registration, with room for a batch of `capacity` entries.
     pub(crate) fn new(
         alloc: Global,
         endpoint: u32,
@@ -64,29 +62,24 @@ impl RegistrationState {
         })
     }
 
-    /// Whether the descriptor may be added, as far as the registrations say.
     pub(crate) fn check_vacant(&self, events: Events) -> Result<()>
         ensures { IsVacant (registrations_of self.now) events result }
     {
         self.registrations.check_vacant(events)
     }
 
-    /// Whether the id owns the descriptor.
     pub(crate) fn is_owner(&self, id: u64, events: Events) -> bool
         ensures { IsTrue result ↔ Owns id (registrations_of self.now) events.fd }
     {
         self.registrations.is_owner(id, events)
     }
 
-    /// Opens the watch list of an id, at the place of its subscriber. Where memory is refused, all stays as it was.
     pub(crate) fn open(&mut self, id: u64, place: usize) -> std::result::Result<(), AllocError>
         ensures { self.new ≡ self.old }
     {
         self.registrations.open(id, place)
     }
 
-    /// Enters the owner of the descriptor, and the descriptor in the watch list of the owner's id; makes the room that a
-    /// removal needs. Where memory is refused, all stays as it was.
     pub(crate) fn register(
         &mut self,
         events: Events,
@@ -102,7 +95,6 @@ impl RegistrationState {
         self.registrations.register(events, id, place, priority)
     }
 
-    /// Frees a descriptor of the id's. Takes no memory.
     pub(crate) fn unregister(&mut self, events: Events, id: u64)
         requires { Owns id (registrations_of self.old) events.fd }
         ensures { self.new ≡ record self.old { owners = map.remove self.old.owners events.fd } }
@@ -110,8 +102,6 @@ impl RegistrationState {
         self.registrations.unregister(events, id);
     }
 
-    /// Frees a descriptor of the id's, and cancels its events that are still to come; where none is, no descriptor is
-    /// entered as cancelled. Takes no memory.
     pub(crate) fn remove(&mut self, events: Events, id: u64)
         requires { Owns id (registrations_of self.old) events.fd }
         ensures { self.new ≡ record self.old { owners = map.remove self.old.owners events.fd; ready = cancel_on events.fd self.old.ready } }
@@ -120,7 +110,6 @@ impl RegistrationState {
         self.batch.cancel(events);
     }
 
-    /// Frees all descriptors of the id, whose list is looked for at the place, and answers them. Takes no memory.
     pub(crate) fn take_watched(&mut self, id: u64, place: usize) -> Vec<u32>
         ensures owned { AreOwnedBy id (registrations_of self.old) result.items }
         ensures are_descriptors { All (λ fd. fd < 2 ^ 31) result.items }
@@ -129,14 +118,12 @@ impl RegistrationState {
         self.registrations.take_watched(id, place)
     }
 
-    /// Leaves the room of a list that was taken to the next at its place. Takes no memory.
     pub(crate) fn keep_room(&mut self, place: usize, fds: Vec<u32>)
         ensures { self.new ≡ self.old }
     {
         self.registrations.keep_room(place, fds);
     }
 
-    /// Takes the next entry of the ready list. Once the last one is taken, no descriptor is cancelled any more.
     pub(crate) fn next_ready(&mut self) -> Option<ReadyEntry>
         ensures { MatchOption result ((self.old.ready ≡ []) × (self.new ≡ self.old))
             (λ t. (rest : List (Event × Bool)) × (self.old.ready ≡ (event_of_entry t.entry, t.cancelled) ∷ rest) × (self.new ≡ record self.old { ready = rest })
@@ -153,8 +140,6 @@ impl RegistrationState {
         self.registrations.owner(entry)
     }
 
-    /// Waits for a batch, which takes the place of the one before, with no descriptor cancelled, and puts it in the order of
-    /// dispatch. Takes no memory.
     pub(crate) fn wait<P: EventPoller>(
         &mut self,
         poller: &mut P,
@@ -168,7 +153,7 @@ impl RegistrationState {
     }
 }
 
-/// The registrations beside the poller.
+/// The registrations, and the poller that has the interest list.
 #[derive(Drop)]
 pub struct EpollWrapper<P> {
     pub(crate) registrations: RegistrationState,
@@ -176,7 +161,6 @@ pub struct EpollWrapper<P> {
 }
 
 impl<P: EventPoller> EpollWrapper<P> {
-    /// Asks the poller once for a change of its interest list.
     pub(crate) fn ctl(
         &mut self,
         op: ControlOperation,
@@ -188,8 +172,7 @@ impl<P: EventPoller> EpollWrapper<P> {
         self.poller.control(op, events.number(), events)
     }
 
-    /// Frees all descriptors of the id, whose list is looked for at the place, and asks the poller one Delete for each,
-    /// whatever it answers. Takes no memory.
+    /// Asks the poller for one Delete for each descriptor of the id, whatever it answers. Takes no memory.
     pub(crate) fn release(&mut self, id: u64, place: usize)
         ensures { HasReleased P.controls P.waits self.old self.new id }
     {

@@ -8,11 +8,9 @@ use std::alloc::{AllocError, AllocFailed};
 use std::fmt;
 use vmm_sys::errno::Errno;
 
-/// Why a call was refused. The first seven are the Rust crate's, the last three this port's.
-///
-/// A refused call leaves registrations, owners, pending events and the queue of jobs as they were; `ChannelRecv` is
-/// answered where the manager was closed, which dropped the job. `ChannelSend`, `ChannelRecv`, `EventFd` and
-/// `TicketsUsedUp` are those of jobs and their endpoint.
+/// Why a call was refused. The first seven are event-manager's, the last three aren't. `ChannelSend`, `ChannelRecv`, `EventFd` and
+/// `TicketsUsedUp` are those of jobs and their endpoint. A refused call leaves registrations, owners, pending events and the queue
+/// of jobs as they were; but `ChannelRecv` says that the manager was closed, which dropped the job.
 #[derive(Clone, Copy, PartialEq, Eq, Debug)]
 pub enum Error {
     /// A job can't be sent to the loop: it is closed.
@@ -21,8 +19,7 @@ pub enum Error {
     ChannelRecv,
     /// The event counter of the endpoint answered this number.
     EventFd(Errno),
-    /// The poller answered this number; or the manager refused by itself, with `EEXIST` the endpoint's descriptor, and
-    /// with `ENOENT` a descriptor that isn't the caller's own.
+    /// The poller's number, or the manager's own: `EEXIST` for the endpoint's descriptor, `ENOENT` for one not the caller's.
     Epoll(Errno),
     /// A subscriber, the caller included, owns the descriptor.
     FdAlreadyRegistered,
@@ -32,13 +29,13 @@ pub enum Error {
     InvalidCapacity,
     /// A request for memory was refused.
     OutOfMemory,
-    /// Each id was given once.
+    /// No id is left.
     IdsUsedUp,
-    /// Each job ticket was given once.
+    /// No job ticket is left.
     TicketsUsedUp,
 }
 
-/// What a call of this crate answers.
+/// What calls of this crate return.
 pub type Result<T> = std::result::Result<T, Error>;
 
 impl fmt::Display for Error {
@@ -77,7 +74,6 @@ impl fmt::Display for Error {
 
 impl std::error::Error for Error {}
 
-/// As [`OutOfMemory`](Error::OutOfMemory), so that `?` serves where only memory can be refused.
 impl From<AllocError> for Error {
     ghost from_gives = { λ _ result. result ≡ error.OutOfMemory };
 
@@ -86,7 +82,7 @@ impl From<AllocError> for Error {
     }
 }
 
-/// As [`OutOfMemory`](Error::OutOfMemory); what found no room is dropped.
+/// [`OutOfMemory`](Error::OutOfMemory); what found no room is dropped.
 impl<T: Drop> From<AllocFailed<T>> for Error {
     ghost from_gives = { λ _ result. result ≡ error.OutOfMemory };
 

@@ -10,9 +10,8 @@ use dispatch_tables::priority::Priority;
 use std::marker::Model;
 use vmm_sys::epoll::{AsRawFd, EpollEvent, EventSet, RawFd};
 
-/// A descriptor from 0 up, 32 bits of data, and a set of events; packed as the word `data * 2^32 + fd`.
-///
-/// A subscriber gets it in `process`, and gives it to an [`EventOps`](crate::EventOps). Two are equal where all three parts are.
+/// A descriptor from 0 up, 32 bits of data, and a set of events; packed as the word `data * 2^32 + fd`. A subscriber gets it in
+/// `process`, and gives it to an [`EventOps`](crate::EventOps). Two are equal where all three parts are.
 #[derive(Clone, Copy, PartialEq, Eq, Debug)]
 pub struct Events {
     inner: EpollEvent,
@@ -84,7 +83,6 @@ impl Events {
         Events::with_data_raw(source.as_raw_fd(), data, events)
     }
 
-    /// The event of a reported entry, whose descriptor is one from 0 up.
     pub(crate) fn of_entry(entry: &EpollEvent) -> Self
         requires { (event_of_entry entry.now).fd < 2 ^ 31 }
         ensures { result ≡ event_of_entry entry.now }
@@ -99,7 +97,6 @@ impl Events {
         self.inner.fd()
     }
 
-    /// The descriptor without its sign.
     pub(crate) fn number(&self) -> u32
         ensures value { result ≡ self.now.fd }
         ensures is_descriptor { result < 2 ^ 31 }
@@ -121,7 +118,7 @@ impl Events {
         self.inner.event_set()
     }
 
-    /// The event as a poller is given it: the set, and the packed word.
+    /// The event as a poller gets it: the set, and the packed word.
     pub fn epoll_event(&self) -> EpollEvent
         ensures { result ≡ packed self.now }
     {
@@ -129,7 +126,7 @@ impl Events {
     }
 }
 
-/// Whether the events are equal: exactly where descriptor, data and set are. So equality is an equivalence.
+/// Whether descriptor, data and set are equal; so equality is an equivalence.
 pub fn events_are_equal(a: &Events, b: &Events) -> bool
     ensures { IsTrue result ↔ (a.now ≡ b.now) }
 {
@@ -152,7 +149,7 @@ pub enum Request {
     Remove(Events),
 }
 
-/// The first request of a list that was refused: what [`EventOps::request_all`](crate::EventOps::request_all) answers.
+/// The first request of a list that was refused, as [`EventOps::request_all`](crate::EventOps::request_all) returns it.
 #[derive(Clone, Copy, PartialEq, Eq, Debug)]
 pub struct RefusedRequest {
     /// Its index in the list, from 0.

@@ -1,8 +1,6 @@
-//! An event loop that waits and dispatches, without jobs: what `event_manager` stands on, and hands out again.
-//!
-//! Subscribers register descriptors with a poller through an [`EventOps`]; each run of an [`EventLoop`] waits once and hands
-//! each event of the report to the subscriber that owns its descriptor at that moment. The [`Registry`] in it is what a job
-//! of a manager gets.
+//! An event loop without jobs, on which `event_manager` builds, and which it re-exports. Subscribers register descriptors with a
+//! poller through an [`EventOps`]; each run of an [`EventLoop`] waits once and gives each reported event to the subscriber that
+//! owns its descriptor at that moment. A job of a manager gets the [`Registry`].
 #![tactic(auto)]
 
 mod batch;

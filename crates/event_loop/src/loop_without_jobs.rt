@@ -15,23 +15,19 @@ use crate::subscriber_ops::SubscriberOps;
 use crate::subscribers::{MutEventSubscriber, SubscriberId};
 use std::alloc::Global;
 
-/// The largest capacity of a loop: 2147483647 bytes in entries of 12 bytes each, rounded down. A loop of it asks for
-/// 40 bytes an entry: 7.2 GB.
+/// The largest capacity: as many entries of 12 bytes as fit in 2147483647 bytes. Such a loop asks for 40 bytes an entry: 7.2 GB.
 pub const MAX_READY_EVENTS_CAPACITY: usize = 178956970;
 
-/// The capacity of a loop that is made without one.
 const DEFAULT_CAPACITY: usize = 256;
 
-/// An event loop over a poller, and the subscribers that it serves.
-///
-/// It takes no jobs, so it needs no counter, no ledger and no handle: its poller waits. Each run waits once and hands each
-/// event of the report to the subscriber that owns its descriptor at its turn. Ours; the Rust crate's manager always has
-/// an endpoint, as `EventManager` has.
+/// An event loop over a poller, and the subscribers that it serves. Each run waits once and gives each event of the report to the
+/// subscriber that owns its descriptor at its turn. It takes no jobs, so it needs no counter, no ledger and no handle: its poller
+/// waits. Not in event-manager, whose manager always has an endpoint, as `EventManager` has.
 pub struct EventLoop<S, P = BoxedPoller> {
     registry: Registry<S, P>,
 }
 
-// Not derived: then who owns one has a call to prove, and not a drop of all that is in it.
+// Not derived: so who owns one has one call to prove, not a drop of each part.
 impl<S: Drop, P: Drop> Drop for EventLoop<S, P> {
     fn drop(self) {
         let EventLoop { registry: _ } = self;
@@ -50,11 +46,9 @@ impl<S: MutEventSubscriber, P: EventPoller> EventLoop<S, P> {
         Ok(EventLoop { registry })
     }
 
-    /// A loop with no subscriber, whose batches have up to `capacity` events. The poller is asked for nothing. Capacity 0
-    /// passes here, and is left to the poller's `wait`.
+    /// A loop with no subscriber and batches of up to `capacity` events. The poller isn't called; capacity 0 is left to its `wait`.
     ///
-    /// Refused, in this order, and the poller doesn't come back: `InvalidCapacity` above [`MAX_READY_EVENTS_CAPACITY`];
-    /// `OutOfMemory`.
+    /// Refused, in this order, and the poller is dropped: `InvalidCapacity` above [`MAX_READY_EVENTS_CAPACITY`]; `OutOfMemory`.
     pub fn with_capacity(alloc: Global, poller: P, capacity: usize) -> Result<Self>
     where
         P: Drop,
@@ -68,8 +62,8 @@ impl<S: MutEventSubscriber, P: EventPoller> EventLoop<S, P> {
         Ok(EventLoop { registry })
     }
 
-    /// As [`new`](EventLoop::new), but the id that is given first is this one, for a loop that goes on behind another: where
-    /// it is that one's [`next_id`](SubscriberOps::next_id), no id is given by both. Ours, the Rust crate has none.
+    /// As [`new`](EventLoop::new), but `first_id` is the id given first. A loop that continues another, from that one's
+    /// [`next_id`](SubscriberOps::next_id) on, gives no id that the other gave. Not in event-manager.
     pub fn with_first_id(alloc: Global, poller: P, first_id: u64) -> Result<Self>
     where
         P: Drop,
@@ -80,15 +74,14 @@ impl<S: MutEventSubscriber, P: EventPoller> EventLoop<S, P> {
         Ok(EventLoop { registry })
     }
 
-    /// The poller, to read what it keeps, as the record of its calls. Ours, the Rust crate has none.
+    /// The poller, to read what it keeps, such as the record of its calls. Not in event-manager.
     pub fn poller(&self) -> &P
         ensures { result.now ≡ (seen_of self.now).poller }
     {
         self.registry.poller()
     }
 
-    /// Ends the loop, and hands out its subscribers by id and its poller, which is asked for nothing: what was added to it
-    /// stays there. Ours, the Rust crate has none.
+    /// Ends the loop; returns its subscribers by id and its poller, which isn't called: what was added stays. Not in event-manager.
     pub fn into_parts(self) -> (Subscribers<S>, P)
         ensures subscribers { result.0 ≡ (seen_of self).registry.values }
         ensures poller { result.1 ≡ (seen_of self).poller }
@@ -104,15 +97,15 @@ impl<S: MutEventSubscriber, P: EventPoller> EventLoop<S, P> {
         self.run_with_timeout(-1)
     }
 
-    /// Waits once, for at most `ms` milliseconds (negative: without a limit), and dispatches what is reported.
+    /// Waits once, for at most `ms` milliseconds (negative: without a limit), dispatches what is reported, and returns how many
+    /// events were reported, cancelled ones and those of nobody included.
     ///
-    /// The events of a higher priority go first, by the [`Priority`](crate::Priority) that each descriptor held after the
-    /// wait (0 where nobody owned it), and those of one priority in the order of the report. Each goes once, to the
-    /// subscriber that owns its descriptor at its turn, unless a `remove` of that descriptor has succeeded since the wait;
-    /// else to nobody. Answers how many events were reported, cancelled ones and those of nobody included.
+    /// Events of a higher [`Priority`](crate::Priority) go first, by the one that each descriptor held after the wait (the lowest
+    /// where nobody owned it), and those of one priority in the order of the report. Each goes once, to the subscriber that owns
+    /// its descriptor at its turn, unless a `remove` of that descriptor has succeeded since the wait; else to nobody.
     ///
-    /// An interrupted wait (`EINTR`) answers 0; one that is refused with another number is `Epoll` with it. Then nobody
-    /// is called and nothing changes but the poller. A run takes no memory of the loop's.
+    /// An interrupted wait (`EINTR`) returns 0; one that is refused with another number is `Epoll` with it. In both cases nobody is
+    /// called and nothing changes but the poller. The loop itself takes no memory in a run.
     pub fn run_with_timeout(&mut self, ms: i32) -> Result<usize>
         ensures { IsLoopIteration S.begins S.serves no_job P.controls P.waits (seen_of self.old) ms result (seen_of self.new) }
     {

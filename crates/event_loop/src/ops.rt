@@ -15,10 +15,8 @@ use dispatch_tables::priority::Priority;
 use vmm_sys::epoll::ControlOperation;
 use vmm_sys::errno::Errno;
 
-/// What one subscriber may ask for: it changes the registrations under that subscriber's id, and no others.
-///
-/// A registry owns it, and lends it to the subscriber that is called, and to the caller of
-/// [`event_ops`](crate::SubscriberOps::event_ops). A refused request leaves owners and pending events as they were.
+/// Changes the registrations of one subscriber, and no others. A registry lends it to the subscriber that it calls, and to the
+/// caller of [`event_ops`](crate::SubscriberOps::event_ops). A refused request leaves owners and pending events as they were.
 #[derive(Drop)]
 pub struct EventOps<P> {
     pub(crate) epoll: EpollWrapper<P>,
@@ -27,7 +25,6 @@ pub struct EventOps<P> {
     pub(crate) place: usize,
 }
 
-// An answer to the request at this index of a list.
 fn answered_at(index: usize, answer: Result<()>) -> std::result::Result<(), RefusedRequest>
     ensures { result ≡ specified.answered_at index answer }
 {
@@ -38,22 +35,19 @@ fn answered_at(index: usize, answer: Result<()>) -> std::result::Result<(), Refu
 }
 
 impl<P: EventPoller> EventOps<P> {
-    /// Registers the descriptor for the subscriber, at the lowest priority: a number, which the poller takes for a
-    /// descriptor of its own, also where it is that of a counter of another table.
+    /// Registers the descriptor for the subscriber, at the lowest priority. The poller takes the number for a descriptor of its
+    /// own, also where it is that of a counter of another table.
     ///
-    /// Refused, in this order: `FdAlreadyRegistered` where a subscriber owns the descriptor, this one included;
-    /// `Epoll(EEXIST)` where it is the endpoint's; `OutOfMemory`, since room is made before the poller is asked;
-    /// `Epoll` with the number that the poller answers.
+    /// Refused, in this order: `FdAlreadyRegistered` where a subscriber owns the descriptor, this one included; `Epoll(EEXIST)`
+    /// where it is the endpoint's; `OutOfMemory`, since room is made before the poller is asked; `Epoll` with the poller's number.
     pub fn add(&mut self, events: Events) -> Result<()>
         ensures { (calls : List PollerCall) × AreMadeThrough P.controls P.waits self.old self.new ((Request.Add events, result) ∷ []) calls }
     {
         self.add_with_priority(events, Priority::Lowest)
     }
 
-    /// Registers the descriptor for the subscriber, at a priority, which it keeps until it is removed: from the next wait
-    /// on its events are dispatched before those of a lower one. The poller isn't told of it. Not in the Rust crate.
-    ///
-    /// Refused as [`add`](EventOps::add) is, and in its order.
+    /// Registers as [`add`](EventOps::add), with its refusals, at a priority that the descriptor keeps until it is removed: from
+    /// the next wait on its events are dispatched before those of a lower one. The poller gets no priority. Not in event-manager.
     pub fn add_with_priority(&mut self, events: Events, priority: Priority) -> Result<()>
         ensures { (calls : List PollerCall) × AreMadeThrough P.controls P.waits self.old self.new ((Request.AddWithPriority events priority, result) ∷ []) calls }
     {
@@ -78,11 +72,9 @@ impl<P: EventPoller> EventOps<P> {
         }
     }
 
-    /// Changes the wanted set and the data of a descriptor of the subscriber's, which keeps its priority. Pending events
-    /// stay as they were reported. Takes no memory.
+    /// Changes the wanted set and data of a descriptor that the subscriber owns; priority and pending events stay. Takes no memory.
     ///
-    /// Refused, in this order: `Epoll(ENOENT)` where the descriptor isn't the subscriber's own; `Epoll` with the number
-    /// that the poller answers.
+    /// Refused, in this order: `Epoll(ENOENT)` where the subscriber doesn't own the descriptor; `Epoll` with the poller's number.
     pub fn modify(&mut self, events: Events) -> Result<()>
         ensures { (calls : List PollerCall) × AreMadeThrough P.controls P.waits self.old self.new ((Request.Modify events, result) ∷ []) calls }
     {
@@ -96,10 +88,8 @@ impl<P: EventPoller> EventOps<P> {
         }
     }
 
-    /// Frees a descriptor of the subscriber's, and cancels its events of the current batch that are still to come.
-    /// Takes no memory. Only the descriptor matters; set and data are handed to the poller as they are.
-    ///
-    /// Refused as [`modify`](EventOps::modify) is; then nothing is cancelled.
+    /// Frees a descriptor that the subscriber owns, and cancels its events that are still to come in the batch. Only the descriptor
+    /// matters; set and data go to the poller. Takes no memory. Refused as [`modify`](EventOps::modify); then nothing is cancelled.
     pub fn remove(&mut self, events: Events) -> Result<()>
         ensures { (calls : List PollerCall) × AreMadeThrough P.controls P.waits self.old self.new ((Request.Remove events, result) ∷ []) calls }
     {
@@ -116,7 +106,7 @@ impl<P: EventPoller> EventOps<P> {
         }
     }
 
-    /// Makes two requests in a row, whatever the first is answered; gives both answers, in order.
+    /// Makes two requests in order, the second also where the first is refused, and returns both answers.
     pub fn request_both(&mut self, first: Request, second: Request) -> (Result<()>, Result<()>)
         ensures { (calls : List PollerCall) × AreMadeThrough P.controls P.waits self.old self.new ((first, result.0) ∷ (second, result.1) ∷ []) calls }
     {
@@ -125,8 +115,7 @@ impl<P: EventPoller> EventOps<P> {
         (one, two)
     }
 
-    /// Makes requests in order, also after one that is refused. Answers the first that was refused, with its index and why,
-    /// or `Ok` where all were agreed to. Takes no memory of its own.
+    /// Makes all requests in order, also after a refusal. Returns the first that was refused, or `Ok`. Takes no memory of its own.
     pub fn request_all(&mut self, requests: &[Request]) -> std::result::Result<(), RefusedRequest>
         ensures { (exchanges : Exchanges) × (calls : List PollerCall) × (requests_of exchanges ≡ requests.now)
             × (result ≡ first_refusal (answers_of exchanges)) × AreMadeThrough P.controls P.waits self.old self.new exchanges calls }
@@ -139,8 +128,7 @@ impl<P: EventPoller> EventOps<P> {
         answer
     }
 
-    /// Makes requests in order, also after one that is refused, and gives each answer, in the same order. Takes no memory of
-    /// its own.
+    /// Makes all requests in order, also after a refusal. Returns each answer, in the same order. Takes no memory of its own.
     pub fn request_each<const N: usize>(&mut self, requests: [Request; N]) -> [Result<()>; N]
         ensures { (exchanges : Exchanges) × (calls : List PollerCall) × (requests_of exchanges ≡ requests.entry)
             × (answers_of exchanges ≡ result) × AreMadeThrough P.controls P.waits self.old self.new exchanges calls }

@@ -1,4 +1,4 @@
-//! What a loop hands out once it is over.
+//! What is left of a loop that was taken apart.
 
 ghost use Rattle.std.specs.Prelude.{◌≡◌, IfNone, OnSome};
 ghost use Rattle.std.specs.Option.{option_copied};
@@ -34,7 +34,7 @@ impl<S> Subscribers<S> {
         self.places.get(id.number())
     }
 
-    /// Takes the subscriber of the id out, where the loop held one. Takes no memory.
+    /// Removes the subscriber of the id and returns it, where the loop held one. Takes no memory.
     pub fn remove(&mut self, id: SubscriberId) -> Option<S>
         ensures value { result ≡ map.get self.old id }
         ensures removed { OnSome result (self.new ≡ map.remove self.old id) }

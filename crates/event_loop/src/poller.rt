@@ -10,11 +10,8 @@ use vmm_sys::epoll::{ControlOperation, EpollEvent};
 use vmm_sys::errno::Errno;
 use vmm_sys::poller::Poller;
 
-/// A poller, as a manager calls it.
-///
-/// Each type states two relations: which answer and which value after a call may give from the value before. All
-/// contracts of the manager speak of its poller by these relations alone, so they hold for every poller. Each `vmm_sys`
-/// poller is one, as it is; one whose type isn't known stands in a [`BoxedPoller`]. Its calls have names of their own, so
+/// A poller, as a manager calls it: each `vmm_sys` poller as it is, or one whose type isn't known in a [`BoxedPoller`]. Contracts
+/// speak of it by its relations `controls` and `waits` alone, so they hold for every poller. Its calls have names of their own, so
 /// that `ctl` and `wait` of a `vmm_sys` poller can be called where this trait is in use.
 pub trait EventPoller {
     ghost use Rattle.std.specs.Prelude.{ℕ, ℤ, List, Result};
@@ -22,35 +19,29 @@ pub trait EventPoller {
     ghost use Rattle.vmm_sys.specs.declared.entries.ControlOperation.{ControlOperation};
     ghost use Rattle.dispatch_tables.specs.Event.{Event};
 
-    /// From a value, with an operation, a descriptor and an event: which answer `control` may give, and which value it
-    /// may leave.
+    /// Which answer `control` may give, and which value it may leave, from a value, an operation, a descriptor and an event.
     ghost controls: { Self → ControlOperation → ℕ → Event → Result (Unit {0}) Errno → Self → Type 0 };
 
-    /// From a value, with the milliseconds and the capacity of the buffer: which report or refusal `poll` may
-    /// give, and which value it may leave.
+    /// Which report or refusal `poll` may give, and which value it may leave, from a value, the milliseconds and the capacity.
     ghost waits: { Self → ℤ → ℕ → Result (List Event) Errno → Self → Type 0 };
 
-    /// Changes the interest in the descriptor `fd`.
-    ///
-    /// The event has the same descriptor, but for a `Delete` that comes from a subscriber's leaving: its event has
-    /// descriptor 0, data 0 and the empty set.
+    /// Changes the interest in the descriptor `fd`, which is also the event's, but for a `Delete` when a subscriber leaves: its
+    /// event has descriptor 0, data 0 and the empty set.
     fn control(&mut self, op: ControlOperation, fd: u32, event: Events) -> Result<(), Errno>
         requires { fd < 2 ^ 31 }
         ensures { controls self.old op fd event result self.new };
 
-    /// Waits for a report, and writes its entries into the front of the buffer; answers how many.
-    ///
-    /// `ms` is the limit in milliseconds: none where it is negative, no wait where it is 0.
+    /// Waits at most `ms` milliseconds (negative: without a limit; 0: not at all) for a report, writes its entries into the front
+    /// of the buffer, and returns how many.
     fn poll(&mut self, ms: i32, buffer: &mut [EpollEvent]) -> Result<usize, Errno>
         ensures count_fits { IfOk result (λ n. n ≤ length buffer.old) }
         ensures answer { waits self.old ms (length buffer.old) (report_of result buffer.new) self.new };
 }
 
-/// A `vmm_sys` poller of any type, in a box. The caller makes the box where the type is known, as
-/// `let poller: Box<dyn Poller + Send> = Box::new(alloc, script)?;`.
-///
-/// A function that is generic over the poller, or over the `R` of an `Epoll<R>`, can't: the checker refuses a trait object
-/// of a type that isn't known there. So this type has no maker, and an `Epoll<R>` of a generic `R` is handed in as it is.
+/// A `vmm_sys` poller of any type, in a box that the caller makes where the type is known:
+/// `let poller: Box<dyn Poller + Send> = Box::new(alloc, script)?;`. There is no `new`: the checker refuses a trait object of a
+/// type that isn't known, as in a function that is generic over the poller or over the `R` of an `Epoll<R>`; such a function passes
+/// its `Epoll<R>` unboxed.
 #[derive(Drop)]
 pub struct BoxedPoller(pub Box<dyn Poller + Send>);
 

@@ -25,7 +25,6 @@ use std::marker::Model;
 use vmm_sys::epoll::EpollEvent;
 use vmm_sys::errno::Errno;
 
-/// Takes out the owner of one descriptor, if it has one, and counts the owned and the raised ones. Answers the owner.
 fn disown(owners: &mut Owners, owned: &mut usize, raised: &mut usize, fd: u32) -> Option<Owner>
     requires { AreCounted owners.old owned.old raised.old }
     ensures owner { IsOwnerAt owners.old fd result }
@@ -39,7 +38,7 @@ fn disown(owners: &mut Owners, owned: &mut usize, raised: &mut usize, fd: u32) -
     Some(owner)
 }
 
-/// Notes where a descriptor stands that took the position of one that was taken out of a watch list.
+/// Notes the new position of a descriptor that took the one of a removed descriptor in a watch list.
 fn note_moved(owners: &mut Owners, moved: Option<Moved>)
     ensures { owners.new ≡ owners.old }
 {
@@ -48,7 +47,6 @@ fn note_moved(owners: &mut Owners, moved: Option<Moved>)
     }
 }
 
-/// Takes out the owners of the descriptors, and counts the owned and the raised ones.
 fn disown_all(owners: &mut Owners, owned: &mut usize, raised: &mut usize, fds: &[u32])
     requires { AreCounted owners.old owned.old raised.old }
     ensures disowned { AreWithout fds.now owners.old owners.new }
@@ -60,7 +58,7 @@ fn disown_all(owners: &mut Owners, owned: &mut usize, raised: &mut usize, fds: &
     }
 }
 
-/// Who owns which descriptor, both ways, and the endpoint's descriptor.
+/// The owners by descriptor, the descriptors by owner, and the endpoint's. Only `open` and `register` take memory.
 #[derive(Drop)]
 pub(crate) struct Registrations {
     owners: Owners,
@@ -84,7 +82,6 @@ impl Model for Registrations {
 }
 
 impl Registrations {
-    /// No registration.
     pub(crate) fn new(alloc: Global, endpoint: u32) -> Self
         ensures { result ≡ record { owners = map.empty; endpoint = endpoint } }
     {
@@ -97,21 +94,18 @@ impl Registrations {
         }
     }
 
-    /// How many descriptors have an owner.
     pub(crate) fn owned(&self) -> usize
         ensures { result ≡ map.len self.now.owners }
     {
         self.owned
     }
 
-    /// The endpoint's descriptor.
     pub(crate) fn endpoint(&self) -> u32
         ensures { result ≡ self.now.endpoint }
     {
         self.endpoint
     }
 
-    /// Whether the descriptor may be added, as far as the registrations say.
     pub(crate) fn check_vacant(&self, events: Events) -> Result<()>
         ensures { IsVacant (between_batches self.now) events result }
     {
@@ -125,7 +119,6 @@ impl Registrations {
         Ok(())
     }
 
-    /// Whether the id owns the descriptor.
     pub(crate) fn is_owner(&self, id: u64, events: Events) -> bool
         ensures { IsTrue result ↔ Owns id (between_batches self.now) events.fd }
     {
@@ -135,7 +128,7 @@ impl Registrations {
         }
     }
 
-    /// Opens the watch list of an id, at the place of its subscriber. Where memory is refused, all stays as it was.
+    /// Opens the watch list of an id, at the place of its subscriber.
     pub(crate) fn open(&mut self, id: u64, place: usize) -> std::result::Result<(), AllocError>
         ensures { self.new ≡ self.old }
     {
@@ -143,8 +136,6 @@ impl Registrations {
         Ok(())
     }
 
-    /// Enters the owner of the descriptor, and the descriptor in the watch list of the owner's id. Where memory is refused,
-    /// all stays as it was.
     pub(crate) fn register(
         &mut self,
         events: Events,
@@ -178,7 +169,6 @@ impl Registrations {
         }
     }
 
-    /// Frees a descriptor of the id's. Takes no memory.
     pub(crate) fn unregister(&mut self, events: Events, id: u64)
         requires { Owns id (between_batches self.old) events.fd }
         ensures freed { self.new ≡ record self.old { owners = map.remove self.old.owners events.fd } }
@@ -192,7 +182,7 @@ impl Registrations {
         note_moved(&mut self.owners, moved);
     }
 
-    /// Frees all descriptors of the id, whose list is looked for at the place, and answers them. Takes no memory.
+    /// Frees all descriptors of the id, whose list is looked for at the place first, and returns them.
     pub(crate) fn take_watched(&mut self, id: u64, place: usize) -> Vec<u32>
         ensures owned { AreOwnedBy id (between_batches self.old) result.items }
         ensures are_descriptors { All (λ fd. fd < 2 ^ 31) result.items }
@@ -204,14 +194,13 @@ impl Registrations {
         fds
     }
 
-    /// Leaves the room of a list that was taken to the next at its place. Takes no memory.
+    /// Gives the memory of a list that was taken to the next list at its place.
     pub(crate) fn keep_room(&mut self, place: usize, fds: Vec<u32>)
         ensures { self.new ≡ self.old }
     {
         self.watched.keep_room(place, fds);
     }
 
-    /// The owner of the descriptor of an entry.
     pub(crate) fn owner(&self, entry: &EpollEvent) -> Option<Owner>
         ensures value { IsOwnerAt self.now.owners (event_of_entry entry.now).fd result }
         ensures is_descriptor { IfSome result (λ _. (event_of_entry entry.now).fd < 2 ^ 31) }
@@ -219,8 +208,6 @@ impl Registrations {
         self.owners.get(fd_of(entry))
     }
 
-    /// Puts the first `count` entries of a report in the order of dispatch, by the priorities that their descriptors have
-    /// now. The list of classed entries has room for them.
     pub(crate) fn order(
         &self,
         report: &mut [EpollEvent],

@@ -20,13 +20,11 @@ use std::alloc::Global;
 use vmm_sys::epoll::ControlOperation;
 use vmm_sys::errno::Errno;
 
-/// The id that a loop gives first.
 pub(crate) const FIRST_ID: u64 = 1;
 
-/// A number that no descriptor has.
 const NO_DESCRIPTOR: u32 = 2147483648;
 
-/// How many events a wait reported, and whether one of them was on the endpoint's descriptor.
+/// What a wait reported.
 #[derive(Clone, Copy)]
 pub struct Batch {
     /// How many events were reported.
@@ -35,13 +33,13 @@ pub struct Batch {
     pub endpoint_ready: bool,
 }
 
-/// The subscribers by id, and their registrations.
+/// The subscribers by id, their registrations, and the poller.
 pub struct Registry<S, P = BoxedPoller> {
     pub(crate) subscribers: SubscriberPlaces<S>,
     pub(crate) ops: EventOps<P>,
 }
 
-// Not derived: then each way out of a function that owns one has a call to prove, and not a drop of all that is in it.
+// Not derived: so each way out of a function that owns one has one call to prove, not a drop of each part.
 impl<S: Drop, P: Drop> Drop for Registry<S, P> {
     fn drop(self) {
         let Registry {
@@ -52,11 +50,9 @@ impl<S: Drop, P: Drop> Drop for Registry<S, P> {
 }
 
 impl<S: MutEventSubscriber, P: EventPoller> Registry<S, P> {
-    /// No subscriber, with room for a batch of `capacity` events. The poller is asked to add the descriptor of `endpoint`,
-    /// which no subscriber can own: its events are only told of.
-    ///
-    /// Refused, in this order, and the poller doesn't come back: `OutOfMemory`; `Epoll` with the number that the poller
-    /// answers.
+    /// A registry with no subscriber, whose batches have up to `capacity` events. The poller is asked to add the descriptor of
+    /// `endpoint`, which no subscriber can own: its events only set [`Batch::endpoint_ready`]. Refused, in this order, and the
+    /// poller is dropped: `OutOfMemory`; `Epoll` with the poller's number.
     pub fn new(alloc: Global, poller: P, endpoint: Events, capacity: usize) -> Result<Self>
     where
         P: Drop,
@@ -73,8 +69,6 @@ impl<S: MutEventSubscriber, P: EventPoller> Registry<S, P> {
         }
     }
 
-    /// No subscriber and no endpoint, with room for a batch of `capacity` events, and the id that is given first. The poller
-    /// is asked for nothing.
     pub(crate) fn without_endpoint(
         alloc: Global,
         poller: P,
@@ -94,7 +88,6 @@ impl<S: MutEventSubscriber, P: EventPoller> Registry<S, P> {
         Ok(Registry::over(alloc, epoll, first_id))
     }
 
-    /// No subscriber, over these registrations and this poller; and the id that is given first.
     fn over(alloc: Global, epoll: EpollWrapper<P>, first_id: u64) -> Self
         ensures { (result.subscribers ≡ record nobody { next = first_id }) × (result.ops.epoll ≡ epoll) }
     {
@@ -108,9 +101,7 @@ impl<S: MutEventSubscriber, P: EventPoller> Registry<S, P> {
         }
     }
 
-    /// Takes one position of the batch: hands its event to the owner of its descriptor, where there is one and the
-    /// event isn't cancelled. Answers whether the event was on the endpoint's descriptor; `None` where no position is
-    /// left.
+    /// Takes the next event of the batch and returns whether it was on the endpoint's descriptor; `None` where none is left.
     fn dispatch_next(&mut self) -> Option<bool>
         ensures { MatchOption result
             ((self.new ≡ self.old) × (self.old.ops.epoll.registrations.ready ≡ []))
@@ -134,7 +125,6 @@ impl<S: MutEventSubscriber, P: EventPoller> Registry<S, P> {
         Some(ready_entry.is_endpoint)
     }
 
-    /// Dispatches the batch. Answers whether an event of it was on the endpoint's descriptor.
     fn dispatch(&mut self) -> bool
         requires { self.old.ops.epoll.registrations.ready ≡ all_pending (map (λ p. p.0) self.old.ops.epoll.registrations.ready) }
         ensures { IsDispatched S.serves P.controls P.waits self.old self.new (map (λ p. p.0) self.old.ops.epoll.registrations.ready) result }
@@ -146,11 +136,8 @@ impl<S: MutEventSubscriber, P: EventPoller> Registry<S, P> {
         endpoint_ready
     }
 
-    /// Waits once, for at most `ms` milliseconds (negative: without a limit), and dispatches what is reported, by priority
-    /// and then in the order of the report.
-    ///
-    /// An interrupted wait (`EINTR`) has no event; one that is refused with another number is `Epoll` with it. Then nobody
-    /// is called and nothing changes but the poller. Takes no memory.
+    /// Waits once and dispatches the batch, as [`EventLoop::run_with_timeout`](crate::EventLoop::run_with_timeout) does and with
+    /// its refusals. An interrupted wait is an empty batch.
     pub fn run_with_timeout(&mut self, ms: i32) -> Result<Batch>
         ensures { IsBatch S.serves P.controls P.waits (loop_state self.old) ms result (loop_state self.new) }
     {
@@ -186,7 +173,7 @@ impl<S: MutEventSubscriber, P: EventPoller> Registry<S, P> {
         &self.ops.epoll.poller
     }
 
-    /// The subscribers by id, and the poller, which is asked for nothing: what was added to it stays there.
+    /// The subscribers by id, and the poller, which isn't called: what was added to it stays there.
     pub fn into_parts(self) -> (Subscribers<S>, P)
         ensures subscribers { result.0 ≡ (loop_state self).registry.values }
         ensures poller { result.1 ≡ (loop_state self).poller }
@@ -200,7 +187,6 @@ impl<S: MutEventSubscriber, P: EventPoller> Registry<S, P> {
         (subscribers, poller)
     }
 
-    /// Takes a subscriber in under the next id.
     pub(crate) fn join(&mut self, subscriber: S) -> Result<SubscriberId>
     where
         S: Drop,
@@ -223,7 +209,6 @@ impl<S: MutEventSubscriber, P: EventPoller> Registry<S, P> {
         Ok(SubscriberId { number: id })
     }
 
-    /// Lets the subscriber of the id go, with all its descriptors. Takes no memory.
     pub(crate) fn leave(&mut self, id: u64) -> Result<S>
         ensures { (step : LoopStep S) × IsLeave id result step
             × HasStepped S.begins P.controls P.waits (loop_state self.old) step (loop_state self.new) }

@@ -10,7 +10,7 @@ use crate::ops::EventOps;
 use crate::poller::EventPoller;
 use std::marker::Model;
 
-/// The number under which a registry holds a subscriber: 1 for the first, then one more each time, never again.
+/// The number under which a registry holds a subscriber: counted up from 1, or from the loop's `first_id`, and never given again.
 #[derive(Clone, Copy, PartialEq, Eq, PartialOrd, Ord, Hash, Debug)]
 pub struct SubscriberId {
     pub(crate) number: u64,
@@ -35,18 +35,14 @@ impl SubscriberId {
     }
 }
 
-/// A subscriber that changes only what it holds in cells, locks or atomics.
-///
-/// A type states what its calls may ask for: `begins_shared` and `serves_shared` relate its value, the event, and the
-/// list of requests with their answers.
+/// A subscriber that changes only what it holds in cells, locks or atomics. `begins_shared` and `serves_shared` state what `init`
+/// and `process` may ask for: they relate its value, the event, and the list of requests with their answers.
 pub trait EventSubscriber {
     ghost use Rattle.dispatch_tables.specs.Event.{Event};
     ghost use Rattle.event_loop.specs.Exchange.{Exchanges};
 
-    /// What `init` may ask for.
     ghost begins_shared: { Self → Exchanges → Type 0 };
 
-    /// What `process` may ask for on an event.
     ghost serves_shared: { Self → Event → Exchanges → Type 0 };
 
     /// Called with each event that is dispatched to the subscriber.
@@ -60,18 +56,14 @@ pub trait EventSubscriber {
             × AreMadeThrough P.controls P.waits ops.old ops.new exchanges calls };
 }
 
-/// A subscriber.
-///
-/// A type states what its calls may ask for and do: `begins` and `serves` relate its value before, the event, the list
-/// of requests with their answers, and its value after. It changes the registrations through `ops` alone.
+/// A subscriber. `begins` and `serves` state what `init` and `process` may ask for and do: they relate its value before, the event,
+/// the list of requests with their answers, and its value after. It changes the registrations through `ops` alone.
 pub trait MutEventSubscriber {
     ghost use Rattle.dispatch_tables.specs.Event.{Event};
     ghost use Rattle.event_loop.specs.Exchange.{Exchanges};
 
-    /// What `init` may ask for, from the value before to the value after.
     ghost begins: { Self → Exchanges → Self → Type 0 };
 
-    /// What `process` may ask for on an event, from the value before to the value after.
     ghost serves: { Self → Event → Exchanges → Self → Type 0 };
 
     /// Called with each event that is dispatched to the subscriber.

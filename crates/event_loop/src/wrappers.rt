@@ -12,7 +12,6 @@ use std::cell::RefCell;
 use std::rc::Rc;
 use std::sync::{Arc, Mutex, Wait};
 
-/// Passes on to the shared subscriber.
 impl<T: EventSubscriber> EventSubscriber for Arc<T> {
     ghost begins_shared = { λ v exchanges. T.begins_shared (arc_value v) exchanges };
 
@@ -27,7 +26,6 @@ impl<T: EventSubscriber> EventSubscriber for Arc<T> {
     }
 }
 
-/// Passes on to the shared subscriber.
 impl<T: EventSubscriber> MutEventSubscriber for Arc<T> {
     ghost begins = { λ v exchanges w. (w ≡ v) × T.begins_shared (arc_value v) exchanges };
 
@@ -42,7 +40,6 @@ impl<T: EventSubscriber> MutEventSubscriber for Arc<T> {
     }
 }
 
-/// Passes on to the shared subscriber.
 impl<T: EventSubscriber> EventSubscriber for Rc<T> {
     ghost begins_shared = { λ v exchanges. T.begins_shared v.value exchanges };
 
@@ -57,7 +54,6 @@ impl<T: EventSubscriber> EventSubscriber for Rc<T> {
     }
 }
 
-/// Passes on to the shared subscriber.
 impl<T: EventSubscriber> MutEventSubscriber for Rc<T> {
     ghost begins = { λ v exchanges w. (w ≡ v) × T.begins_shared v.value exchanges };
 
@@ -72,7 +68,6 @@ impl<T: EventSubscriber> MutEventSubscriber for Rc<T> {
     }
 }
 
-/// Passes on to the boxed subscriber.
 impl<T: EventSubscriber> EventSubscriber for Box<T> {
     ghost begins_shared = { λ v exchanges. T.begins_shared v.value exchanges };
 
@@ -87,7 +82,6 @@ impl<T: EventSubscriber> EventSubscriber for Box<T> {
     }
 }
 
-/// Passes on to the boxed subscriber.
 impl<T: MutEventSubscriber> MutEventSubscriber for Box<T> {
     ghost begins = { λ v exchanges w. T.begins v.value exchanges w.value };
 
@@ -102,10 +96,8 @@ impl<T: MutEventSubscriber> MutEventSubscriber for Box<T> {
     }
 }
 
-/// Passes on to the subscriber in the cell. Where the cell is borrowed, the call is skipped; the Rust crate panics.
-///
-/// Of what the cell holds nothing is claimed: the exchanges are some that the held type may make; or none, which a busy
-/// cell makes, and which the relation allows of a free one too.
+/// Calls the subscriber in the cell; where the cell is borrowed the call is skipped (event-manager panics). Nothing is claimed of
+/// what the cell holds: the exchanges are some that the held type may make, or none, which the relation allows of a free cell too.
 impl<T: MutEventSubscriber> EventSubscriber for RefCell<T> {
     ghost begins_shared = { λ v exchanges. (exchanges ≡ []) ⊎ ((x y : T) × T.begins x exchanges y) };
 
@@ -124,7 +116,6 @@ impl<T: MutEventSubscriber> EventSubscriber for RefCell<T> {
     }
 }
 
-/// As the cell's [`EventSubscriber`].
 impl<T: MutEventSubscriber> MutEventSubscriber for RefCell<T> {
     ghost begins = { λ v exchanges w. (exchanges ≡ []) ⊎ ((x y : T) × T.begins x exchanges y) };
 
@@ -139,13 +130,11 @@ impl<T: MutEventSubscriber> MutEventSubscriber for RefCell<T> {
     }
 }
 
-/// A subscriber under a lock, with the handle by which it waits for that lock: in place of the Rust crate's `Mutex`.
-///
-/// Its calls wait for the lock, and free it when they end. Of what the lock guards nothing is claimed: the exchanges are
-/// some that the held type may make.
+/// A subscriber under a lock, with the handle by which its calls wait for that lock; they free it when they end. In place of
+/// event-manager's `Mutex`. Nothing is claimed of what the lock guards: the exchanges are some that the held type may make.
 #[derive(Drop)]
 pub struct Locked<T, R> {
-    /// The subscriber; other holders lock it as they do std's.
+    /// The subscriber; others lock it as they do std's.
     pub mutex: Mutex<T>,
     rt: R,
 }
@@ -160,7 +149,6 @@ impl<T, R: Wait> Locked<T, R> {
     }
 }
 
-/// Passes on to the subscriber under the lock.
 impl<T: MutEventSubscriber, R: Wait> EventSubscriber for Locked<T, R> {
     ghost begins_shared = { λ v exchanges. (x y : T) × T.begins x exchanges y };
 
@@ -177,7 +165,6 @@ impl<T: MutEventSubscriber, R: Wait> EventSubscriber for Locked<T, R> {
     }
 }
 
-/// As the lock's [`EventSubscriber`].
 impl<T: MutEventSubscriber, R: Wait> MutEventSubscriber for Locked<T, R> {
     ghost begins = { λ v exchanges w. (x y : T) × T.begins x exchanges y };
 
@@ -192,12 +179,12 @@ impl<T: MutEventSubscriber, R: Wait> MutEventSubscriber for Locked<T, R> {
     }
 }
 
-/// A subscriber of one of two kinds, which stays of its kind: a manager of these holds both. For more kinds they nest.
+/// A subscriber of one of two types, which never changes; a manager of these holds both. For more types, nest them.
 #[derive(Drop)]
 pub enum Either<A, B> {
-    /// Of the first kind.
+    /// Of the first type.
     First(A),
-    /// Of the second kind.
+    /// Of the second type.
     Second(B),
 }
 

@@ -9,7 +9,7 @@ pub enum Call<S> {
     Add(S),
     /// `remove_subscriber`.
     Remove(SubscriberId),
-    /// Another value in the place of a subscriber.
+    /// Replaces the subscriber by another value.
     Set(SubscriberId, S),
     /// Requests through `event_ops`.
     Ask(SubscriberId, Vec<Request>),
@@ -24,7 +24,7 @@ pub enum Reply<S> {
     Added(Result<SubscriberId>),
     /// What `remove_subscriber` answered.
     Removed(Result<S>),
-    /// The value before.
+    /// The old value.
     Set(Result<S>),
     /// The answers to the requests, in order.
     Asked(Result<Vec<Result<()>>>),

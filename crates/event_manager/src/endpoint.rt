@@ -24,7 +24,7 @@ use std::sync::{Arc, Wait};
 use std::time::Clock;
 use vmm_sys::counter::Bell;
 
-// Lets go of what was refused: where the queue's lock is free, since the drop of a job is its sender's code.
+// Called without the queue's lock: the drop of a refused job runs its sender's code.
 fn answer<J: Drop, Q: Drop, N: Naming>(
     sent: std::result::Result<Ticket<N>, Refused<J, Q>>,
 ) -> Result<Ticket<N>>
@@ -36,18 +36,14 @@ fn answer<J: Drop, Q: Drop, N: Naming>(
     }
 }
 
-/// Sends jobs to the manager that it comes from, from any thread.
-///
-/// A job that is refused is dropped where the queue's lock is free, as each job that a close drops and each reply that
-/// nobody waits for: what a drop does with an endpoint waits for nobody.
-///
-/// The queue of a manager that was dropped without [`close`](crate::EventManager::close) stays open: sends are still
-/// accepted, nobody runs the jobs, and a `call_blocking` waits for ever. `close` is the way out.
+/// Sends jobs to its manager, from any thread. No job and no reply is dropped under the queue's lock, so a drop may use an endpoint
+/// without a deadlock on it. A manager that is dropped without [`close`](crate::EventManager::close) leaves the queue open: sends
+/// are accepted, no job runs, and a `call_blocking` waits for ever.
 pub struct RemoteEndpoint<S: MutEventSubscriber, J: Job<S>, N: NamedCounter> {
     pub(crate) channel: Arc<Channel<S, J, N>>,
 }
 
-// Not derived: then who owns one has a call to prove, and not a drop of all that is in it.
+// Not derived: so an owner proves one call, and not the drop of every part.
 impl<S: MutEventSubscriber, J: Job<S>, N: NamedCounter> Drop for RemoteEndpoint<S, J, N> {
     fn drop(self) {
         let RemoteEndpoint { channel: _ } = self;
@@ -55,13 +51,11 @@ impl<S: MutEventSubscriber, J: Job<S>, N: NamedCounter> Drop for RemoteEndpoint<
 }
 
 impl<S: MutEventSubscriber, J: Job<S>, N: NamedCounter> RemoteEndpoint<S, J, N> {
-    /// Sends a job, which the loop runs once, in the order of the tickets, behind a batch: that which is under way, where its
-    /// report has a ring already, or a later one. So it may run before what its sender wrote or kicked beforehand is reported.
-    /// The ticket may be dropped.
-    ///
-    /// Refused, in this order, the queue as it was and the job dropped: `ChannelSend` where the manager was closed;
-    /// `TicketsUsedUp` where 9223372036854775807 tickets were issued; `OutOfMemory`; `EventFd` with the number with which
-    /// the manager's counter refuses its ring, `EAGAIN` where an `EventFd` of a table is full.
+    /// Sends a job, which the loop runs once, in the order of the tickets, after the current batch, if its report has a ring
+    /// already, or a later one: perhaps before what its sender wrote or kicked earlier is reported. The ticket may be dropped.
+    /// Refused, in this order, with the queue unchanged and the job dropped: `ChannelSend` if the manager was closed;
+    /// `TicketsUsedUp` if 9223372036854775807 tickets were issued; `OutOfMemory`; `EventFd` with the number with which the
+    /// manager's counter refuses its ring (`EAGAIN` if an `EventFd` of a table is full).
     pub fn fire<R: Wait + Clock>(&self, job: J, rt: &R) -> Result<Ticket<N>>
         ensures refusals { IfErr result (IsSendRefusal (N.rings (counter_of_endpoint self.now))) }
     {
@@ -71,11 +65,8 @@ impl<S: MutEventSubscriber, J: Job<S>, N: NamedCounter> RemoteEndpoint<S, J, N> 
         answer(sent)
     }
 
-    /// As [`fire`](RemoteEndpoint::fire), with a ticket above the shown one: so the jobs that one thread sends in this
-    /// way run in the order in which it sent them.
-    ///
-    /// Refused as `fire`; `TicketsUsedUp` also where the shown number is above what was issued, which is so of no ticket
-    /// that an endpoint of this manager gave.
+    /// As [`fire`](RemoteEndpoint::fire), with a ticket above `shown`: jobs that a thread sends so run in the order of its sends.
+    /// Refused as `fire`; also with `TicketsUsedUp` if `shown` is above all issued tickets, as none from this manager is.
     pub fn fire_after<R: Wait + Clock>(
         &self,
         shown: &Ticket<N>,
@@ -94,11 +85,9 @@ impl<S: MutEventSubscriber, J: Job<S>, N: NamedCounter> RemoteEndpoint<S, J, N> 
         answer(sent)
     }
 
-    /// Sends a job, and waits for its reply. On the loop's own thread it waits for ever, as in the Rust crate.
-    ///
-    /// Refused before it waits, the queue as it was and the job dropped: `OutOfMemory` where there is no memory for the
-    /// reply's place, then as [`fire`](RemoteEndpoint::fire). `ChannelRecv` where the manager was closed before the job
-    /// ran.
+    /// Sends a job and waits for its reply. On the loop's own thread it waits for ever, as in event-manager. Refused before it
+    /// waits as [`fire`](RemoteEndpoint::fire), before that with `OutOfMemory` if there is no memory for the reply's place.
+    /// `ChannelRecv` if the manager was closed before the job ran.
     pub fn call_blocking<R: Wait + Clock>(&self, job: J, rt: &R) -> Result<J::Reply>
         ensures fact { IfOk result (λ r. J.replies r) }
         ensures refusals { IfErr result (IsCallRefusal (N.rings (counter_of_endpoint self.now))) }
@@ -111,16 +100,15 @@ impl<S: MutEventSubscriber, J: Job<S>, N: NamedCounter> RemoteEndpoint<S, J, N> 
         receiver.wait(rt)
     }
 
-    /// Ends the loop's wait: rings the manager's counter. Takes no memory where that ring doesn't.
-    ///
-    /// `EventFd` with the number with which the counter refuses its ring; then nothing changes.
+    /// Rings the manager's counter, which ends the loop's wait. Takes no memory unless that ring does. `EventFd` with the number
+    /// with which the counter refuses its ring; then nothing changes.
     pub fn kick<R: Wait + Clock>(&self, rt: &R) -> Result<()>
         ensures refusals { IfErr result (IsRingRefusal (N.rings (counter_of_endpoint self.now))) }
     {
         self.channel.counter.ring(rt).map_err(Error::EventFd)
     }
 
-    /// Another endpoint of the same manager. `OutOfMemory` where one more owner is refused.
+    /// Another endpoint of the same manager. `OutOfMemory` if one more owner is refused.
     pub fn try_clone(&self) -> Result<Self>
         ensures same_counter { IfOk result (λ other. counter_of_endpoint other ≡ counter_of_endpoint self.now) }
         ensures refusals { IfErr result (λ e. e ≡ OutOfMemory) }
@@ -129,7 +117,7 @@ impl<S: MutEventSubscriber, J: Job<S>, N: NamedCounter> RemoteEndpoint<S, J, N> 
         Ok(RemoteEndpoint { channel })
     }
 
-    /// How many jobs wait; `None` where the queue's lock is held at this moment. It waits for nobody, and takes no memory.
+    /// How many jobs wait; `None` if the queue's lock is held at this moment. Never waits, and takes no memory.
     pub fn pending(&self) -> Option<usize> {
         let state = self.channel.state.try_lock()?;
         Some(state.waiting())

@@ -39,16 +39,16 @@ use event_loop::{EventPoller, MutEventSubscriber, Priority, SubscriberId};
 use std::cmp::Ordering;
 use std::hash::{Hash, Hasher};
 
-/// What is done to the queue of jobs, or to the counter that wakes its loop.
+/// A step of the queue of jobs, or of the counter that wakes its loop.
 #[derive(Drop)]
 pub enum WakeStep<J> {
     /// A sender that has the queue's lock rings the counter for a job.
     Ring,
-    /// That sender puts the job last, and lets go of the lock.
+    /// That sender puts the job last, and releases the lock.
     Queue(J),
     /// Somebody rings the counter, with or without the lock, and sends nothing.
     Kick,
-    /// The loop clears the counter. It needs no lock for that.
+    /// The loop clears the counter, which needs no lock.
     Clear,
     /// The loop takes all that waits.
     Take,
@@ -56,11 +56,9 @@ pub enum WakeStep<J> {
     Close,
 }
 
-/// Non-interference: each trace, with the steps of its jobs, is a history of its registry; two histories in a row are one; and of
-/// a history, a projection to each id that is apart from its neighbours (no other id owns at the start, or adds with success, a
-/// descriptor that the id owns at the start or asks to add) is itself a history, with the same steps for that id, the same waits,
-/// the same deliveries and exchanges, and the same value at the end. Of a trace in which no job ran there is such a projection with
-/// its calls and replies.
+/// Non-interference: a history's projection to an id that is apart from its neighbours (no other id owns at the start, or adds with
+/// success, a descriptor that the id owns at the start or asks to add) is itself a history, with the same steps for that id, the
+/// same waits, deliveries, exchanges and end value. A trace in which no job ran has one with its calls and replies.
 pub fn non_interference<S: MutEventSubscriber, J: Job<S>>()
     ensures traces { (before : ManagerState S) (trace : List (TraceEntry S J J.Reply)) (after : ManagerState S) →
         IsTrace S.begins S.serves J.may before trace after → IsHistory S.begins S.serves before.registry (history_of trace) after.registry }
@@ -72,11 +70,10 @@ pub fn non_interference<S: MutEventSubscriber, J: Job<S>>()
         IsTrace S.begins S.serves J.may before trace after → TracesProject S.begins S.serves J.may before trace after }
 {}
 
-/// Who is known beforehand to want only descriptors that no other id may have is as if the others were not there. `wants` says which
-/// descriptors a subscriber of that value may ever ask for, and `claims` which id may have which. Where nobody comes to want or asks to
-/// add more, what joins under an id, takes another's place or is asked from outside is within what that id claims, and so is the
-/// registry at the start: then the registry is so at the end; and where no two ids claim the same descriptor, each is apart from its
-/// neighbours in that history, which so has a projection to each.
+/// A subscriber that wants only descriptors that no other id may have is as if alone. `wants` says which a subscriber of that value
+/// may ever ask for, `claims` which id may have which. If nobody comes to want or asks to add more, and what joins, replaces or is
+/// asked from outside is within its id's claims, as the registry is at the start, the registry is so at the end. If no two ids
+/// claim the same descriptor, each is apart from its neighbours in that history, which so has a projection to each.
 pub fn wants_keep_apart<S: MutEventSubscriber>()
     ensures kept { (wants : S → ℕ → Bool) (claims : ℕ → ℕ → Bool) (before : Registry S) (history : List (Turn S)) (after : Registry S) →
         StaysWithin (by_test wants) (by_test claims) S.begins S.serves before history after → IsWithin (by_test wants) (by_test claims) after }
@@ -86,17 +83,15 @@ pub fn wants_keep_apart<S: MutEventSubscriber>()
         StaysWithin (by_test wants) (by_test claims) S.begins S.serves before history after → (i : ℕ) → IsAsIfAlone S.begins S.serves i before history after }
 {}
 
-/// What happens to one id in a history is a life of its own: the value that it holds at the end comes from the one at the start by
-/// the joins, deliveries, replacements and leaves of that id alone: joins and deliveries are as the subscriber's relations say,
-/// and a replacement puts any value in the place of the one before.
+/// What happens to an id is a life of its own: its value at the end comes from that at the start by its own joins, deliveries,
+/// replacements and leaves. Joins and deliveries are as the subscriber's relations say; a replacement may put any value.
 pub fn lives_are_its_own<S: MutEventSubscriber>()
     ensures { (i : ℕ) (before : Registry S) (history : List (Turn S)) (after : Registry S) →
         IsHistory S.begins S.serves before history after → Lives S.begins S.serves (get before.values i) (life_of i history) (get after.values i) }
 {}
 
-/// In every trace the ids that joins give follow each other from the next id on, each once; and where each held id is below
-/// the next, as in a new manager, that stays so, and every later call for a subscriber that left is refused: by the replies
-/// alone, each later call of an id that a call removed is answered `InvalidId`.
+/// The ids that joins give in a trace follow each other from the next id on, each once. If each held id is below the next, as in a
+/// new manager, that stays so, and each later call for an id that left is refused: by the replies alone, with `InvalidId`.
 pub fn ids_are_given_once<S: MutEventSubscriber, J: Job<S>>()
     ensures given { (before : ManagerState S) (trace : List (TraceEntry S J J.Reply)) (after : ManagerState S) →
         IsTrace S.begins S.serves J.may before trace after → AreGiven before.registry.next (history_of trace) after.registry.next }
@@ -110,18 +105,16 @@ pub fn ids_are_given_once<S: MutEventSubscriber, J: Job<S>>()
         IsTrace S.begins S.serves J.may before trace after → AreBelow before.registry.next before.registry.values → AreBelow after.registry.next after.registry.values }
 {}
 
-/// In every trace of a new manager each owner of a descriptor is in the map of subscribers, and nobody owns the
-/// endpoint's descriptor.
+/// In every trace of a new manager all owners of descriptors are in the map of subscribers; nobody owns the endpoint's descriptor.
 pub fn owners_are_subscribers<S: MutEventSubscriber, J: Job<S>>()
     ensures new { (endpoint : ℕ) → IsSound (new_state {V = S} endpoint).registry }
     ensures kept { (before : ManagerState S) (trace : List (TraceEntry S J J.Reply)) (after : ManagerState S) →
         IsTrace S.begins S.serves J.may before trace after → IsSound before.registry → IsSound after.registry }
 {}
 
-/// Isolation: a step for one id, or an event that it gets, leaves the values, the descriptors with their priorities, and the
-/// pending events of all others; an event that nobody gets leaves those of all; a leave frees exactly the descriptors of its
-/// id, whatever the poller answers. Pending after an event of a batch are the later ones whose descriptor no exchange so far
-/// removed.
+/// Isolation: a step for an id, or an event that it gets, leaves the values, the descriptors with their priorities, and the pending
+/// events of all others; an event that nobody gets, those of all. A leave frees exactly its id's descriptors, whatever the poller
+/// answers. Pending after an event of a batch are the later ones whose descriptor no exchange so far removed.
 pub fn others_are_untouched<S: MutEventSubscriber>()
     ensures steps { (before : Registry S) (step : LoopStep S) (after : Registry S) → Steps S.begins before step after →
         (j : ℕ) → is_id j (id_of step) ≡ false → IsUntouched j before after }
@@ -134,8 +127,7 @@ pub fn others_are_untouched<S: MutEventSubscriber>()
         after.registrations.pending ≡ still_pending (earlier ++ record { event = event; delivery = delivery } ∷ []) later }
 {}
 
-/// Each report has exactly one order of dispatch. It has the events of the report, each as often; and it is the report
-/// where no descriptor has a class above 0.
+/// Each report has exactly one order of dispatch: a permutation of it, and the report itself if no descriptor has a class above 0.
 pub fn one_dispatch_order()
     ensures exists { (registrations : Registrations) (report : List Event) → (ordered : List Event) × IsDispatchOrder registrations report ordered }
     ensures unique { (registrations : Registrations) (report one other : List Event) →
@@ -146,8 +138,8 @@ pub fn one_dispatch_order()
         ((fd : ℕ) → class_in registrations.owners fd ≡ 0) → IsDispatchOrder registrations report report }
 {}
 
-/// To ask for nothing is to have the empty list of exchanges, and two lists of exchanges in a row are one, in what they do to the
-/// registrations and in what they do to the poller too: so a subscriber made of subscribers has the exchanges of these, joined.
+/// The empty list of exchanges changes no registration, and two lists in a row are one, for registrations and poller: so a
+/// subscriber made of subscribers has their exchanges, joined.
 pub fn exchanges_join<P: EventPoller>()
     ensures empty { (i : ℕ) (registrations : Registrations) → ExchangesFit i registrations [] [] registrations }
     ensures joined { (i : ℕ) (before mid after : Registrations) (exchanges more : Exchanges) (calls rest : List PollerCall) →
@@ -157,8 +149,8 @@ pub fn exchanges_join<P: EventPoller>()
         AreMadeThrough P.controls P.waits before after (exchanges ++ more) (calls ++ rest) }
 {}
 
-/// No call is a list of calls that was driven, where each held id is below the next, and two such lists in a row are one. So
-/// what `drive` promises of a list holds of all that a program drove bit by bit.
+/// The empty list of calls is driven, if each held id is below the next, and two driven lists in a row are one: what `drive`
+/// promises of a list holds of all that a program drove bit by bit.
 pub fn driven_lists_join<S: MutEventSubscriber, J: Job<S>, P: EventPoller>()
     ensures empty { (state : LoopState S P) → AreBelow state.registry.next state.registry.values →
         IsDriven S.begins S.serves J.may P.controls P.waits state [] [] state }
@@ -168,11 +160,10 @@ pub fn driven_lists_join<S: MutEventSubscriber, J: Job<S>, P: EventPoller>()
         IsDriven S.begins S.serves J.may P.controls P.waits before (calls ++ more_calls) (replies ++ more_replies) after }
 {}
 
-/// No job waits unheard: while the counter's value is 0 and the loop isn't between its clear and its take, no job waits, and no
-/// sender is between its ring and its job. That holds of a new queue and a counter of value 0, and it still holds after any list
-/// of steps, each agreed to or refused, in any order that the queue's lock allows, where nobody but the loop clears that counter.
-/// So a loop that sleeps because the value is 0 sleeps over no job. Whatever the queue's send answers is such a list of steps; a
-/// take of all that waits, and a close, are one.
+/// No job waits unheard: while the counter is 0 and the loop isn't between its clear and its take, no job waits, and no sender is
+/// between its ring and its job. That holds of a new queue and a counter of 0, and after any list of steps, agreed to or refused,
+/// in any order that the queue's lock allows, if only the loop clears the counter: a loop that sleeps because it is 0 leaves no job
+/// waiting. A send, whatever its answer, is such a list of steps; a take of all that waits, and a close, are one step each.
 pub fn no_job_waits_unheard<J>()
     ensures new { NoJobWaitsUnheard (new_wake_state {J = J}) }
     ensures sends { (before : WakeState J) (job : J) (answer : Result ℕ Error) (queue : QueueState J (Unit {0})) → before.job_is_to_come ≡ false →

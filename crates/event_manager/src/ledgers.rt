@@ -1,4 +1,4 @@
-//! The ledgers and the counter of a manager, for a body that is generic over their name.
+//! The ledgers and the counter of a manager.
 
 ghost use Rattle.std.specs.Prelude.{◌≡◌};
 
@@ -9,16 +9,15 @@ use std::marker::Brand;
 use std::sync::ledger::Blank;
 use vmm_sys::counter::Counter;
 
-/// What is run with the counter and the ledgers of a manager: a program's body, generic over their name.
+/// A program's body that runs with the counter and the ledgers of a manager, generic over their name.
 pub trait WithLedgers {
-    /// What the body gives.
+    /// What the body returns.
     type Output;
 
     /// Runs with the counter that [`with_ledgers`] was given, and both ledgers.
     fn run<N: NamedCounter + Send + Sync>(self, counter: N, ledgers: Ledgers<N>) -> Self::Output;
 }
 
-// The one call that picks what the ledgers are.
 fn run_named<B, C, N>(body: B, counter: C, tickets: Blank, taken: Blank) -> B::Output
 where
     B: WithLedgers,
@@ -30,9 +29,8 @@ where
     body.run::<Named<N, C>>(Named::new(counter), Ledgers::new(tickets, taken))
 }
 
-/// Runs the body with ledgers of its own, and with the counter: what a program or a test calls once, so that it names
-/// neither itself. The counter is an [`EventFd`](vmm_sys::eventfd::EventFd) of the table that the manager's poller is over,
-/// or one of the caller's own that its poller watches.
+/// Runs the body with the counter and with new ledgers; a program or a test calls it once. The counter is an
+/// [`EventFd`](vmm_sys::eventfd::EventFd) of the table of the manager's poller, or one of the caller's own that the poller watches.
 pub fn with_ledgers<B: WithLedgers, C: Counter + Send + Sync + Drop>(
     counter: C,
     body: B,

@@ -1,9 +1,8 @@
 //! An event loop for virtual machine monitors: a port of the Rust crate `event-manager` 0.4.2 with proofs.
 //!
-//! Subscribers register descriptors with a poller through an [`EventOps`]. Each run of an [`EventManager`] waits once
-//! and hands each event of the report, by the priority of its descriptor and then in the order of the report, to the
-//! subscriber that owns its descriptor at that moment, unless the descriptor was removed since the poll. Then it runs the
-//! jobs that a [`RemoteEndpoint`] has sent, each once. What needs no jobs stands in `event_loop`, and is handed out here.
+//! Subscribers register descriptors with a poller through an [`EventOps`]. A run of an [`EventManager`] waits once and delivers
+//! each event, by its descriptor's priority and then in the report's order, to the subscriber that owns the descriptor then, unless
+//! it was removed since the wait; then it runs each job sent by a [`RemoteEndpoint`] once. `event_loop` has what needs no jobs.
 #![tactic(auto)]
 
 mod calls;

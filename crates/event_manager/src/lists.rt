@@ -19,7 +19,6 @@ use event_loop::{Error, EventPoller, MutEventSubscriber, Result, SubscriberOps};
 use std::sync::Wait;
 use std::time::Clock;
 
-// Makes one call.
 fn make_call<S, J, N, P, R>(
     manager: &mut EventManager<S, J, N, P>,
     planned: Planned<S>,
@@ -44,13 +43,11 @@ where
     }
 }
 
-/// Makes the calls in order, and appends a reply for each.
+/// Makes the calls in order, and appends a reply for each. `Set` returns the old value; if nobody has the id, `InvalidId`, and the
+/// new one is dropped. `Ask` makes its requests in order by [`event_ops`](SubscriberOps::event_ops), whatever each is answered.
 ///
-/// `Set` answers the value that the id held before; where nobody has the id it answers `InvalidId` and drops the new one.
-/// `Ask` makes its requests in order through [`event_ops`](SubscriberOps::event_ops), whatever each is answered.
-///
-/// All room is made before the first call, by the allocator of the calls. The one refusal is `OutOfMemory`: then no call is made, the calls are dropped,
-/// and manager and replies are as before.
+/// All room for lists is made before the first call, by the allocators of the two vectors. `OutOfMemory` if it is refused: then no
+/// call is made, the calls are dropped, and manager and replies are as before.
 pub fn drive<S, J, N, P, R>(
     manager: &mut EventManager<S, J, N, P>,
     calls: Vec<Call<S>>,

@@ -13,14 +13,13 @@ use std::sync::{OnceLock, Wait};
 use std::thread;
 use std::thread::{Promise, PromisedHandle, Scope, Threads};
 
-/// A loop that [`with_loops`] runs on a thread: over a poller that it was given, whose type is a parameter `P: EventPoller` of the
-/// implementation, it makes its [`EventLoop`](crate::EventLoop) or its [`EventManager`](crate::EventManager), runs it for as long
-/// as it likes, and gives an `Output` in the end.
+/// A loop that [`with_loops`] runs on a thread: over a poller that it was given, of a type parameter `P: EventPoller` of the impl,
+/// it makes an [`EventLoop`](crate::EventLoop) or [`EventManager`](crate::EventManager), and runs it for as long as it likes.
 pub trait ThreadLoop<R> {
-    /// What it gives.
+    /// What it returns in the end.
     type Output;
 
-    /// What a run may give. As it stands here: anything.
+    /// What a run may return; by default anything.
     ghost gives: { Self → Self.Output → Type 0 } = { λ _ _. Unit {0} };
 
     /// Runs it to its end, on the thread that calls this.
@@ -28,7 +27,6 @@ pub trait ThreadLoop<R> {
         ensures { gives self result };
 }
 
-// What the thread of a loop gives, where it may begin.
 #[derive(Drop)]
 struct Given<L, R> {
     of: Snapshot<L>,
@@ -39,7 +37,6 @@ impl<R, L: ThreadLoop<R>> Promise<Option<L::Output>> for Given<L, R> {
     ghost kept_by = { λ given output. IfSome output (L.gives given.of.value) };
 }
 
-// Runs the loop, if it may begin once all threads are made.
 fn run_later<L: ThreadLoop<R> + Drop, R: Wait>(
     it: L,
     may_begin: &OnceLock<bool>,
@@ -54,7 +51,6 @@ fn run_later<L: ThreadLoop<R> + Drop, R: Wait>(
     }
 }
 
-// The thread of a loop, which waits until it may begin. `None` where it can't be made.
 fn start<'s, E, L, R>(
     scope: &Scope<'s, E>,
     it: L,
@@ -76,7 +72,6 @@ where
         .ok()
 }
 
-// A thread for each loop. `None` where one can't be made.
 fn start_all<'s, E, L, R>(
     scope: &Scope<'s, E>,
     alloc: Global,
@@ -97,7 +92,6 @@ where
     Some(threads)
 }
 
-// What each loop gave, in their order, behind nothing. `None` where one didn't begin.
 fn join_all<L, R>(
     threads: Vec<PromisedHandle<Option<L::Output>, Given<L, R>>>,
     mut outputs: Vec<L::Output>,
@@ -119,14 +113,11 @@ where
     Some(outputs)
 }
 
-/// Runs a loop on this thread, beside each of the others on a thread of its own, and answers, once all have ended, what the
-/// one gave and what the others gave, in their order. None begins before all threads are made. Ours, the Rust crate has none.
+/// Runs `own` on this thread, beside each of the others on its own thread, and returns, once all have ended, what they returned,
+/// the others' in order. None begins before all threads are made. They reach each other through what they were given, such as
+/// channels and endpoints. Each ends by itself: one that never ends keeps this call waiting. Not in event-manager.
 ///
-/// They reach each other by what they were given, as channels and endpoints, and each ends by itself: a loop that never ends
-/// keeps this call waiting.
-///
-/// The one refusal is `OutOfMemory`, where there is no thread for one of them, or no room for what they give: then none
-/// begins, and all are dropped.
+/// `OutOfMemory` if there is no thread for one of them, or no room for what they return: then none begins, and all are dropped.
 pub fn with_loops<B, L, R>(
     rt: &R,
     alloc: Global,

@@ -22,20 +22,16 @@ use std::sync::Wait;
 use std::time::Clock;
 use vmm_sys::epoll::EventSet;
 
-/// The capacity of [`EventManager::new`].
 pub(crate) const DEFAULT_CAPACITY: usize = 256;
 
-/// An event loop over a poller, the subscribers that it serves, and the jobs that its endpoints send.
-///
-/// `N` is the type of the counter that wakes it, and names the ledgers of its tickets and of its taken jobs:
-/// [`with_ledgers`](crate::with_ledgers) makes both.
-/// Where no jobs are needed, `J` is [`NoJob`](crate::jobs::NoJob).
+/// An event loop over a poller, the subscribers that it serves, and the jobs that its endpoints send. Without jobs, `J` is
+/// [`NoJob`](crate::jobs::NoJob). `N`, the type of the counter that wakes it, names the ledgers of its tickets and taken jobs.
 pub struct EventManager<S: MutEventSubscriber, J: Job<S>, N: NamedCounter, P = BoxedPoller> {
     registry: Registry<S, P>,
     channel: EventManagerChannel<S, J, N>,
 }
 
-// Not derived: then who owns one has a call to prove, and not a drop of all that is in it.
+// Not derived: so an owner proves one call, and not the drop of every part.
 impl<S: MutEventSubscriber + Drop, J: Job<S>, N: NamedCounter, P: Drop> Drop
     for EventManager<S, J, N, P> {
     fn drop(self) {
@@ -57,19 +53,15 @@ impl<S: MutEventSubscriber, J: Job<S>, N: NamedCounter, P: EventPoller> EventMan
         EventManager::new_with_capacity(alloc, poller, counter, DEFAULT_CAPACITY, ledgers)
     }
 
-    /// A manager with no subscriber, whose batches have up to `capacity` events. Its endpoint is `counter`, which the poller
-    /// must be able to watch: an [`EventFd`](vmm_sys::eventfd::EventFd) of the poller's table, as
-    /// [`Named`](crate::Named), or a counter of your own.
+    /// A manager without subscribers, whose batches have up to `capacity` events; 0 passes here, and is left to the poller's
+    /// `wait`. Its endpoint is `counter`, which the poller must be able to watch: an [`EventFd`](vmm_sys::eventfd::EventFd) of the
+    /// poller's table, as [`Named`](crate::Named), or your own. The poller is asked to add its descriptor with the set `IN` and the
+    /// descriptor as word. The ledgers are those of [`with_ledgers`](crate::with_ledgers). Only the loop may clear the counter, by
+    /// whatever handle: a run takes jobs only if the endpoint's event was reported, so jobs whose ring somebody else has cleared
+    /// before the wait stay where they are until the next ring.
     ///
-    /// The poller is asked to add the endpoint's descriptor with the set `IN` and the descriptor as word. Capacity 0
-    /// passes here, and is left to the poller's `wait`. The ledgers are those of [`with_ledgers`](crate::with_ledgers).
-    ///
-    /// Nobody but the loop clears the counter, by another handle either: a run takes jobs only where the endpoint's event
-    /// was reported, so jobs whose ring somebody else has taken before the wait stay where they are until the next ring.
-    ///
-    /// Refused, in this order, and neither poller nor counter comes back: `InvalidCapacity` above
-    /// [`MAX_READY_EVENTS_CAPACITY`], where the poller isn't asked; `OutOfMemory`; `Epoll` with the number that the
-    /// poller answers.
+    /// Refused, in this order, with poller and counter dropped: `InvalidCapacity` above [`MAX_READY_EVENTS_CAPACITY`], before the
+    /// poller is asked; `OutOfMemory`; `Epoll` with the number that the poller answers.
     pub fn new_with_capacity(
         alloc: Global,
         poller: P,
@@ -91,7 +83,7 @@ impl<S: MutEventSubscriber, J: Job<S>, N: NamedCounter, P: EventPoller> EventMan
         Ok(EventManager { registry, channel })
     }
 
-    /// The poller, to read what it keeps, as the record of its calls. Ours, the Rust crate has none.
+    /// The poller, to read what it keeps, such as a record of its calls. Not in event-manager.
     pub fn poller(&self) -> &P
         ensures { result.now ≡ (state_of self.now).poller }
     {
@@ -105,20 +97,17 @@ impl<S: MutEventSubscriber, J: Job<S>, N: NamedCounter, P: EventPoller> EventMan
         self.run_with_timeout(-1, rt)
     }
 
-    /// Waits once, for at most `ms` milliseconds (negative: without a limit), dispatches what is reported, and then runs
-    /// the jobs that wait.
+    /// Waits once, for at most `ms` milliseconds (negative: without a limit), dispatches the reported events, and then runs waiting
+    /// jobs. Returns how many events were reported, including cancelled ones and those of nobody.
     ///
-    /// The events of a higher priority go first, by the [`Priority`](crate::Priority) that each descriptor held after the
-    /// wait (0 where nobody owned it), and those of one priority in the order of the report. Each goes once, to the
-    /// subscriber that owns its descriptor at its turn, unless a `remove` of that descriptor has succeeded since the wait;
-    /// else to nobody. Events on the endpoint's descriptor go to nobody; where there was one, then after all deliveries
-    /// the endpoint's counter is cleared once, all jobs that wait are taken, and each is run once, in the order of the
-    /// tickets. The queue's lock is free while they run; a job that is sent meanwhile waits for a later run. Answers how
-    /// many events were reported, cancelled ones and those of nobody included.
+    /// Events of a higher [`Priority`](crate::Priority) go first, by what each descriptor held after the wait (0 if nobody owned
+    /// it), and those of one priority in the order of the report. Each goes once, to the subscriber that owns its descriptor at its
+    /// turn, unless a `remove` of that descriptor has succeeded since the wait; else to nobody. Events of the endpoint's descriptor
+    /// go to nobody. If there was one, then after all deliveries the counter is cleared once, and all waiting jobs are taken and
+    /// run once each, in the order of the tickets, without the queue's lock; a job that is sent meanwhile waits for a later run.
     ///
-    /// An interrupted wait (`EINTR`) answers 0; one that is refused with another number is `Epoll` with it. Then nobody
-    /// is called and nothing changes but the poller. A run whose wait succeeded answers `Ok`, and takes no memory of
-    /// the manager's.
+    /// An interrupted wait (`EINTR`) returns 0; one that is refused with another number is `Epoll` with it. Then nobody is called,
+    /// and only the poller changes. A run whose wait succeeded returns `Ok`, and takes no memory of the manager's.
     pub fn run_with_timeout<R: Wait + Clock>(&mut self, ms: i32, rt: &R) -> Result<usize>
         ensures { IsLoopIteration S.begins S.serves J.may P.controls P.waits (state_of self.old) ms result (state_of self.new) }
     {
@@ -129,7 +118,7 @@ impl<S: MutEventSubscriber, J: Job<S>, N: NamedCounter, P: EventPoller> EventMan
         Ok(batch.count)
     }
 
-    /// An endpoint, by which other threads send jobs to this manager. `OutOfMemory` where one more owner is refused.
+    /// An endpoint, by which other threads send jobs to this manager. `OutOfMemory` if one more owner is refused.
     pub fn remote_endpoint(&self) -> Result<RemoteEndpoint<S, J, N>>
         ensures refusals { IfErr result (λ e. e ≡ Error.OutOfMemory) }
     {
@@ -137,20 +126,18 @@ impl<S: MutEventSubscriber, J: Job<S>, N: NamedCounter, P: EventPoller> EventMan
         Ok(RemoteEndpoint { channel })
     }
 
-    /// Whether jobs wait.
     pub(crate) fn has_waiting_jobs<R: Wait>(&self, rt: &R) -> bool {
         self.channel.has_waiting_jobs(rt)
     }
 
-    /// Does a job at once, which has no ticket.
     pub(crate) fn call_here<R: Wait + Clock>(&mut self, job: J, rt: &R) -> J::Reply
         ensures { (steps : List (LoopStep S)) × J.may job steps result × HaveStepped S.begins P.controls P.waits (state_of self.old) steps (state_of self.new) }
     {
         job.call(&mut self.registry, rt)
     }
 
-    /// Closes the queue as [`close`](EventManager::close) does, and hands out the subscribers by id and the poller, which is
-    /// asked for nothing: what was added to it stays there, the endpoint too. Ours, the Rust crate has none.
+    /// As [`close`](EventManager::close), but returns the subscribers by id, and the poller with all that was added to it, the
+    /// endpoint too. Not in event-manager.
     pub fn into_parts<R: Wait + Clock>(self, rt: &R) -> (Closed<N>, Subscribers<S>, P)
         ensures taken { result.0.taken ≡ (state_of self).taken }
         ensures subscribers { result.1 ≡ (state_of self).registry.values }
@@ -162,9 +149,8 @@ impl<S: MutEventSubscriber, J: Job<S>, N: NamedCounter, P: EventPoller> EventMan
         (closed, subscribers, poller)
     }
 
-    /// Closes the queue in one turn: from then on a send is refused with `ChannelSend`. The jobs that wait are dropped, and
-    /// whoever waits for a reply of theirs gets `ChannelRecv`. Then subscribers and poller are dropped; the poller is
-    /// asked for nothing.
+    /// Closes the queue in one step: later sends are refused with `ChannelSend`. Waiting jobs are dropped, and whoever waits for
+    /// their replies gets `ChannelRecv`. Then subscribers and poller are dropped; the poller is asked for nothing.
     pub fn close<R: Wait + Clock>(self, rt: &R) -> Closed<N>
     where
         S: Drop,

@@ -11,13 +11,11 @@ use vmm_sys::counter::{Bell, Counter};
 use vmm_sys::epoll::{AsRawFd, RawFd};
 use vmm_sys::errno::Errno;
 
-/// A counter that wakes a manager's poller, and whose type names the ledgers of that manager.
-///
-/// A send rings it while the lock of the manager's queue is held, so that a refused send leaves the queue as it was. A ring
-/// of your own waits for nothing that a sender holds, and sends nothing.
+/// A counter that wakes a manager's poller, and whose type names that manager's ledgers. A send rings it under the lock of the
+/// queue, so that a refused send changes nothing: a `ring` of your own must not send, nor wait for what a sender holds.
 pub trait NamedCounter: Naming + Counter + Drop {}
 
-/// A counter of type `C` under the name `N`. It is rung, cleared and closed as that counter is.
+/// A counter of type `C` under the name `N`: it has its descriptor, and is rung, cleared and closed as it is.
 #[derive(Drop)]
 pub struct Named<N, C> {
     counter: C,
@@ -44,7 +42,6 @@ impl<N: Naming, C> Naming for Named<N, C> {
     ghost taken = { N.taken };
 }
 
-/// That of the counter.
 impl<N, C: AsRawFd> AsRawFd for Named<N, C> {
     ghost descriptor = { λ v. C.descriptor (counter_of v) };
 

@@ -1,4 +1,4 @@
-//! A loop, and those who send jobs to it from threads of their own.
+//! A loop beside threads that send jobs to it.
 
 ghost use Rattle.std.specs.Prelude.{◌≡◌, IfOk, IfSome};
 ghost use Rattle.event_manager.specs.Reached.{HasEnded};
@@ -22,20 +22,20 @@ use std::thread::Threads;
 use std::time::Clock;
 use vmm_sys::counter::Counter;
 
-/// Who sends jobs of type `J` from a thread of its own, and gives a `T` in the end.
+/// Sends jobs of type `J` from a thread of its own, and returns a `T` in the end.
 pub trait Sender<S: MutEventSubscriber, J: Job<S>, T, R: Wait + Clock> {
-    /// Sends what there is to send, by an endpoint of the loop beside it.
+    /// Sends its jobs through an endpoint of the loop beside it.
     fn send<N: NamedCounter>(self, endpoint: &RemoteEndpoint<S, J, N>, rt: &R) -> T;
 }
 
 /// The loop's side of [`with_senders`]: its subscribers and its senders, of type `Q`, and how long it runs.
 pub trait LoopWithSenders<S: MutEventSubscriber, J: Job<S>, Q, R: Wait + Clock> {
-    /// How many events a batch has at most: as it stands here, as many as [`EventManager::new`](crate::EventManager::new) gives it.
+    /// The most events of a batch; by default as many as [`EventManager::new`](crate::EventManager::new) sets.
     fn capacity(&self) -> usize {
         DEFAULT_CAPACITY
     }
 
-    /// Lets subscribers join, and answers the senders: each gets a thread once this is over.
+    /// Adds subscribers, and returns the senders: each gets a thread after this has returned.
     fn begin<N: NamedCounter, P: EventPoller>(
         &mut self,
         rt: &R,
@@ -43,8 +43,7 @@ pub trait LoopWithSenders<S: MutEventSubscriber, J: Job<S>, Q, R: Wait + Clock> 
         manager: &mut TrackedManager<S, J, N, P>,
     ) -> Result<Vec<Q>>;
 
-    /// Runs the loop beside the senders, on the thread that called `with_senders`. As it stands here:
-    /// [`run_until_ended`](Senders::run_until_ended).
+    /// Runs the loop beside the senders, on the thread that called `with_senders`; by default [`Senders::run_until_ended`].
     fn run<N: NamedCounter, P: EventPoller>(
         &mut self,
         rt: &R,
@@ -62,13 +61,12 @@ pub struct Senders {
 }
 
 impl Senders {
-    /// Whether all have ended. The last to end ends the loop's wait.
+    /// Whether all senders have ended. The last one wakes the loop.
     pub fn have_ended(&self) -> bool {
         self.at_work.load(Ordering::SeqCst) == 0
     }
 
-    /// Runs the manager until all have ended and what they sent was run, or until a run is refused. A batch that others fill
-    /// may leave the endpoint out: then the manager is run again, until the poller reports it.
+    /// Runs the manager until all have ended and no job waits (a full batch may leave the endpoint out), or until a run is refused.
     pub fn run_until_ended<S, J, N, P, R>(
         &self,
         manager: &mut TrackedManager<S, J, N, P>,
@@ -87,7 +85,7 @@ impl Senders {
             }
             manager.run(rt)?;
         }
-        // What was sent while the last run was at work.
+        // Runs what was sent during the last run.
         for _run in rt.forever() {
             manager.run_with_timeout(0, rt)?;
             if !manager.has_waiting_jobs(rt) {
@@ -97,7 +95,6 @@ impl Senders {
         Ok(())
     }
 
-    // One has ended: the last wakes the loop.
     fn end_one<S: MutEventSubscriber, J: Job<S>, N: NamedCounter, R: Wait + Clock>(
         &self,
         endpoint: &RemoteEndpoint<S, J, N>,
@@ -109,12 +106,12 @@ impl Senders {
     }
 }
 
-/// What came of a loop and its senders.
+/// The result of a loop and its senders.
 #[derive(Drop)]
 pub struct Ended<S, T, P> {
-    /// What the loop's run answered.
+    /// What the loop's run returned.
     pub ran: Result<()>,
-    /// What each sender gave, in their order.
+    /// What each sender returned, in their order.
     pub sent: Vec<T>,
     /// How many tickets were issued.
     pub issued: u64,
@@ -126,7 +123,6 @@ pub struct Ended<S, T, P> {
     pub poller: P,
 }
 
-// What came of the loop alone.
 #[derive(Drop)]
 struct LoopEnded<S, N: Naming, P> {
     ran: Result<()>,
@@ -135,7 +131,6 @@ struct LoopEnded<S, N: Naming, P> {
     poller: P,
 }
 
-// A sender on its thread.
 #[derive(Drop)]
 struct SenderLoop<'a, S: MutEventSubscriber, J: Job<S>, N: NamedCounter, Q, T> {
     sender: Q,
@@ -167,7 +162,6 @@ where
     }
 }
 
-// The loop of the manager, which is taken to be run, and closed whatever comes of that.
 #[derive(Drop)]
 struct ManagerLoop<'a, S: MutEventSubscriber, J: Job<S>, N: NamedCounter, P, B, Q> {
     body: &'a mut B,
@@ -190,7 +184,6 @@ where
     ghost use Rattle.std.specs.Prelude.{IfSome};
     ghost use Rattle.event_manager.specs.Reached.{HasEnded};
 
-    // Whatever the body has done with the manager.
     ghost gives = { λ own output. IfSome output (λ ended. HasEnded S.begins S.serves J.may ended.subscribers ended.closed.taken) };
 
     fn run(self, rt: &R) -> Option<LoopEnded<S, N, P>> {
@@ -212,7 +205,6 @@ where
     }
 }
 
-// Starts a thread for each sender, and runs the loop beside them, once all are made.
 fn run_beside<'a, S, J, N, P, B, Q, T, R>(
     rt: &R,
     alloc: Global,
@@ -245,7 +237,6 @@ where
     with_loops(rt, alloc, own, others)
 }
 
-// As `with_senders`, with these ledgers.
 fn run_named<S, J, N, P, C, B, Q, T, R>(
     rt: &R,
     alloc: Global,
@@ -313,17 +304,14 @@ where
     })
 }
 
-/// Makes a manager over the poller, woken by the counter, lets the body's subscribers join, and runs its loop on this thread,
-/// beside a thread for each of its senders, as [`with_loops`] does. Whatever ends the loop, the manager is then closed, so that
-/// no sender waits for a reply any more; and what loop and senders gave is answered once all senders have ended, with the poller.
+/// Makes a manager over the poller, woken by the counter, calls `begin`, and runs the loop on this thread, beside a thread for each
+/// sender, as [`with_loops`] does. Whatever ends the loop, the manager is then closed, so no sender waits for a reply any longer.
+/// Once all senders have ended, it returns what they and the loop returned, and the poller.
 ///
-/// Refused with what the making of the manager, `begin` or [`EventManager::remote_endpoint`] is refused with, and no sender
-/// begins; with `OutOfMemory` also where there is no room for what the senders give, or no thread for one of them: then neither
-/// the loop nor a sender begins, and the manager is closed. Once the manager was made its endpoint stays with the poller,
-/// whose copies see it still: a close asks for no Delete.
-///
-/// The subscribers that are handed out are what a trace of calls and jobs leads to from a new manager, whatever the body has
-/// done: so what each `init` gives, and each `process` and each job keeps, holds of them.
+/// Refused as the making of the manager, as `begin` and as `remote_endpoint`, and no sender begins; with `OutOfMemory` also if
+/// there is no room for what they return or no thread for one: then neither loop nor sender begins, and the manager is closed. Once
+/// the manager was made, its endpoint stays added to the poller and is seen by its copies: a close asks for no Delete. The returned
+/// subscribers come from a new manager by calls and jobs, so what `init` gives, and `process` and jobs keep, holds.
 pub fn with_senders<S, J, P, C, B, Q, T, R>(
     rt: &R,
     alloc: Global,

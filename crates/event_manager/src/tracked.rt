@@ -1,4 +1,4 @@
-//! A manager that is known to come of a new one, by calls and jobs.
+//! A manager that is known to come from a new one, by calls and jobs.
 
 ghost use Rattle.std.specs.Prelude.{◌≡◌, List, negsuc, IfErr, IfOk};
 ghost use Rattle.event_loop.specs.Registry.{LoopStep, HasId, LacksId};
@@ -22,10 +22,8 @@ use std::marker::Model;
 use std::sync::Wait;
 use std::time::Clock;
 
-/// An [`EventManager`] that is known to come of a new one, by calls and jobs, whatever was done with it: so the laws of
-/// [`laws`](crate::laws) hold of what it has done, and what each service and each job keeps it has kept.
-///
-/// It has the calls of a manager but those that lend what is in it, by which anything might be put in its place.
+/// An [`EventManager`] known to come from a new one by calls and jobs: the [`laws`](crate::laws) hold of what it has done, and what
+/// each service and job keeps it has kept. It has no `subscriber_mut` and no `event_ops`: what they lend could be replaced.
 #[derive(Drop)]
 pub struct TrackedManager<S: MutEventSubscriber, J: Job<S>, N: NamedCounter, P = BoxedPoller> {
     manager: EventManager<S, J, N, P>,
@@ -101,12 +99,11 @@ impl<S: MutEventSubscriber, J: Job<S>, N: NamedCounter, P: EventPoller> TrackedM
         self.manager.remote_endpoint()
     }
 
-    /// Whether jobs wait.
     pub(crate) fn has_waiting_jobs<R: Wait>(&self, rt: &R) -> bool {
         self.manager.has_waiting_jobs(rt)
     }
 
-    /// As [`EventManager::into_parts`]: and what is handed out is what the manager came to, from a new one.
+    /// As [`EventManager::into_parts`].
     pub fn into_parts<R: Wait + Clock>(self, rt: &R) -> (Closed<N>, Subscribers<S>, P)
         ensures taken { result.0.taken ≡ self.taken }
         ensures subscribers { result.1 ≡ self.registry.values }
@@ -156,7 +153,6 @@ impl<S: MutEventSubscriber + Drop, J: Job<S>, N: NamedCounter, P: EventPoller> T
     }
 }
 
-// Does an action at once, as a job would.
 fn act_here<S, A, N, P, R>(
     manager: &mut TrackedManager<S, ActionOn<A>, N, P>,
     action: ActionOn<A>,
@@ -179,8 +175,7 @@ impl<S: MutEventSubscriber + Drop, A: Action<S>, N: NamedCounter, P: EventPoller
     N,
     P,
 > {
-    /// Does to a subscriber at once what a job would do, without a ticket: in place of
-    /// [`subscriber_mut`](SubscriberOps::subscriber_mut). `InvalidId` where nobody has the id.
+    /// Does the action at once, without a ticket: in place of `subscriber_mut`. `InvalidId` if nobody has the id.
     pub fn act<R: Wait + Clock>(&mut self, action: ActionOn<A>, rt: &R) -> Result<A::Reply>
         ensures { (steps : List (LoopStep S)) × IsDoneTo A.does action.subscriber action.action steps result × HaveStepped S.begins P.controls P.waits self.old steps self.new }
     {

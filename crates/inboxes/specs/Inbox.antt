@@ -1,5 +1,5 @@
 -- What is seen of an inbox.
-use Rattle.std.specs.Prelude.{ℤ, Bool, List, Result, unsigned_abs}
+use Rattle.std.specs.Prelude.{Bool, List, Result}
 use Rattle.event_loop.specs.declared.error.Error.{Error}
 use Rattle.event_loop.specs.declared.events.Events.{Events}
 
@@ -10,7 +10,3 @@ pub record Gathered (M : Type 0) : Type 0 where
   pub arrived : List M
   pub is_over : Bool
   pub went : Result (Unit {0}) Error
-
--- a descriptor's event for IN, which is 1, with data 0
-abbrev pub ready_for_input : ℤ → Events
-ready_for_input descriptor = record { fd = unsigned_abs descriptor; payload = 0; set = 1 }

@@ -2,8 +2,7 @@
 
 ghost use Rattle.std.specs.Prelude.{◌≡◌, [], false, Ok, Err, IfOk, IfErr};
 ghost use Rattle.channels.specs.Ends.{counter_of_receiver};
-ghost use Rattle.vmm_sys.specs.EventFd.{descriptor_of};
-ghost use Rattle.inboxes.specs.Inbox.{ready_for_input};
+ghost use Rattle.event_loop.specs.CounterEvents.{event_on, new_counter};
 
 use channels::Receiver;
 use event_loop::{Error, EventOps, EventPoller, EventSet, Events, MutEventSubscriber, Result};
@@ -37,7 +36,7 @@ impl<M, R> Model for Inbox<M, R> {
 impl<M: Drop, R: Drop> Inbox<M, R> {
     /// One in which nothing has arrived. It takes with this handle.
     pub fn new(receiver: Receiver<M>, alloc: Global, rt: R) -> Self
-        ensures { result ≡ record { ready = ready_for_input (descriptor_of (counter_of_receiver receiver)); arrived = []; is_over = false; went = Ok tt } }
+        ensures { result ≡ record { ready = event_on (new_counter (counter_of_receiver receiver)) 0; arrived = []; is_over = false; went = Ok tt } }
     {
         let ready = Events::new(&receiver, EventSet::IN);
         Inbox {
@@ -69,17 +68,17 @@ impl<M: Drop, R: Drop> Inbox<M, R> {
     }
 }
 
-/// It asks to be told when it is added, and keeps the answer. At its event what comes stands behind what had arrived. It asks to
-/// be told no more where its channel is over, and for nothing else.
+/// It asks to be told when it is added, and keeps the answer. At its event what comes stands behind what had arrived. It asks to be
+/// told no more where its channel is over, and for nothing else.
 impl<M: Drop, R: Wait + Clock + Drop> MutEventSubscriber for Inbox<M, R> {
-    ghost use Rattle.std.specs.Prelude.{◌≡◌, List, [], ◌∷◌, ◌++◌, MatchBool};
+    ghost use Rattle.std.specs.Prelude.{◌≡◌, List, [], ◌∷◌, ◌++◌, MatchBool, OnErr};
     ghost use Rattle.event_loop.specs.Exchange.{requests_of};
     ghost use Rattle.event_loop.specs.declared.events.Request.TheVariants.{Add, Remove};
 
     ghost begins = { λ v exchanges w. (exchanges ≡ (Add v.ready, w.went) ∷ []) × (w ≡ record v { went = w.went }) };
 
     ghost serves = { λ v event exchanges w. MatchBool w.is_over (requests_of exchanges ≡ Remove v.ready ∷ []) (requests_of exchanges ≡ [])
-        × (w ≡ record v { arrived = w.arrived; is_over = w.is_over; went = w.went }) × ((messages : List M) × (w.arrived ≡ v.arrived ++ messages)) };
+        × (w ≡ record v { arrived = w.arrived; is_over = w.is_over; went = w.went }) × ((messages : List M) × (w.arrived ≡ v.arrived ++ messages)) × OnErr w.went (w.arrived ≡ v.arrived) };
 
     fn process<P: EventPoller>(&mut self, _events: Events, ops: &mut EventOps<P>) {
         let taken = self.receiver.take(&mut self.arrived, &self.rt);

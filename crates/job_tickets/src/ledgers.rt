@@ -8,7 +8,7 @@ use crate::tickets::Register;
 use std::marker::PhantomData;
 use std::sync::ledger::Blank;
 
-/// Both ledgers, as yet without an entry.
+/// Both ledgers, still without an entry.
 #[derive(Drop)]
 pub struct Ledgers<N: Naming> {
     tickets: Blank,

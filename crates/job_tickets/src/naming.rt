@@ -3,8 +3,7 @@
 use std::marker::{Brand, PhantomData};
 use std::sync::ledger::Ledger;
 
-/// Which ledgers they are: that of a manager's tickets, and that of its taken jobs. A program that is generic over one
-/// such name is generic over both.
+/// Names a manager's two ledgers, of its tickets and of its taken jobs: what is generic over one such name is generic over both.
 pub trait Naming {
     ghost use Rattle.std.specs.Prelude.{ℕ};
 

@@ -33,7 +33,6 @@ impl<N: Naming> Model for TakenCount<N> {
     ghost invariant = { λ c. (c.share.parts ≡ 1) × (c.share.amount ≡ c.count) };
 }
 
-// The book and the count, both at 0.
 pub(crate) fn open<N: Naming>(blank: Blank) -> (TakenBook<N>, TakenCount<N>)
     requires name { blank.name ≡ N.taken }
     requires parts { blank.parts ≡ 1 }
@@ -44,14 +43,14 @@ pub(crate) fn open<N: Naming>(blank: Blank) -> (TakenBook<N>, TakenCount<N>)
 }
 
 impl<N: Naming> TakenCount<N> {
-    /// The number.
+    /// How many jobs were taken.
     pub fn count(&self) -> u64
         ensures { result ≡ self.now }
     {
         self.count
     }
 
-    /// Counts so many more jobs, here and in the book. Before, both agreed.
+    /// Counts `more` jobs, here and in the book. Before, both agreed.
     pub fn add(&mut self, book: &mut TakenBook<N>, more: u64)
         requires { book.old + more < 2 ^ 64 }
         ensures agree { self.old ≡ book.old }
@@ -63,7 +62,7 @@ impl<N: Naming> TakenCount<N> {
         self.count += more;
     }
 
-    /// There is no other count of this ledger.
+    /// States that there is no other count of this ledger.
     pub fn is_alone(&mut self, other: Option<TakenCount<N>>)
         ensures none { other ≡ None }
         ensures count { self.new ≡ self.old }
@@ -75,7 +74,7 @@ impl<N: Naming> TakenCount<N> {
         }
     }
 
-    /// The book says the same.
+    /// States that the book says the same.
     pub fn agree(&mut self, book: &mut TakenBook<N>)
         ensures agree { self.old ≡ book.old }
         ensures count { self.new ≡ self.old }

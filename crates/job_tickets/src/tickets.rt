@@ -13,8 +13,7 @@ use std::sync::ledger::{Blank, Book, Share};
 /// How many tickets a register can issue.
 pub const MOST_TICKETS: u64 = 9223372036854775807;
 
-/// A ticket: contracts see its number, from 1 up. There is one for each number that the register of its ledger issued,
-/// so it can't be copied or made.
+/// A ticket: contracts see its number, from 1 up. Its register issues one for each number; it can't be copied or made otherwise.
 #[derive(Drop)]
 pub struct Ticket<N: Naming> {
     number: u64,
@@ -30,7 +29,7 @@ impl<N: Naming> Model for Ticket<N> {
 }
 
 impl<N: Naming> Ticket<N> {
-    /// The number: at least 1.
+    /// Its number.
     pub fn number(&self) -> u64
         ensures number { result ≡ self.now }
         ensures from_1 { 1 ≤ result }
@@ -62,7 +61,6 @@ impl<N: Naming> Model for Register<N> {
 }
 
 impl<N: Naming> Register<N> {
-    // A register that has issued none.
     pub(crate) fn new(blank: Blank) -> Self
         requires name { blank.name ≡ N.tickets }
         requires parts { blank.parts ≡ 9223372036854775808 }
@@ -83,8 +81,7 @@ impl<N: Naming> Register<N> {
         self.issued
     }
 
-    /// Whether these are all the tickets that it issued: exactly where they are as many. Then they are sorted, and their
-    /// numbers are 1, 2, 3 and so on; else the list stays as it was.
+    /// Whether these are all the tickets that it issued, told by how many they are. If so, they are sorted by number.
     pub fn gather(&mut self, tickets: &mut Vec<Ticket<N>>) -> bool
         ensures exactly { IsTrue result ↔ vec_len tickets.old ≡ self.old }
         ensures all { result ≡ true → tickets.new.items ≡ one_to self.old }
@@ -97,7 +94,7 @@ impl<N: Naming> Register<N> {
         }
         sort(tickets);
         if !are_in_order(tickets) {
-            // Never: as many other numbers would weigh something else, put together.
+            // Never: the shares of as many tickets with other numbers would add up to another amount than the book's.
             put_together(&mut self.book, &mut self.rest, tickets);
             unreachable!();
         }
@@ -127,7 +124,6 @@ fn sort<N: Naming>(tickets: &mut Vec<Ticket<N>>)
     tickets.sort_unstable_by_key(|t| t.number());
 }
 
-// Whether the numbers are 1, 2, 3 and so on.
 fn are_in_order<N: Naming>(tickets: &Vec<Ticket<N>>) -> bool
     ensures { IsTrue result ↔ tickets.now.items ≡ one_to (vec_len tickets.now) }
 {
@@ -139,7 +135,7 @@ fn are_in_order<N: Naming>(tickets: &Vec<Ticket<N>>) -> bool
     true
 }
 
-// Puts the shares of all tickets to the rest. They have all parts, and so the whole weight.
+// Merges the shares of all tickets into the rest, which then has all parts, and so the whole amount of the book.
 fn put_together<N: Naming>(
     book: &mut Book<Tickets<N>>,
     rest: &mut Share<Tickets<N>>,

@@ -9,7 +9,7 @@ use std::rt::Env;
 #[derive(Clone, Copy, PartialEq, Eq)]
 pub struct Family(pub &'static str);
 
-/// How large what stands beside the work is: the first, second or third size of a family.
+/// The size of what stands beside the work: the first, second or third size of a family.
 #[derive(Clone, Copy, PartialEq, Eq)]
 pub enum Size {
     /// The first, and of the counters the second too.
@@ -18,11 +18,11 @@ pub enum Size {
     Middle,
     /// The last but those that are huge.
     Large,
-    /// A million, of deliveries, the table and the counters, and of deliveries 65,536 too; measured only where it is picked.
+    /// A million, for deliveries, the table and counters; for deliveries 65,536 too. Measured only where it is picked.
     Huge,
 }
 
-/// How many descriptors a subscriber has that joins and leaves.
+/// The number of descriptors of a subscriber that joins and leaves.
 #[derive(Clone, Copy, PartialEq, Eq)]
 pub enum Share {
     /// One.
@@ -36,7 +36,7 @@ pub enum Share {
 pub struct Wanted {
     /// Whether the fixed poller is held in a box.
     pub boxed: bool,
-    /// Whether the rounds are few, and what they counted is printed in place of times.
+    /// Whether rounds are few, and their counts are printed in place of times.
     pub checked: bool,
     families: Vec<Family>,
     sizes: Vec<Size>,
@@ -44,7 +44,6 @@ pub struct Wanted {
 }
 
 impl Wanted {
-    /// All of it, in full, with the poller as it is.
     fn all(alloc: Global) -> Wanted {
         Wanted {
             boxed: false,
@@ -55,7 +54,6 @@ impl Wanted {
         }
     }
 
-    /// Heeds an argument, of this number. Refused where the word is none of those of `from_arguments`, or memory is.
     fn pick(&mut self, word: &str, number: u64, families: &[Family]) -> Result<()> {
         match word {
             "boxed" => self.boxed = true,
@@ -75,11 +73,8 @@ impl Wanted {
         Ok(())
     }
 
-    /// What the program's arguments pick: `boxed` or `plain`, `checked`, and any number of the families, of sizes and of
-    /// shares; of a kind of which none is picked, all are wanted but what is huge.
-    ///
-    /// Refused with the number of the first argument that is none of these; where the arguments can't be read; and where
-    /// memory is.
+    /// What the arguments pick: `boxed` or `plain`, `checked`, any number of families, sizes and shares; of a kind that none picks,
+    /// all but what is huge. Refused where they can't be read, where memory is, and, by its number, at the first other word.
     pub fn from_arguments<R: Env + AllocGlobal>(rt: &R, families: &[Family]) -> Result<Wanted> {
         let mut wanted = Wanted::all(rt.alloc());
         let mut number = 0u64;

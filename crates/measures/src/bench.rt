@@ -5,7 +5,6 @@ use crate::timing::Times;
 use anyhow::{Result, ensure};
 use std::alloc::Global;
 
-/// How many rounds each repeat has where the counts alone are wanted.
 const FEW: u32 = 3;
 
 /// What came of a measure.
@@ -13,7 +12,7 @@ const FEW: u32 = 3;
 pub struct Measured {
     /// How long the repeats took.
     pub times: Times,
-    /// How many operations a repeat has.
+    /// The number of operations in a repeat.
     pub operations: u64,
     /// What all rounds counted; it is what the work has.
     pub count: u64,
@@ -31,7 +30,7 @@ pub struct Bench<R> {
 }
 
 impl<R: Print> Bench<R> {
-    /// How many rounds a repeat has that in full has so many.
+    /// The number of rounds of a repeat that in full has `full`.
     pub fn rounds(&self, full: u32) -> u32 {
         if self.wanted.checked { FEW } else { full }
     }
@@ -47,8 +46,7 @@ impl<R: Print> Bench<R> {
         Ok(())
     }
 
-    /// Prints a line: the name, the least and the middle time of an operation, in nanoseconds; or, where counts are wanted,
-    /// the name and the count.
+    /// Prints the name, and the least and the middle time of an operation in nanoseconds, or the count where counts are wanted.
     pub fn print(&self, name: &str, measured: Measured) -> Result<()> {
         if self.wanted.checked {
             println!(self.rt; "{:<44} {:>10}", name, measured.count)?;
@@ -64,7 +62,7 @@ impl<R: Print> Bench<R> {
     }
 }
 
-/// Passes on what was answered; refused where it isn't what was expected.
+/// Returns what was answered; refused where it isn't what was expected.
 pub fn expect(answered: u64, expected: u64) -> Result<u64> {
     ensure!(
         answered == expected,

@@ -8,11 +8,10 @@ use vmm_sys::poller::Poller;
 /// The lowest descriptor that is reported.
 pub const FIRST: u16 = 10;
 
-/// How many entries a whole batch has.
+/// The number of entries in a whole batch.
 pub const BATCH: u32 = 256;
 
-/// Agrees to each change and keeps nothing; each wait answers at once with the one report, or as much of its front as the
-/// buffer has room for.
+/// Accepts each change and keeps nothing; each wait returns at once with one fixed report, or as much of its front as fits.
 #[derive(Drop)]
 pub struct Fixed {
     report: Vec<EpollEvent>,
@@ -29,7 +28,6 @@ impl Fixed {
         Fixed::every((count / BATCH).max(1), BATCH, count, alloc)
     }
 
-    // Entry k has descriptor 10 + (k * stride) modulo `among`.
     fn every(stride: u32, entries: u32, among: u32, alloc: Global) -> Result<Fixed, AllocError> {
         let among = among.max(1);
         let mut report = Vec::new(alloc);

@@ -1,5 +1,4 @@
-//! What the programs that measure share: the words that pick what is measured, how long it takes, how that is printed, and
-//! a poller without descriptors.
+//! What measuring programs share: words that pick measures, times, how they are printed, and a poller without descriptors.
 #![tactic(auto)]
 
 pub mod arguments;

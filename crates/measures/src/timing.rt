@@ -13,8 +13,7 @@ pub struct Times {
 }
 
 impl Times {
-    /// Does the work 5 times, and looks at the clock before and after each. Refused as the work is, and where the clock
-    /// can't be read.
+    /// Does the work 5 times, each between two looks at the clock. Refused as the work is, and where the clock can't be read.
     pub fn of<F, E, R>(mut work: F, rt: &R) -> Result<Times>
     where
         F: FnMut() -> std::result::Result<(), E>,
@@ -32,12 +31,12 @@ impl Times {
         Ok(Times { nanoseconds })
     }
 
-    /// The least time, by so many operations in a repeat.
+    /// The least time per operation, of `operations` in a repeat.
     pub fn least(&self, operations: u64) -> Tenths {
         Tenths::of(self.nanoseconds[0], operations)
     }
 
-    /// The middle time, by so many operations in a repeat.
+    /// The middle time per operation, of `operations` in a repeat.
     pub fn middle(&self, operations: u64) -> Tenths {
         Tenths::of(self.nanoseconds[2], operations)
     }

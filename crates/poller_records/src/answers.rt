@@ -9,7 +9,7 @@ use crate::fault::LineFault;
 use crate::numbers::{integer, natural};
 use vmm_sys::errno::Errno;
 
-/// The answer of a call of `ctl` that the fields say. `BadAnswer`, `BadNumber`.
+/// The answer of a call of `ctl`. `BadAnswer`, `BadNumber`.
 pub(crate) fn control_answer(fields: &[&str]) -> Result<Result<(), Errno>, LineFault>
     ensures read { IfOk result (λ answer. contents fields.now ≡ control_answer answer) }
     ensures written { (answer : Result (Unit {0}) Errno) → HasErrno answer → contents fields.now ≡ control_answer answer → result ≡ Ok answer }
@@ -21,7 +21,7 @@ pub(crate) fn control_answer(fields: &[&str]) -> Result<Result<(), Errno>, LineF
     }
 }
 
-/// The answer of a call of `wait` that the fields say. `BadAnswer`, `BadNumber`.
+/// The answer of a call of `wait`. `BadAnswer`, `BadNumber`.
 pub(crate) fn wait_answer(fields: &[&str]) -> Result<Result<usize, Errno>, LineFault>
     ensures read { IfOk result (λ answer. contents fields.now ≡ wait_answer answer) }
     ensures written { (answer : Result ℕ Errno) → IfOk answer (λ count. count < 2 ^ 64) → HasErrno answer →

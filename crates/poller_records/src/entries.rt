@@ -1,4 +1,4 @@
-//! The fields of an entry.
+//! The fields of an entry. They are refused with `UnknownEntry`, `WrongFields`, `BadNumber` or `BadAnswer`.
 
 ghost use Rattle.std.specs.Prelude.{◌≡◌, ◌∷◌, Ok, IfOk, codes};
 ghost use Rattle.poller_records.specs.Held.{IsEntry, IsEvent};
@@ -12,7 +12,6 @@ use crate::numbers::{integer, natural, natural_32};
 use crate::record::RecordEntry;
 use vmm_sys::epoll::{ControlOperation, EpollEvent, EventSet};
 
-/// The event of a set and a word. `BadNumber`.
 fn event(fields: &[&str]) -> Result<EpollEvent, LineFault>
     ensures read { IfOk result (λ event. contents fields.now ≡ event_fields event) }
     ensures written { (event : EpollEvent) → IsEvent event → contents fields.now ≡ event_fields event → result ≡ Ok event }
@@ -26,7 +25,7 @@ fn event(fields: &[&str]) -> Result<EpollEvent, LineFault>
     }
 }
 
-/// The call of `ctl` that the fields behind its first say. `WrongFields`, `BadNumber`, `BadAnswer`.
+/// The call of `ctl` that the fields behind its first state.
 fn control(op: ControlOperation, fields: &[&str]) -> Result<RecordEntry, LineFault>
     ensures read { IfOk result (λ entry. operation_word op ∷ contents fields.now ≡ fields_of entry) }
     ensures written { (entry : RecordEntry) → IsEntry entry → operation_word op ∷ contents fields.now ≡ fields_of entry → result ≡ Ok entry }
@@ -42,7 +41,7 @@ fn control(op: ControlOperation, fields: &[&str]) -> Result<RecordEntry, LineFau
     }
 }
 
-/// The call of `wait` that the fields behind its first say. `WrongFields`, `BadNumber`, `BadAnswer`.
+/// The call of `wait` that the fields behind its first state.
 fn wait(fields: &[&str]) -> Result<RecordEntry, LineFault>
     ensures read { IfOk result (λ entry. codes "wait" ∷ contents fields.now ≡ fields_of entry) }
     ensures written { (entry : RecordEntry) → IsEntry entry → codes "wait" ∷ contents fields.now ≡ fields_of entry → result ≡ Ok entry }
@@ -57,11 +56,6 @@ fn wait(fields: &[&str]) -> Result<RecordEntry, LineFault>
     }
 }
 
-/// The entry that the fields say.
-///
-/// # Errors
-///
-/// `UnknownEntry`, `WrongFields`, `BadNumber`, `BadAnswer`.
 pub(crate) fn entry(fields: &[&str]) -> Result<RecordEntry, LineFault>
     ensures read { IfOk result (λ entry. contents fields.now ≡ fields_of entry) }
     ensures written { (entry : RecordEntry) → IsEntry entry → contents fields.now ≡ fields_of entry → result ≡ Ok entry }

@@ -1,4 +1,4 @@
-//! Why a text is not read.
+//! Why a text isn't read.
 
 ghost use Rattle.std.specs.Prelude.{◌≡◌};
 ghost use Rattle.poller_records.specs.declared.fault.RecordFault.TheVariants as fault;
@@ -6,14 +6,14 @@ ghost use Rattle.poller_records.specs.declared.fault.RecordFault.TheVariants as 
 use std::alloc::{AllocError, AllocFailed};
 use thiserror::Error;
 
-/// Why a text is not read as a record.
+/// Why a text isn't read as a record.
 #[derive(Clone, Copy, Debug, PartialEq, Eq, Error)]
 pub enum RecordFault {
-    /// A line is none of an entry's: the first such, counted from 1.
+    /// A line isn't that of an entry: the first such, counted from 1.
     #[error("line {number}: {fault}")]
     BadLine { number: usize, fault: LineFault },
 
-    /// A request for memory was refused.
+    /// Memory was refused.
     #[error("out of memory")]
     OutOfMemory,
 }

@@ -17,7 +17,7 @@ pub fn entry_is_held(entry: RecordEntry)
     let _entry = entry;
 }
 
-/// So are those of each entry of a list.
+/// The numbers of each entry of a list are in the ranges of their types.
 pub fn entries_are_held(entries: &[RecordEntry])
     ensures { All IsEntry entries.now }
 {

@@ -8,9 +8,8 @@
 //! wait MS ROOM error N         the same, refused with error N
 //! event SET WORD               an event that the wait above reported
 //! ```
-//!
-//! One space stands between two fields, and each line ends with a `\n`. Numbers are decimal, a set as the number of its
-//! bits. Each is written in one way: without leading zeros, and with a `-` only in front of a number below 0.
+//! One space separates two fields, and each line ends with a `\n`. Numbers are decimal, a set as the number of its bits, each
+//! written in one way: without leading zeros, and with a `-` only in front of a number below 0.
 #![tactic(auto)]
 
 mod answers;

@@ -1,4 +1,4 @@
-//! Decimal numbers, each written in one way.
+//! Decimal numbers, each written in one way: any other field is a `BadNumber`.
 
 ghost use Rattle.std.specs.Prelude.{◌≡◌, ◌<◌, ◌^◌, ◌∷◌, ℕ, ℤ, Ok, IfOk, FitsSigned, pos, negsuc, suc};
 ghost use Rattle.std.specs.Fmt.{decimal, signed_decimal};
@@ -6,7 +6,6 @@ ghost use Rattle.std.specs.Int.{w32};
 
 use crate::fault::LineFault;
 
-/// The number that a field writes. `BadNumber` for any other field.
 pub(crate) fn natural(field: &str) -> Result<u64, LineFault>
     ensures read { IfOk result (λ number. field.now ≡ decimal number) }
     ensures written { (number : ℕ) → number < 2 ^ 64 → field.now ≡ decimal number → result ≡ Ok number }
@@ -23,7 +22,6 @@ pub(crate) fn natural(field: &str) -> Result<u64, LineFault>
     }
 }
 
-/// As [`natural`], of 32 bits.
 pub(crate) fn natural_32(field: &str) -> Result<u32, LineFault>
     ensures read { IfOk result (λ number. field.now ≡ decimal number) }
     ensures written { (number : ℕ) → number < 2 ^ 32 → field.now ≡ decimal number → result ≡ Ok number }
@@ -34,7 +32,6 @@ pub(crate) fn natural_32(field: &str) -> Result<u32, LineFault>
     }
 }
 
-/// As [`natural`], below 2^31.
 fn nonnegative(field: &str) -> Result<i32, LineFault>
     ensures read { IfOk result (λ number. field.now ≡ signed_decimal number) }
     ensures written { (number : ℕ) → number < 2 ^ 31 → field.now ≡ decimal number → result ≡ Ok (pos number) }
@@ -45,7 +42,7 @@ fn nonnegative(field: &str) -> Result<i32, LineFault>
     }
 }
 
-/// The number of 32 bits below 0 that has these digits behind its `-`. `BadNumber` for any others.
+/// The number below 0 that has these digits behind its `-`.
 fn negative(digits: &str) -> Result<i32, LineFault>
     ensures read { IfOk result (λ number. 45 ∷ digits.now ≡ signed_decimal number) }
     ensures written { (n : ℕ) → n < 2 ^ 31 → digits.now ≡ decimal (suc n) → result ≡ Ok (negsuc n) }
@@ -56,7 +53,6 @@ fn negative(digits: &str) -> Result<i32, LineFault>
     }
 }
 
-/// The signed number that a field writes. `BadNumber` for any other field.
 pub(crate) fn integer(field: &str) -> Result<i32, LineFault>
     ensures read { IfOk result (λ number. field.now ≡ signed_decimal number) }
     ensures written { (number : ℤ) → FitsSigned w32 number → field.now ≡ signed_decimal number → result ≡ Ok number }

@@ -13,7 +13,7 @@ pub enum RecordEntry {
         event: EpollEvent,
         answer: Result<(), Errno>,
     },
-    /// A call of `wait`. Where it answered a number, that many events follow, in the order of the report.
+    /// A call of `wait`. If it answered a number, that many events follow, in the order of the report.
     Wait {
         /// The limit in milliseconds, as it was given.
         ms: i32,

@@ -12,15 +12,12 @@ use vmm_sys::epoll::{ControlOperation, EpollEvent, EventSet, RawFd};
 use vmm_sys::errno::Errno;
 use vmm_sys::poller::Poller;
 
-/// A poller of any type, which answers as it does alone, with a record of its calls and answers.
-///
-/// Each `ctl` is an entry, refused ones too. Each `wait` is one, and behind it stand the events that it reported. The room
-/// is made with the record. A call whose entries don't all find room isn't recorded, nor is any after it: what is recorded
-/// is the front of the run.
+/// A poller of any type, which answers as it does alone, with a record of its calls and answers: an entry for each `ctl` and each
+/// `wait`, refused ones too, and behind a `wait` the events that it reported. The room is made with the record. A call whose
+/// entries don't all find room isn't recorded, nor is any after it: the record is the front of the run.
 #[derive(Drop)]
 pub struct RecordingPoller<P> {
     poller: P,
-    // Its capacity is the room that it was made with.
     entries: Vec<RecordEntry>,
     complete: bool,
 }
@@ -35,8 +32,8 @@ impl<P> Model for RecordingPoller<P> {
 }
 
 impl<P: Poller> RecordingPoller<P> {
-    /// Nothing was recorded, and there is room for `most` entries, which is written once, so that the system gives it now
-    /// and not in a call. `ENOMEM`: memory was refused; the poller is dropped.
+    /// An empty record with room for `most` entries, which is written once, so that the system gives it now and not in a call.
+    /// `ENOMEM` if memory is refused; then the poller is dropped.
     pub fn new(poller: P, alloc: Global, most: usize) -> Result<Self, Errno>
         ensures errors { IsOkUnless result Errno.ENOMEM }
         ensures made { IfOk result (λ r. r ≡ record { poller = poller; entries = []; most = most; complete = true }) }
@@ -58,21 +55,21 @@ impl<P: Poller> RecordingPoller<P> {
         &self.poller
     }
 
-    /// What was recorded.
+    /// The entries that were recorded.
     pub fn record(&self) -> &[RecordEntry]
         ensures { result.now ≡ self.now.entries }
     {
         &self.entries
     }
 
-    /// Whether no call was left out.
+    /// Whether all calls were recorded.
     pub fn is_complete(&self) -> bool
         ensures { result ≡ self.now.complete }
     {
         self.complete
     }
 
-    /// The poller, and what was recorded.
+    /// The poller, and the entries that were recorded.
     pub fn into_parts(self) -> (P, Vec<RecordEntry>)
         ensures poller { result.0 ≡ self.poller }
         ensures entries { result.1.items ≡ self.entries }
@@ -80,7 +77,6 @@ impl<P: Poller> RecordingPoller<P> {
         (self.poller, self.entries)
     }
 
-    // Records a call, or leaves it out.
     fn keep(&mut self, call: RecordEntry, report: &[EpollEvent])
         ensures { self.new ≡ recorded self.old (call ∷ map Reported report.now) }
     {
@@ -122,7 +118,7 @@ impl<P: Poller> Poller for RecordingPoller<P> {
     }
 }
 
-// Room for so many entries, each of which was written once. `None` where memory is refused.
+// Room for `most` entries, each of which was written once. `None` if memory is refused.
 fn written_room(alloc: Global, most: usize) -> Option<Vec<RecordEntry>>
     ensures empty { IfSome result (λ entries. entries.items ≡ []) }
     ensures room { IfSome result (λ entries. vec_capacity entries ≡ most) }
@@ -138,7 +134,6 @@ fn written_room(alloc: Global, most: usize) -> Option<Vec<RecordEntry>>
     Some(entries)
 }
 
-// The events that a wait with this answer reported in the buffer.
 fn report_in(answer: Result<usize, Errno>, buffer: &[EpollEvent]) -> &[EpollEvent]
     requires { IfOk answer (λ n. n ≤ length buffer.now) }
     ensures { result.now ≡ reported answer buffer.now }
@@ -149,7 +144,6 @@ fn report_in(answer: Result<usize, Errno>, buffer: &[EpollEvent]) -> &[EpollEven
     }
 }
 
-// Puts a call and its report behind the other entries.
 fn push_call(entries: &mut Vec<RecordEntry>, call: RecordEntry, report: &[EpollEvent])
     requires { vec_len entries.old + 1 + length report.now ≤ vec_capacity entries.old }
     ensures pushed { entries.new.items ≡ entries.old.items ++ call ∷ map Reported report.now }

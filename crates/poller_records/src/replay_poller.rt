@@ -20,12 +20,11 @@ use vmm_sys::epoll::{ControlOperation, EpollEvent, RawFd};
 use vmm_sys::errno::Errno;
 use vmm_sys::poller::Poller;
 
-/// A poller that answers each call as a record says, while the calls are those of the record, in its order; it is no poller
-/// of the system's.
+/// A poller that answers each call as a record says, while the calls are those of the record, in its order; it isn't the system's.
 ///
-/// A `ctl` is the next call where the next entry has its operation, descriptor and event. A `wait` is where the next entry
-/// has its limit and the length of its buffer, and the events that the entry counts stand behind it and find room. At the
-/// first call that isn't the next one the replay diverges: that call and all later ones answer `EIO`.
+/// A `ctl` is the next call if the next entry has its operation, descriptor and event. A `wait` is, if the next entry has its limit
+/// and the length of its buffer, and the events that the entry counts stand behind it and find room. At the first call that isn't
+/// the next one the replay diverges: that call and all later ones are refused with `EIO`.
 #[derive(Drop)]
 pub struct ReplayPoller {
     entries: Vec<RecordEntry>,
@@ -45,7 +44,7 @@ impl Model for ReplayPoller {
 }
 
 impl ReplayPoller {
-    /// At the front of the record, which may hold anything.
+    /// A replay at the front of this record, which may hold anything.
     pub fn new(entries: Vec<RecordEntry>) -> ReplayPoller
         ensures { result ≡ start_of entries.items }
     {
@@ -70,7 +69,7 @@ impl ReplayPoller {
         self.entries[self.passed..].is_empty()
     }
 
-    /// Where a call differed from the record: the index of the entry that was next, or the length of the record.
+    /// If a call differed from the record, the index of the entry that was next, or the length of the record.
     pub fn diverged(&self) -> Option<usize>
         ensures { result ≡ divergence_index self.now }
     {
@@ -81,7 +80,7 @@ impl ReplayPoller {
         }
     }
 
-    // What may be answered: nothing after a divergence.
+    // No entry is answered after a divergence.
     fn ahead(&self) -> &[RecordEntry]
         ensures { result.now ≡ (if self.now.diverged then [] else self.now.ahead) }
     {
@@ -98,7 +97,6 @@ impl ReplayPoller {
         self.passed += count;
     }
 
-    // The error of a call that differs, from now on.
     fn diverge(&mut self) -> Errno
         ensures error { result ≡ Errno.EIO }
         ensures diverged { self.new ≡ divergence self.old }
@@ -115,7 +113,7 @@ impl Poller for ReplayPoller {
 
     ghost may_wait = { MayWait };
 
-    /// The recorded answer. `EIO`: the call isn't the next one of the record, or one before wasn't.
+    /// The recorded answer; `EIO` if this call or an earlier one wasn't the record's next.
     fn ctl(&mut self, op: ControlOperation, fd: RawFd, event: EpollEvent) -> Result<(), Errno> {
         let Some(answer) = recorded_ctl(self.ahead(), op, fd, event) else {
             return Err(self.diverge());
@@ -124,8 +122,7 @@ impl Poller for ReplayPoller {
         answer
     }
 
-    /// The recorded answer with its report. `EIO`: the call isn't the next one of the record, or one before wasn't; the
-    /// buffer stays.
+    /// The recorded answer with its report; refused as `ctl`, with the buffer unchanged.
     fn wait(&mut self, ms: i32, buffer: &mut [EpollEvent]) -> Result<usize, Errno>
         ensures count_fits { IfOk result (λ n. n ≤ length buffer.old) }
         ensures answer { MayWait (replay_code.code self.old) ms (length buffer.old) result (reported result buffer.new) (replay_code.code self.new) }
@@ -139,9 +136,8 @@ impl Poller for ReplayPoller {
     }
 }
 
-/// A record from which no call was left out says its calls, and they are a run of the recorded poller. A replay of a run's
-/// record that is asked what the run was asked answers what the run was answered, reports included; it then stands behind
-/// the run's entries, before what was recorded later.
+/// A record from which no call was left out states its calls, and they are a run of the recorded poller. A replay of a run's record
+/// that is asked what the run was asked answers the same, reports included, and then stands behind its entries, before later ones.
 pub fn recorded_runs_replay<P: Poller>()
     ensures recorded { (before after : Recording Gv) (calls : List Call) → after.complete ≡ true →
         Runs (recording.MayCtl P.may_ctl) (recording.MayWait P.may_wait) (recording_code.code before) calls (recording_code.code after) →
@@ -152,7 +148,6 @@ pub fn recorded_runs_replay<P: Poller>()
         (others ≡ calls) × (left ≡ replay_code.code (record { passed = length (entries_of_calls calls); ahead = later; diverged = false })) }
 {}
 
-// What a `ctl` answered whose entry is the first.
 fn recorded_ctl(
     ahead: &[RecordEntry],
     op: ControlOperation,
@@ -180,7 +175,7 @@ fn recorded_ctl(
     }
 }
 
-// What a wait answered whose entries are the first; its report is put into the buffer. Without one the buffer stays.
+// Without such an answer the buffer stays.
 fn recorded_wait(
     ahead: &[RecordEntry],
     ms: i32,
@@ -223,7 +218,6 @@ fn recorded_wait(
     Some(*answer)
 }
 
-// Whether a recorded number is this one.
 fn is_number(recorded: &i32, number: i32) -> bool
     ensures { IsTrue result ↔ (recorded.now ≡ number) }
 {
@@ -242,7 +236,6 @@ fn are_reported(entries: &[RecordEntry]) -> bool
     entries.iter().all(is_reported)
 }
 
-// Copies the events of a report.
 fn copy_report(report: &[RecordEntry], places: &mut [EpollEvent])
     requires events { IsTrue (list_all is_reported report.now) }
     requires room { length report.now ≡ length places.old }

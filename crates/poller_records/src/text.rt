@@ -74,11 +74,7 @@ impl fmt::Display for Line {
     }
 }
 
-/// The text of a record.
-///
-/// # Errors
-///
-/// A request for memory was refused.
+/// The text of a record. `AllocError` if memory is refused.
 pub fn write_record(alloc: Global, entries: &[RecordEntry]) -> Result<String, AllocError>
     ensures { IfOk result (λ text. string_bytes text ≡ text_of entries.now) }
 {
@@ -89,18 +85,12 @@ pub fn write_record(alloc: Global, entries: &[RecordEntry]) -> Result<String, Al
     Ok(text)
 }
 
-/// The parts of a line between its spaces.
 fn split_fields(alloc: Global, line: &str) -> Result<Vec<&str>, AllocError>
     ensures { IfOk result (λ fields. contents fields.items ≡ slice_split (λ byte. byte == 32) line.now) }
 {
     line.split(' ').collect(alloc)
 }
 
-/// The entry of the line of this number.
-///
-/// # Errors
-///
-/// `BadLine` with the number, `OutOfMemory`.
 fn read_line(alloc: Global, number: usize, line: &str) -> Result<RecordEntry, RecordFault>
     ensures held { IfOk result (λ entry. IsEntry entry) }
     ensures read { IfOk result (λ entry. line.now ≡ line_of entry) }
@@ -115,11 +105,8 @@ fn read_line(alloc: Global, number: usize, line: &str) -> Result<RecordEntry, Re
     }
 }
 
-/// Reads the text of a record. Memory is requested for the list of entries, and for the fields of one line at a time.
-///
-/// # Errors
-///
-/// `BadLine` for the first line that is none of an entry's, `OutOfMemory`.
+/// Reads the text of a record. Memory is requested for the list of entries, and for the fields of one line at a time. `BadLine` for
+/// the first line that isn't an entry's, `OutOfMemory`.
 pub fn read_record(alloc: Global, text: &str) -> Result<Vec<RecordEntry>, RecordFault>
     ensures read { IfOk result (λ entries. text.now ≡ text_of entries.items) }
     ensures written { (entries : List RecordEntry) → All IsEntry entries → text.now ≡ text_of entries →

@@ -1,5 +1,4 @@
-//! Runs of a manager that are made again: where subscribers and jobs are functions, its calls, its jobs and its poller decide
-//! all that happens, so a run over a recording poller is made again over a replay of the record.
+//! Runs of a manager that are made again: if subscribers and jobs are functions, calls, jobs and poller decide all that happens.
 #![tactic(auto)]
 
 pub mod laws;

@@ -14,17 +14,17 @@ use std::sync::Wait;
 use std::time::Clock;
 use vmm_sys::eventfd::EventFd;
 
-/// Who is served: the acceptor, and its connections.
+/// The subscribers: the acceptor, and its connections.
 pub type Peer<R> = Either<Acceptor<R>, Connection<R>>;
 
-/// What came of the connections so far.
+/// The counts of connections so far.
 #[derive(Clone, Copy, Default, PartialEq, Eq, Debug)]
 pub struct Statistics {
-    /// How many were accepted, and let join.
+    /// The number that were accepted, and joined.
     pub joined: u64,
-    /// How many of them have left.
+    /// The number of those that have left.
     pub left: u64,
-    /// How many bytes those that left had read.
+    /// The bytes that those that left had read.
     pub bytes: u64,
 }
 
@@ -33,7 +33,7 @@ pub struct Statistics {
 pub struct Acceptor<R> {
     listener: EventFd,
     knocks: Events,
-    // Who comes next, the last first.
+    // The connections to come, the last first.
     coming: Vec<Connection<R>>,
     accepted: Sender<Connection<R>>,
     statistics: Statistics,
@@ -42,7 +42,7 @@ pub struct Acceptor<R> {
 }
 
 impl<R: Drop> Acceptor<R> {
-    /// An acceptor to which these come, the last first, and which sends them there.
+    /// An acceptor to which these come, the last first, and which sends them by `accepted`.
     pub fn new(
         listener: EventFd,
         coming: Vec<Connection<R>>,
@@ -61,14 +61,14 @@ impl<R: Drop> Acceptor<R> {
         }
     }
 
-    /// Counts one that joined.
+    /// Counts a connection that joined.
     pub fn count_joined(&mut self)
         ensures { self.new ≡ record self.old { statistics = record self.old.statistics { joined = next_count self.old.statistics.joined } } }
     {
         self.statistics.joined = self.statistics.joined.saturating_add(1);
     }
 
-    /// Counts one that left, and so many bytes.
+    /// Counts a connection that left, and the bytes that it had read.
     pub fn count_left(&mut self, read: u64) {
         let Statistics { left, bytes, .. } = &mut self.statistics;
         *left = left.saturating_add(1);
@@ -92,7 +92,7 @@ impl<R: Wait + Clock + Drop> MutEventSubscriber for Acceptor<R> {
     fn process<P: EventPoller>(&mut self, _events: Events, _ops: &mut EventOps<P>) {
         let _ = self.listener.read(&self.rt);
         if let Some(connection) = self.coming.pop() {
-            // One whom the channel refuses is dropped.
+            // A connection that the channel refuses is dropped.
             let _ = self.accepted.send(connection, &self.rt);
         }
     }
@@ -102,7 +102,6 @@ impl<R: Wait + Clock + Drop> MutEventSubscriber for Acceptor<R> {
     }
 }
 
-/// What a peer says: an acceptor its statistics, or the refusal of its request; a connection `InvalidId`.
 fn statistics_of<R>(peer: &Peer<R>) -> Result<Statistics>
     ensures { result ≡ said_by peer.now }
 {
@@ -112,15 +111,14 @@ fn statistics_of<R>(peer: &Peer<R>) -> Result<Statistics>
     }
 }
 
-/// What an acceptor is asked for. It replies its statistics after that, or the refusal of its request; a connection replies
-/// `InvalidId`.
+/// A question to an acceptor. It replies its statistics after that, or the refusal of its request; a connection `InvalidId`.
 #[derive(Clone, Copy)]
 pub enum Ask {
     /// Its statistics.
     Read,
-    /// To count one that joined.
+    /// Counts a connection that joined.
     CountJoined,
-    /// To count one that left, which had read so many bytes.
+    /// Counts a connection that left, which had read this many bytes.
     CountLeft(u64),
 }
 
@@ -131,7 +129,7 @@ impl<R: Wait + Clock + Drop> Action<Peer<R>> for Ask {
     ghost use Rattle.server.specs.Peers.{statistics_of as said_by};
     ghost use Rattle.server.specs.Asks.{IsLeft};
 
-    // It replies what the peer then says; who is to be read is left as it is.
+    // It replies what the peer then says; a peer that is to be read is left as it is.
     ghost does = { λ self v reply w. (reply ≡ said_by w) × IsLeft self v w };
 
     fn act<W: Wait + Clock>(self, peer: &mut Peer<R>, _rt: &W) -> Result<Statistics> {

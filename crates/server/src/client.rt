@@ -10,10 +10,10 @@ use std::time::Clock;
 use vmm_sys::eventfd::EventFd;
 use vmm_sys::line::Line;
 
-/// Most of the time that a connection may be idle; twice as much is more.
+/// Two thirds of the time that a connection may be idle, in milliseconds; twice as much is more.
 const MOST_OF_IDLE: u64 = IDLE / 3 * 2;
 
-/// What the client has in its hands.
+/// What the client uses.
 #[derive(Drop)]
 pub struct Client<'a> {
     /// The acceptor's listener.
@@ -29,7 +29,7 @@ pub struct Client<'a> {
 }
 
 impl Client<'_> {
-    /// Asks for the statistics when so many milliseconds more have passed. A loop that sleeps isn't told of them: it looks at the
+    /// Asks for the statistics once `passed` milliseconds more have passed. A loop that sleeps isn't told of them: it looks at the
     /// clock once the job has woken it, and what is due by then is served in the batch of the next job, or before.
     fn ask_after<C: Wait + Clock + Drop, N: NamedCounter, R: Wait + Clock>(
         &self,
@@ -45,10 +45,8 @@ impl Client<'_> {
         Ok(endpoint.call_blocking(look, rt)???)
     }
 
-    /// Prints the statistics after this.
-    ///
-    /// What was done before the first call is served in the batch of its job, or before; whoever joins or leaves by that does so
-    /// after that batch, and so before the job of the second call.
+    /// Prints the statistics. What was done before the first call is served in the batch of its job, or before; who joins or leaves
+    /// by that does so after that batch, and so before the job of the second call.
     fn print<C: Wait + Clock + Drop, N: NamedCounter, R: Wait + Clock + Print>(
         &self,
         done: &str,

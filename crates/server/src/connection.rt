@@ -6,7 +6,7 @@ use std::time::{Clock, Duration};
 use timerfd::TimerFd;
 use vmm_sys::line::Line;
 
-/// How many milliseconds a connection may be without input.
+/// The milliseconds that a connection may be without input.
 pub const IDLE: u64 = 30_000;
 
 /// The server's end of a connection: it reads, and is over once the other end hung up or it was idle for too long.
@@ -38,7 +38,7 @@ impl<R: Drop> Connection<R> {
         }
     }
 
-    /// How many bytes it has read.
+    /// The number of bytes that it has read.
     pub fn bytes(&self) -> u64 {
         self.bytes
     }

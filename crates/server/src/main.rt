@@ -1,8 +1,6 @@
-//! A small server: an acceptor, connections that end by a hang-up or when they were idle for too long, and a client on a
-//! thread of its own, which asks for statistics.
-//!
-//! It shows how a subscriber brings others: the acceptor sends whom it has accepted to the loop, which lets them join between
-//! two of its runs, as it lets those leave that are over. The clock is the program's own, so each run prints the same.
+//! A small server: an acceptor, connections that end by a hang-up or when idle for too long, and a client on a thread of its own.
+//! It shows how a subscriber brings others: the acceptor sends the connections that it has accepted to the loop, which lets them
+//! join between two of its runs, as it lets those leave that are over. The clock is the program's own, so each run prints the same.
 #![tactic(auto)]
 
 mod acceptor;
@@ -24,7 +22,7 @@ use timerfd::{TickClock, TimedPoller};
 use vmm_sys::epoll::Epoll;
 use vmm_sys::eventfd::EventFd;
 
-/// Serves the client until it has ended, and then says how many jobs ran. The clock shows these ticks, which the client moves on.
+/// Serves the client until it has ended, and then prints how many jobs ran. The clock shows these ticks, which the client moves on.
 fn serve<C, R>(ticks: &AtomicU64, clock: C, rt: &R, alloc: Global) -> Result<(), Fault>
 where
     C: Wait + Clock + Copy + Send + Drop,

@@ -1,4 +1,4 @@
-//! The loop: it lets join whom the acceptor has accepted, and leave who is over.
+//! The loop: it lets accepted connections join, and those leave that are over.
 
 use crate::acceptor::{Acceptor, Ask, Look, Peer};
 use crate::client::Client;
@@ -32,13 +32,13 @@ pub struct Server<'a, C> {
     coming: Vec<Connection<C>>,
     acceptor: Option<SubscriberId>,
     members: Vec<SubscriberId>,
-    // Whom the acceptor has accepted, and the end by which it sends them.
+    // The accepted connections, and the end by which the acceptor sends them.
     accepted: Receiver<Connection<C>>,
     to_loop: Sender<Connection<C>>,
 }
 
 impl<'a, C: Wait + Clock + Copy + Send + Drop> Server<'a, C> {
-    /// A server that nobody has joined, whose clock shows these ticks.
+    /// A server without subscribers, whose clock shows these ticks.
     pub fn new(
         ticks: &'a AtomicU64,
         clock: C,
@@ -70,10 +70,8 @@ impl<'a, C: Wait + Clock + Copy + Send + Drop> Server<'a, C> {
     }
 }
 
-/// The loop of peers, its jobs and its poller.
 type Loop<N, C, P> = TrackedManager<Peer<C>, Look, N, P>;
 
-/// The acceptor counts one that joined or left.
 fn count<N: NamedCounter, C: Wait + Clock + Drop, P: EventPoller, R: Wait + Clock>(
     rt: &R,
     manager: &mut Loop<N, C, P>,
@@ -88,7 +86,6 @@ fn count<N: NamedCounter, C: Wait + Clock + Drop, P: EventPoller, R: Wait + Cloc
     Ok(())
 }
 
-/// Those who were accepted join, and are counted.
 fn let_join<N: NamedCounter, C: Wait + Clock + Drop, P: EventPoller, R: Wait + Clock>(
     rt: &R,
     manager: &mut Loop<N, C, P>,
@@ -103,7 +100,6 @@ fn let_join<N: NamedCounter, C: Wait + Clock + Drop, P: EventPoller, R: Wait + C
     Ok(())
 }
 
-/// A member that is over leaves.
 fn let_leave<N: NamedCounter, C: Wait + Clock + Drop, P: EventPoller, R: Wait + Clock>(
     rt: &R,
     manager: &mut Loop<N, C, P>,

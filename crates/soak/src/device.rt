@@ -36,12 +36,11 @@ impl<R: Wait> Device<R> {
         }
     }
 
-    /// Counts a job.
+    /// Counts a job at this device.
     pub fn count_job(&mut self) {
         self.jobs = self.jobs.saturating_add(1);
     }
 
-    // Takes the value of one of the counters.
     fn value(&self, is_first: bool) -> std::result::Result<u64, Errno> {
         if is_first {
             self.first.read(&self.rt)
@@ -50,7 +49,6 @@ impl<R: Wait> Device<R> {
         }
     }
 
-    // Counts the refusals among two answers.
     fn note(&mut self, answers: (Result<()>, Result<()>)) {
         let refusals = answers.0.is_err() as u64 + answers.1.is_err() as u64;
         self.refused = self.refused.saturating_add(refusals);

@@ -73,7 +73,7 @@ impl From<io::Error> for Fault {
     }
 }
 
-/// `Count` where it isn't so many.
+/// `Count` where `counted` isn't `expected`.
 pub fn expect(what: &'static str, counted: u64, expected: u64) -> Result<(), Fault> {
     if counted == expected {
         return Ok(());

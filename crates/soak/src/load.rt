@@ -19,28 +19,26 @@ pub trait Host: Threads + Wait + Clock + Print + Copy + Send + Sync + Drop + 'st
 
 impl<R: Threads + Wait + Clock + Print + Copy + Send + Sync + Drop + 'static> Host for R {}
 
-/// How many jobs of a round are waited for, each behind one that isn't: a guest joins, and leaves, and a job counts
-/// itself.
+/// The number of jobs of a round that are waited for, each behind one that isn't: a guest's join and leave, and one that counts.
 const CALLS: u64 = 3;
 
 /// What was counted, all of it as it must be.
 #[derive(Clone, Copy)]
 pub struct Loaded {
-    /// How many rounds there were.
+    /// The number of rounds.
     pub rounds: u32,
     /// What the devices have read.
     pub read: u64,
-    /// How many jobs were sent without waiting.
+    /// The number of jobs that were sent without waiting.
     pub fired: u64,
-    /// How many jobs were sent and waited for.
+    /// The number of jobs that were sent and waited for.
     pub called: u64,
-    /// How many jobs the loop has taken.
+    /// The number of jobs that the loop has taken.
     pub taken: u64,
-    /// How many guests have joined and left.
+    /// The number of guests that have joined and left.
     pub guests: u64,
 }
 
-// All that must come of so many rounds.
 fn judge(rounds: u32, counts: Counts, issued: u64, taken: u64) -> Result<Loaded, Fault> {
     let called = rounds as u64 * CALLS;
     let fired = rounds as u64 * (DEVICES as u64 + 1) + called;
@@ -60,7 +58,6 @@ fn judge(rounds: u32, counts: Counts, issued: u64, taken: u64) -> Result<Loaded,
     })
 }
 
-// What must come of a loop that has ended, and of its load. Refused as its run was, and as the load was.
 fn judge_ended<R>(
     ended: &Ended<Device<R>, Result<(), Fault>, Epoll<R>>,
     rounds: u32,
@@ -73,7 +70,6 @@ fn judge_ended<R>(
     judge(rounds, counts, ended.issued, ended.taken)
 }
 
-// Makes a loop and its devices, and runs it beside its load.
 fn load_loop<R: Host>(
     rt: &R,
     alloc: Global,
@@ -88,7 +84,6 @@ fn load_loop<R: Host>(
     judge_ended(&ended, rounds, served.counts())
 }
 
-// Loads a loop, and notes the end of it.
 fn load_to_end<R: Host>(
     rt: R,
     alloc: Global,
@@ -100,11 +95,9 @@ fn load_to_end<R: Host>(
     loaded
 }
 
-/// Loads an event manager for so many rounds, on other threads than this one, which looks on.
-///
-/// `Descriptor`, `Manager`, `Memory`, `Thread`: a call was refused. `Count`, `Reply`: something was lost, came twice, or
-/// came to another. `Stalled`: something was lost, and the others wait for it; so they are left alone, and end with the
-/// program.
+/// Loads an event manager for `rounds` rounds, on other threads than this one, which looks on. `Descriptor`, `Manager`, `Memory`,
+/// `Thread`: a call was refused. `Count`, `Reply`: something was lost, came twice, or came to another. `Stalled`: something was
+/// lost, and threads wait for it; they are left alone, and end with the program.
 pub fn load<R: Host>(rt: R, alloc: Global, rounds: u32) -> Result<Loaded, Fault> {
     let progress = Arc::new(alloc, Progress::new())?;
     let theirs = Arc::try_clone(&progress)?;

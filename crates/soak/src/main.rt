@@ -1,15 +1,10 @@
-//! The program `soak`: four threads load one event manager for a number of rounds, its argument, or 10000.
-//!
-//! The loop's thread runs the manager. A second one writes the counters of the devices; each device reads its counters,
-//! and takes one of them out and puts it in again in the middle of a batch. A third one sends jobs. A fourth one sends
-//! jobs and waits for their replies: they let a guest join, which it then writes to, and leave. Right before each it sends
-//! one without waiting, and at the end of a round one more, and waits until none is in the queue. When all have done their
-//! rounds, what was written must have been read, each job must have run once, and each call must have its reply; then
-//! the program prints what it counted, which is the same for the same number of rounds. Else it ends with 1 and what was
-//! counted otherwise.
-//!
-//! Loop and callers wait without a limit, so whoever misses a wake-up or a reply waits for ever. The program's first thread
-//! looks on: where none of the others has made a step for ten seconds, it ends the program with 1 and a line that says so.
+//! The program `soak`: four threads load one event manager for a number of rounds, its argument, or 10000. One runs the manager.
+//! One writes the counters of the devices, each of which reads its own, and in mid-batch takes one out and puts it in again. One
+//! sends jobs. One sends jobs and waits for their replies: a guest joins, is written to, and leaves; right before each it sends a
+//! job without waiting, and at the end of a round another, and waits until none is in the queue. What was written must then be
+//! read, each job run once, each call replied: the program prints its counts, the same for the same number of rounds; else it ends
+//! with 1 and what differs. Loop and callers wait without a limit, so whoever misses a wake-up or a reply waits for ever: the first
+//! thread looks on, and where no other makes a step for ten seconds it ends the program with 1 and a line that says so.
 #![tactic(auto)]
 
 pub mod device;

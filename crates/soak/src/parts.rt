@@ -10,7 +10,7 @@ use vmm_sys::epoll::Epoll;
 use vmm_sys::errno::Errno;
 use vmm_sys::eventfd::EventFd;
 
-/// How many devices there are.
+/// The number of devices.
 pub const DEVICES: u32 = 4;
 
 /// Two counters of the table.
@@ -19,7 +19,7 @@ pub struct Pair {
     second: EventFd,
 }
 
-// Not derived: then who owns one has a call to prove, and not a drop of all that is in it.
+// Not derived: an owner's proof then has one call, instead of a drop of each field.
 impl Drop for Pair {
     fn drop(self) {
         let Pair {
@@ -30,7 +30,7 @@ impl Drop for Pair {
 }
 
 impl Pair {
-    /// Two counters with the value 0. `Descriptor`.
+    /// Two counters with the value 0. `Descriptor`: one was refused.
     pub fn new<R: Wait + Clock + Clone + Send + Drop>(
         epoll: &Epoll<R>,
         rt: &R,
@@ -41,12 +41,12 @@ impl Pair {
         })
     }
 
-    /// A device over them. Refused with what a copy of a counter is refused with.
+    /// A device over them. Refused as a copy of a counter is.
     pub fn device<R: Wait + Copy>(&self, rt: &R) -> Result<Device<R>, Errno> {
         Ok(Device::new(self.first.try_clone()?, self.second.try_clone()?, *rt))
     }
 
-    /// Writes 1 to each. `Descriptor`.
+    /// Writes 1 to each. `Descriptor`: a write was refused.
     pub fn write<R: Wait>(&self, rt: &R) -> Result<(), Fault> {
         self.first.write(1, rt)?;
         self.second.write(1, rt)?;
@@ -66,16 +66,16 @@ impl Pair {
 pub struct Parts {
     /// The counters of the guest.
     pub guest: Pair,
-    /// Those of each device.
+    /// The counters of each device.
     pub pairs: Vec<Pair>,
-    /// How many rounds there are.
+    /// The number of rounds.
     pub rounds: u32,
-    /// Where those who load it note how far they have come.
+    /// Where the threads that load it note how far they have come.
     pub progress: Arc<Progress>,
 }
 
 impl Parts {
-    /// New ones, of this table. `Descriptor`, `Memory`.
+    /// New ones, of this table. `Descriptor`, `Memory`: one was refused.
     pub fn new<R: Wait + Clock + Clone + Send + Drop>(
         epoll: &Epoll<R>,
         alloc: Global,

@@ -5,7 +5,6 @@ use std::sync::atomic::{AtomicU64, Ordering};
 use std::sync::{Condvar, Mutex, Wait};
 use std::time::{Clock, Duration};
 
-/// How often the threads are looked at, in milliseconds.
 const LOOK: u64 = 1000;
 
 /// How many looks in a row may find no step.
@@ -53,7 +52,6 @@ impl Progress {
         self.changed.notify_all();
     }
 
-    // Waits for the end, a look long.
     fn is_over_soon<R: Wait + Clock>(&self, rt: &R) -> bool {
         let look = Duration::from_millis(LOOK);
         let (over, _) = self
@@ -62,8 +60,7 @@ impl Progress {
         *over
     }
 
-    /// Waits until all is done. `Stalled` where nobody makes a step for some ten seconds: then the threads may wait for
-    /// ever.
+    /// Waits until all is done. `Stalled` where nobody makes a step for some ten seconds: then the threads may wait for ever.
     pub fn wait_for_end<R: Wait + Clock>(&self, rt: &R) -> Result<(), Fault> {
         let (mut seen, mut idle) = (0, 0u32);
         for _ in rt.forever() {

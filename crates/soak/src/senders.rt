@@ -1,4 +1,4 @@
-//! Those who load the loop, each from a thread of its own.
+//! The senders that load the loop, each from a thread of its own.
 
 use crate::device::Device;
 use crate::fault::{Fault, expect};
@@ -10,10 +10,8 @@ use std::sync::Wait;
 use std::thread;
 use std::time::{Clock, Duration};
 
-/// By which jobs are sent to the loop.
 type Endpoint<N, R> = RemoteEndpoint<Device<R>, Work<R>, N>;
 
-/// For how many microseconds a thread sleeps that waits until no job waits.
 const PAUSE: u64 = 10;
 
 /// What is done in a round.
@@ -23,8 +21,7 @@ pub enum Load {
     Write,
     /// A job is sent to each device.
     Fire(Vec<SubscriberId>),
-    /// A guest is received, and a job sent to the device; each has its reply. Then another job is sent, and none waits any
-    /// more.
+    /// A guest is received, and a job sent to the device, each with its reply; then one more is sent, and the queue runs empty.
     Call(SubscriberId),
 }
 
@@ -53,7 +50,6 @@ impl<R: Wait + Clock + Copy + Drop> Sender<Device<R>, Work<R>, Result<(), Fault>
     }
 }
 
-// Writes to each counter of each device.
 fn write_all<R: Wait>(pairs: &[Pair], rt: &R) -> Result<(), Fault> {
     for pair in pairs {
         pair.write(rt)?;
@@ -61,7 +57,6 @@ fn write_all<R: Wait>(pairs: &[Pair], rt: &R) -> Result<(), Fault> {
     Ok(())
 }
 
-// Sends a job to each device.
 fn fire_all<N: NamedCounter, R: Wait + Clock + Drop>(
     endpoint: &Endpoint<N, R>,
     ids: &[SubscriberId],
@@ -73,8 +68,7 @@ fn fire_all<N: NamedCounter, R: Wait + Clock + Drop>(
     Ok(())
 }
 
-// Sends a job to the device of the id, and right behind it one whose reply is waited for: so a loop that the first has
-// woken, and that misses the second, sleeps on while its caller waits.
+// Sends a job, and right behind it one to wait for: a loop that misses the second sleeps on while its caller waits.
 fn fire_and_call<N: NamedCounter, R: Wait + Clock + Drop>(
     endpoint: &Endpoint<N, R>,
     id: SubscriberId,
@@ -89,7 +83,7 @@ fn fire_and_call<N: NamedCounter, R: Wait + Clock + Drop>(
     reply
 }
 
-// Sends a job to the device of the id, and waits until no job waits: one that the loop missed waits on.
+// Waits until the queue is empty: a job that the loop missed stays in it.
 fn fire_and_settle<N: NamedCounter, R: Wait + Clock + Drop>(
     endpoint: &Endpoint<N, R>,
     id: SubscriberId,
@@ -105,7 +99,6 @@ fn fire_and_settle<N: NamedCounter, R: Wait + Clock + Drop>(
     Ok(())
 }
 
-// A guest joins, is written to, and leaves: it has read what it didn't leave unread.
 fn receive_guest<N: NamedCounter, R: Wait + Clock + Copy + Drop>(
     endpoint: &Endpoint<N, R>,
     id: SubscriberId,
@@ -127,7 +120,6 @@ fn receive_guest<N: NamedCounter, R: Wait + Clock + Copy + Drop>(
     expect("read of a guest", read.saturating_add(pair.rest(rt)), 2)
 }
 
-// Receives a guest, and sends a job to the device; each has its reply. Then another job is sent, and none waits any more.
 fn call_all<N: NamedCounter, R: Wait + Clock + Copy + Drop>(
     endpoint: &Endpoint<N, R>,
     device: SubscriberId,

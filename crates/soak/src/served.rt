@@ -12,7 +12,7 @@ use std::alloc::Global;
 use std::sync::Wait;
 use std::time::Clock;
 
-/// How often the loop waits at most, for nothing, once its load has ended.
+/// The most waits of the loop, each with the time limit 0, once its load has ended.
 const MAX_LAST_WAITS: u32 = 1000;
 
 /// What the devices have counted in all, each number up to `u64::MAX`.
@@ -20,9 +20,9 @@ const MAX_LAST_WAITS: u32 = 1000;
 pub struct Counts {
     /// What they have read.
     pub read: u64,
-    /// How many jobs have counted themselves.
+    /// The number of jobs that have counted themselves.
     pub jobs: u64,
-    /// How many of their requests were refused.
+    /// The number of their requests that were refused.
     pub refused: u64,
 }
 
@@ -35,7 +35,7 @@ pub struct Served<'a> {
 }
 
 impl<'a> Served<'a> {
-    /// One with no device yet, which is to be loaded with these parts.
+    /// A loop without devices, to be loaded with these parts.
     pub fn new(alloc: Global, parts: &'a Parts) -> Self {
         Served {
             parts,
@@ -53,7 +53,6 @@ impl<'a> Served<'a> {
         self.counts
     }
 
-    // Lets the devices join.
     fn join<N: NamedCounter, P: EventPoller, R: Wait + Copy + Drop>(
         &mut self,
         rt: &R,
@@ -66,7 +65,6 @@ impl<'a> Served<'a> {
         Ok(())
     }
 
-    // Lets the devices leave, and adds up what they have counted.
     fn gather<N: NamedCounter, P: EventPoller, R: Wait + Drop>(
         &mut self,
         manager: &mut TrackedManager<Device<R>, Work<R>, N, P>,

@@ -30,7 +30,6 @@ pub enum Reply {
     Left(Result<(u64, u64)>),
 }
 
-/// Counts a job at a device.
 #[derive(Drop)]
 struct CountJob;
 

@@ -1,4 +1,4 @@
-//! What the handles of a timer share: it is closed where the last of them is.
+//! What the handles of a timer share; the timer is closed with the last of them.
 
 ghost use Rattle.std.specs.Prelude.{◌≡◌, ◌<◌, ◌-◌, ◌≤ℤ◌, ◌^◌, pos, IfOk, IfErr};
 ghost use Rattle.std.specs.Arc.{arc_value};
@@ -8,7 +8,6 @@ use std::sync::{Arc, Wait};
 use vmm_sys::epoll::RawFd;
 use vmm_sys::errno::Errno;
 
-/// A timer of a poller.
 #[derive(Drop)]
 pub(crate) struct Description<C> {
     pub(crate) timers: Arc<Shared<C>>,
@@ -16,10 +15,9 @@ pub(crate) struct Description<C> {
     ghost from_0_up: { pos 0 ≤ℤ fd },
 }
 
-/// One of the handles on a timer.
 pub(crate) type Handle<C> = Arc<Description<C>>;
 
-/// Another owner of the same. `ENOMEM`: the `Arc` refused a copy.
+/// One more owner of the same. `ENOMEM`: the `Arc` refused a copy.
 pub(crate) fn another_owner<T>(owner: &Arc<T>) -> Result<Arc<T>, Errno>
     ensures same { IfOk result (λ other. arc_value other ≡ arc_value owner.now) }
     ensures errors { IfErr result (λ e. e ≡ Errno.ENOMEM) }
@@ -27,7 +25,6 @@ pub(crate) fn another_owner<T>(owner: &Arc<T>) -> Result<Arc<T>, Errno>
     Arc::try_clone(owner).map_err(|_| Errno::ENOMEM)
 }
 
-/// Gives a handle up; with the last one the timer is closed.
 pub(crate) fn close<C: Drop, R: Wait>(handle: Handle<C>, rt: &R) {
     if let Some(last) = Arc::into_inner(handle) {
         last.close(rt);
@@ -35,7 +32,6 @@ pub(crate) fn close<C: Drop, R: Wait>(handle: Handle<C>, rt: &R) {
 }
 
 impl<C: Drop> Description<C> {
-    /// The timer of this index.
     pub(crate) fn new(timers: Arc<Shared<C>>, index: usize) -> Description<C>
         requires { index < 2 ^ 31 }
     {
@@ -55,7 +51,6 @@ impl<C: Drop> Description<C> {
     }
 }
 
-// The descriptor of the timer of this index.
 fn descriptor_at(index: usize) -> RawFd
     requires { index < 2 ^ 31 }
     ensures number { result ≡ pos (2147483647 - index) }

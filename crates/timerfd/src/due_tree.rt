@@ -8,10 +8,8 @@ ghost use Rattle.timerfd.specs.Dues.{is_due, IsFirstOf};
 use std::alloc::{AllocError, Global};
 use std::marker::Model;
 
-/// Times by index, where `None` is never.
-///
-/// They are the leaves of a tree, the second half of its nodes. Node 1 is the root, below node n are nodes 2 n and 2 n + 1, and
-/// each inner node has the earlier of the two below it.
+/// Times by index, where `None` is never: the leaves of a tree, which are the second half of its nodes. Node 1 is the root, below
+/// node n are nodes 2 n and 2 n + 1, and each inner node has the earlier of the two below it.
 #[derive(Drop)]
 pub struct DueTree {
     nodes: Vec<Option<u64>>,
@@ -30,7 +28,6 @@ impl Model for DueTree {
 }
 
 impl DueTree {
-    /// No times.
     pub fn new(alloc: Global) -> Self
         ensures { result ≡ [] }
     {
@@ -40,7 +37,6 @@ impl DueTree {
         }
     }
 
-    /// How many there are.
     pub fn len(&self) -> usize
         ensures { result ≡ length self.now }
     {
@@ -57,7 +53,6 @@ impl DueTree {
         self.nodes[1]
     }
 
-    /// The index of one that is up to now; none where none is.
     pub fn due_by(&self, now: u64) -> Option<usize>
         ensures { MatchOption result (All (λ time. is_due now time ≡ false) self.now)
             (λ index. (index < length self.now) × (is_due now (slice_index_or self.now index None) ≡ true)) }
@@ -76,7 +71,6 @@ impl DueTree {
         Some(node - self.leaves)
     }
 
-    /// Puts this time in at the index.
     pub fn set(&mut self, index: usize, time: Option<u64>)
         requires { index < length self.old }
         ensures { self.new ≡ slice_set self.old index time }
@@ -89,8 +83,7 @@ impl DueTree {
         }
     }
 
-    /// Makes room for as many times more as there are, and one more, each of them never. Refused for want of memory; then nothing
-    /// changed.
+    /// Adds as many times as there are, and one more, each `None`. Refused where memory is; then nothing changes.
     pub fn grow(&mut self) -> Result<(), AllocError>
         ensures { self.new ≡ if is_ok result then self.old ++ replicate (length self.old + 1) None else self.old }
     {

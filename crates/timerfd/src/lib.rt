@@ -1,7 +1,6 @@
-//! Timers as descriptors that become ready in time, over any poller, under the names of `vmm-sys-util`'s `timerfd`.
-//!
-//! A [`TimedPoller`] is a poller with timers beside it, and a [`TimerFd`] one of them. Below them are [`Timers`], without a clock, a
-//! lock or a descriptor: whoever holds them tells them the time, in nanoseconds since a beginning that is the caller's choice.
+//! Timers as descriptors over any poller, under the names of `vmm-sys-util`'s `timerfd`: a [`TimedPoller`] is a poller with timers
+//! beside it, a [`TimerFd`] one of them. Below them are [`Timers`], without a clock, a lock or a descriptor: their owner tells them
+//! the time, in nanoseconds since a beginning of its choice.
 #![tactic(auto)]
 
 mod clock;

@@ -1,4 +1,4 @@
-//! Timers that a poller and descriptors share: each call is one step under their lock, and nothing of a caller's runs under it.
+//! Timers that a poller and descriptors share: each call is one step under their lock, and no code of a caller runs under it.
 
 ghost use Rattle.std.specs.Prelude.{◌≡◌, IfOk, IfErr, IfSome, length, is_some};
 ghost use Rattle.std.specs.Arc.{arc_value};
@@ -16,14 +16,14 @@ use vmm_sys::counter::Counter;
 use vmm_sys::epoll::{ControlOperation, EpollEvent, RawFd};
 use vmm_sys::errno::Errno;
 
-/// The timers, and whether a wait sleeps that counts with when the first of them was due.
+/// The timers, and whether a wait sleeps that a timer due before all others must end.
 #[derive(Drop)]
 pub(crate) struct State {
     pub(crate) timers: TimerTable,
     asleep: bool,
 }
 
-/// How a wait begins: with so many entries of timers in front of the buffer, and for so many milliseconds at most.
+/// How a wait begins: the number of timers' entries in front of the buffer, and the limit of the wait below, in milliseconds.
 #[derive(Clone, Copy)]
 pub(crate) struct Begun {
     pub(crate) front: usize,
@@ -31,7 +31,6 @@ pub(crate) struct Begun {
 }
 
 impl State {
-    // What is known of the time is told, and the entries of timers that are ready then are written in front of the buffer.
     fn begin_wait(&mut self, now: Option<u64>, ms: i32, buffer: &mut [EpollEvent]) -> Begun
         ensures limit { IsLimit (told_of now self.old.timers) (is_some now) ms result.limit }
         ensures front { result.front ≡ length (report_of (told_of now self.old.timers) (length buffer.old)) }
@@ -48,7 +47,6 @@ impl State {
         Begun { front, limit }
     }
 
-    // How long the poller below is waited for.
     fn limit(&self, is_known: bool, ms: i32) -> i32
         ensures { IsLimit self.now.timers is_known ms result }
     {
@@ -62,7 +60,6 @@ impl State {
         }
     }
 
-    // Changes the interest in the timer with this descriptor; `None` where no timer has it.
     fn ctl(
         &mut self,
         op: ControlOperation,
@@ -76,7 +73,7 @@ impl State {
         Some(self.timers.ctl(op, index, event))
     }
 
-    // Arms the timer; the answer is whether a wait sleeps past when it is due, and is to be told.
+    // Arms the timer; returns whether a wait sleeps that would outlast its due time.
     fn arm(&mut self, index: usize, due: u64, interval: u64) -> bool {
         let is_first = self.timers.next_due().is_none_or(|first| due < first);
         let ends_a_sleep = self.asleep && is_first;
@@ -86,14 +83,12 @@ impl State {
     }
 }
 
-// How many milliseconds it is until this time, rounded up.
 fn ms_until(now: u64, due: u64) -> u64
     ensures { result ≡ ms_until now due }
 {
     due.saturating_sub(now).div_ceil(1_000_000)
 }
 
-// The lesser of two limits, where a negative one is none.
 fn lesser(ms: i32, left: u64) -> i32
     ensures { result ≡ lesser ms left }
 {
@@ -101,7 +96,6 @@ fn lesser(ms: i32, left: u64) -> i32
     if ms < 0 { left } else { ms.min(left) }
 }
 
-// The index of the timer with this descriptor, where there are so many timers.
 fn timer_of(fd: RawFd, count: usize) -> Option<usize>
     ensures { result ≡ timer_of fd count }
 {
@@ -119,7 +113,7 @@ pub(crate) struct Shared<C> {
     pub(crate) alloc: Global,
 }
 
-// Not derived: then who owns one has a call to prove, and not a drop of all that is in it.
+// Not derived: an owner's proof then has one call, instead of a drop of each field.
 impl<C: Drop> Drop for Shared<C> {
     fn drop(self) {
         let Shared {
@@ -148,8 +142,7 @@ pub(crate) fn new_timers<C: Drop>(counter: C, alloc: Global) -> Result<Arc<Share
 }
 
 impl<C> Shared<C> {
-    /// Begins a wait of so many milliseconds, and writes the entries of ready timers into the front of the buffer. The clock is
-    /// read where a timer is armed, and nothing is told of the time where it answers an error.
+    /// Begins a wait. The clock is read only where a timer is armed; where it returns an error, no time is told.
     pub(crate) fn begin_wait<R: Wait + Clock>(
         &self,
         ms: i32,
@@ -168,19 +161,16 @@ impl<C> Shared<C> {
         self.state.lock(rt).begin_wait(now, ms, buffer)
     }
 
-    /// A sleep has ended.
     pub(crate) fn end_sleep<R: Wait>(&self, rt: &R) {
         self.state.lock(rt).asleep = false;
     }
 
-    /// Writes the entries of ready timers into the front of the buffer, and answers their number.
     pub(crate) fn report<R: Wait>(&self, buffer: &mut [EpollEvent], rt: &R) -> usize
         ensures { Reports buffer.old result buffer.new }
     {
         self.state.lock(rt).timers.report(buffer)
     }
 
-    /// Changes the interest in the timer with this descriptor; `None` where no timer has it.
     pub(crate) fn ctl<R: Wait>(
         &self,
         op: ControlOperation,
@@ -195,7 +185,7 @@ impl<C> Shared<C> {
 }
 
 impl<C: Counter> Shared<C> {
-    /// Arms the timer, and ends a sleep that would outlast when it is due.
+    /// Arms the timer, and ends a sleep that would outlast its due time.
     pub(crate) fn arm<R: Wait + Clock>(
         &self,
         index: usize,

@@ -5,8 +5,7 @@ use std::sync::Wait;
 use std::sync::atomic::{AtomicU64, Ordering};
 use std::time::{Clock, Duration};
 
-/// A handle whose clock shows as many milliseconds as there were ticks. Who counts them says how late it is, so a test of
-/// timers need not sleep. Ours.
+/// A handle whose clock shows `ticks` milliseconds: a program or a test sets them, so a test of timers need not sleep. Ours.
 #[derive(Clone, Copy)]
 pub struct TickClock<'a, R> {
     ticks: &'a AtomicU64,
@@ -14,7 +13,7 @@ pub struct TickClock<'a, R> {
 }
 
 impl<'a, R> TickClock<'a, R> {
-    /// The clock of these ticks.
+    /// A clock that shows these ticks.
     pub fn new(ticks: &'a AtomicU64, rt: R) -> Self {
         TickClock { ticks, rt }
     }

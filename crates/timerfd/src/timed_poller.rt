@@ -15,24 +15,21 @@ use vmm_sys::errno::Errno;
 use vmm_sys::eventfd::EventFd;
 use vmm_sys::poller::Poller;
 
-/// The word of its own counter's event.
+/// The word of the event of the timers' own counter.
 const ALARM: u64 = u64::MAX;
 
-/// A poller of any type, with timers beside it, each a descriptor: a [`TimerFd`](crate::TimerFd).
+/// A poller of any type with timers beside it, each a descriptor, a [`TimerFd`](crate::TimerFd): they count down from 2147483647,
+/// and the descriptors of the poller below are the others. A wait reads the clock once where a timer is armed, else not at all.
+/// Timers come first, and the poller below has the room that is left; where timers fill the room, the poller below comes first in
+/// the next wait, and they have the room that it leaves:
+/// [`timers_and_others_take_turns`](crate::laws::timers_and_others_take_turns). Among ready timers the one that was reported last
+/// comes last, as in a [`Table`](vmm_sys::table::Table).
 ///
-/// The descriptors of timers count down from 2147483647, and those of the poller below are the others.
-///
-/// A wait reads the clock once where a timer is armed, and else not at all. Timers come first, and the poller below has the room
-/// that is left; where timers fill the room, the poller below comes first in the next wait, and they have the room that it leaves.
-/// So of two waits that follow each other one asks the poller below at least, and in one at least timers come first. Among the
-/// timers that are ready the one that was reported last comes last, as in a [`Table`](vmm_sys::table::Table).
-///
-/// Where no timer is ready, the poller below is waited for until the first of them is due, at most: the wait then answers 0, and
-/// the next one reports that timer. It answers 0, too, where another thread has armed a timer that is due earlier than all others.
+/// Where no timer is ready, the poller below is waited for until the first is due, at most: the wait then returns 0, and the next
+/// one reports that timer. It returns 0, too, where another thread has armed a timer that is due before all others.
 pub struct TimedPoller<P, R, C = EventFd> {
     pub(crate) timers: Arc<Shared<C>>,
     poller: P,
-    // The descriptor of the timers' counter, which the poller below watches.
     counter: RawFd,
     // Whether the poller below comes first in the next wait.
     others_first: bool,
@@ -60,10 +57,9 @@ impl<P, R, C> Model for TimedPoller<P, R, C> {
 }
 
 impl<P: Poller, R: Wait + Clock + Drop, C: Counter + Drop> TimedPoller<P, R, C> {
-    /// The poller, without a timer, and the counter that it watches: an [`EventFd`] of its table, or a counter of your own. It is
-    /// rung, cleared and never reported; nobody else adds its descriptor. The handle reads the clock.
-    ///
-    /// `ENOMEM`: memory was refused. Else as the poller refuses to add the counter. Then poller and counter are dropped.
+    /// This poller, without a timer. It watches `counter`, an [`EventFd`] of its table or a counter of your own, which is rung,
+    /// cleared and never reported; nobody else adds its descriptor. The clock is that of `rt`. `ENOMEM`: memory was refused. Else
+    /// refused as the poller refuses to add the counter. Then poller and counter are dropped.
     pub fn new(poller: P, counter: C, rt: R, alloc: Global) -> Result<Self, Errno>
         ensures { IsMadeOf P.meaning P.may_ctl poller (C.descriptor counter) result }
     {
@@ -88,14 +84,12 @@ impl<P: Poller, R: Wait + Clock + Drop, C: Counter + Drop> TimedPoller<P, R, C> 
         &self.poller
     }
 
-    // Whether a change of the interest list is refused.
     fn is_refused(&self, op: ControlOperation, fd: RawFd, event: EpollEvent) -> bool
         ensures { result ≡ is_refused self.now.counter op fd event }
     {
         fd == self.counter || (op != ControlOperation::Delete && event.data() == ALARM)
     }
 
-    // Timers come first, and the poller below has the room that is left.
     fn wait_timers_first(&mut self, ms: i32, buffer: &mut [EpollEvent]) -> Result<usize, Errno>
         ensures fits { IfOk result (λ n. n ≤ length buffer.old) }
         ensures waited { let t = with_poller self.old (P.meaning self.old.poller) in let after = timed_code.code (with_poller self.new (P.meaning self.new.poller)) in
@@ -110,7 +104,6 @@ impl<P: Poller, R: Wait + Clock + Drop, C: Counter + Drop> TimedPoller<P, R, C> 
         Ok(front + count)
     }
 
-    // The poller below comes first, and timers have the room that is left.
     fn wait_others_first(&mut self, ms: i32, buffer: &mut [EpollEvent]) -> Result<usize, Errno>
         ensures fits { IfOk result (λ n. n ≤ length buffer.old) }
         ensures waited { let t = with_poller self.old (P.meaning self.old.poller) in let after = timed_code.code (with_poller self.new (P.meaning self.new.poller)) in
@@ -123,7 +116,7 @@ impl<P: Poller, R: Wait + Clock + Drop, C: Counter + Drop> TimedPoller<P, R, C> 
         Ok(count + behind)
     }
 
-    // Waits for the poller below, and leaves its own counter's entry out.
+    // Waits for the poller below, and leaves the entry of the timers' own counter out.
     fn wait_below(&mut self, limit: i32, buffer: &mut [EpollEvent]) -> Result<usize, Errno>
         ensures room { length buffer.new ≡ length buffer.old }
         ensures fits { IfOk result (λ n. n ≤ length buffer.old) }
@@ -150,10 +143,8 @@ impl<P: Poller, R: Wait + Clock + Drop, C: Counter + Drop> Poller for TimedPolle
 
     ghost may_wait = { MayWait P.may_wait };
 
-    /// Changes the interest in a timer, as [`Table::ctl`](vmm_sys::table::Table::ctl) does, where `fd` is a timer's, and else that
-    /// of the poller below, as it does.
-    ///
-    /// `EINVAL`: `fd` is the timers' own counter, or the event that is added or replaces one has the word 18446744073709551615.
+    /// As [`Table::ctl`](vmm_sys::table::Table::ctl) where `fd` is a timer's, else as the poller below. `EINVAL`, before that: `fd`
+    /// is the timers' own counter, or the event to add or modify has the word 18446744073709551615.
     fn ctl(&mut self, op: ControlOperation, fd: RawFd, event: EpollEvent) -> Result<(), Errno> {
         if self.is_refused(op, fd, event) {
             return Err(Errno::EINVAL);
@@ -164,9 +155,8 @@ impl<P: Poller, R: Wait + Clock + Drop, C: Counter + Drop> Poller for TimedPolle
         }
     }
 
-    /// Reports ready timers and what the poller below reports. `EINVAL`: the buffer has no room. Else an error is that of the
-    /// poller below; timers that are ready are then reported by the next wait. Where the clock answers an error no time is told,
-    /// and the wait may outlast when a timer is due.
+    /// Reports ready timers and what the poller below reports. `EINVAL`: the buffer is empty. Else an error is that of the poller
+    /// below; the next wait then reports ready timers. Where the clock fails no time is told, and the wait may outlast a due time.
     fn wait(&mut self, ms: i32, buffer: &mut [EpollEvent]) -> Result<usize, Errno> {
         if buffer.is_empty() {
             return Err(Errno::EINVAL);
@@ -179,7 +169,6 @@ impl<P: Poller, R: Wait + Clock + Drop, C: Counter + Drop> Poller for TimedPolle
     }
 }
 
-// Leaves the entry of the timers' own counter out of the first entries, and answers how many are left in front.
 fn leave_alarm_out(buffer: &mut [EpollEvent], count: usize) -> usize
     requires { count ≤ length buffer.old }
     ensures room { length buffer.new ≡ length buffer.old }

@@ -8,11 +8,11 @@ ghost use Rattle.timerfd.specs.Timer.{armed, stopped, expired, expired_since};
 pub struct Timer {
     /// When it is due; `None` while it is disarmed.
     pub due: Option<u64>,
-    /// The time from one expiration to the next; 0 where there is one expiration alone.
+    /// The time from one expiration to the next; 0 where it expires once.
     pub interval: u64,
-    /// How often it has expired since its expirations were last taken; 18446744073709551615 stands for more, too.
+    /// The number of expirations since they were last taken; 18446744073709551615 stands for more, too.
     pub expirations: u64,
-    /// Whether it is open: not, once it was closed.
+    /// Whether it is open; false once it was closed.
     pub is_open: bool,
 }
 
@@ -33,7 +33,6 @@ impl Timer {
         is_open: false,
     };
 
-    /// The timer once it is due at a time, and after each interval, with nothing to take; a closed one stays as it is.
     pub(crate) fn armed(self, due: u64, interval: u64) -> Timer
         ensures { result ≡ armed due interval self }
     {
@@ -48,16 +47,14 @@ impl Timer {
         }
     }
 
-    /// The timer once it isn't due, with nothing to take; a closed one stays as it is.
     pub(crate) fn stopped(self) -> Timer
         ensures { result ≡ stopped self }
     {
         if self.is_open { Timer::DISARMED } else { self }
     }
 
-    /// The timer once it is `now`. Due up to now, it has expired, once and once more for each whole interval since, and it is due
-    /// next at the first of its times above now; it is disarmed where it has no interval, or where that time is above
-    /// 18446744073709551615. Else it is as it was.
+    /// The timer at `now`. If due by then it has expired, and once more for each whole interval since; it is next due at the first
+    /// of its times above now, or disarmed: without an interval, or where that is above 18446744073709551615. Else it stays as is.
     pub fn expire(self, now: u64) -> Timer
         ensures { result ≡ expired now self }
     {

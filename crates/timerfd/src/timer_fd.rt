@@ -14,14 +14,11 @@ use vmm_sys::errno::Errno;
 use vmm_sys::eventfd::EventFd;
 
 /// A timer of a [`TimedPoller`], under the names of `vmm-sys-util`'s `timerfd`. It is ready for `IN` from when it is due until its
-/// expirations are taken by [`wait`](TimerFd::wait).
+/// expirations are taken by [`wait`](TimerFd::wait). The clock of a handle passed to a call must be that of the handle which the
+/// poller was made with. No type checks it: by another clock the timer is due at another time, or never.
 ///
-/// The clock of a handle that a call is given is to be that of the handle which the poller was made with. No type says so: by
-/// another clock the timer is due at another time, or never.
-///
-/// It is closed where the last of its handles, the copies among them, ends by [`close`](TimerFd::close). Where that one is only
-/// dropped it stays open, as an [`EventFd`] does: if it is registered it is still reported, and its number and its memory never come
-/// back.
+/// It is closed where its last handle, copies included, ends by [`close`](TimerFd::close). Where that one is only dropped it stays
+/// open, as an [`EventFd`] does: if it is registered it is still reported, and its number and its memory never come back.
 #[derive(Drop)]
 pub struct TimerFd<C = EventFd> {
     handle: Handle<C>,
@@ -30,25 +27,21 @@ pub struct TimerFd<C = EventFd> {
 impl<C: Counter + Drop> TimerFd<C> {
     ghost use Rattle.timerfd.specs.TimerFd.{descriptor_of, IsOpeningError};
 
-    /// Opens a timer, disarmed.
-    ///
-    /// `EMFILE`: 2147483648 timers of the poller are open. `ENOMEM`: memory, or one more owner of the timers, was refused. A refused
-    /// call opens nothing.
+    /// Opens a timer, disarmed. `EMFILE`: 2147483648 timers of the poller are open. `ENOMEM`: memory, or one more owner of the
+    /// timers, was refused. A refused call opens nothing.
     pub fn new<P, Q, R: Wait>(timed: &TimedPoller<P, Q, C>, rt: &R) -> Result<TimerFd<C>, Errno>
         ensures { IfErr result IsOpeningError }
     {
         Self::open(&timed.timers, rt)
     }
 
-    /// Opens another timer of the same poller, disarmed: as [`new`](TimerFd::new), for who has a timer and no poller, as in a job or
-    /// in a body of `with_senders`.
+    /// As [`new`](TimerFd::new), a timer of the same poller, for code without the poller: in a job, or a body of `with_senders`.
     pub fn open_another<R: Wait>(&self, rt: &R) -> Result<TimerFd<C>, Errno>
         ensures { IfErr result IsOpeningError }
     {
         Self::open(&self.handle.timers, rt)
     }
 
-    // Opens a timer beside the others.
     fn open<R: Wait>(timers: &Arc<Shared<C>>, rt: &R) -> Result<TimerFd<C>, Errno>
         ensures { IfErr result IsOpeningError }
     {
@@ -73,19 +66,16 @@ impl<C: Counter + Drop> TimerFd<C> {
         Ok(TimerFd { handle })
     }
 
-    /// Gives this handle up. With the last handle on a timer it is closed, and its interest is gone; its number may be given to a
-    /// timer that is opened later, the highest first. So remove a timer from a manager before you close it.
+    /// Closes this handle, and with the last one the timer: its interest is gone, and its number may be given to a timer that is
+    /// opened later, the highest first. So remove a timer from a manager before you close it.
     pub fn close<R: Wait>(self, rt: &R) {
         description::close(self.handle, rt);
     }
 
-    /// Arms the timer: it is due after this duration, and then again after each interval; without one it is due once. A duration of
-    /// zero disarms it. Expirations that weren't taken are dropped. A time above 584 years from the clock's beginning counts as
-    /// that.
-    ///
-    /// A wait that sleeps and would outlast that time is told. Where the clock answers an error, its number is answered, `EIO` where
-    /// it has none, and nothing changes. Where the counter refuses to be rung, with another number than `EAGAIN`, that is answered:
-    /// the timer is armed, and the wait may outlast its time.
+    /// Arms the timer: it is due after this duration, and then after each interval, or once without one. A zero duration disarms
+    /// it. Expirations not taken are dropped. A time above 584 years from the clock's beginning counts as that. A wait that would
+    /// sleep past the due time is woken. The clock's error is returned by its number, `EIO` if it has none, and nothing changes. If
+    /// the counter refuses its ring, other than by `EAGAIN`, that is returned: the timer is armed, but the wait may sleep on.
     pub fn reset<R: Wait + Clock>(
         &self,
         duration: Duration,
@@ -101,12 +91,9 @@ impl<C: Counter + Drop> TimerFd<C> {
         self.handle.timers.arm(index, due, interval, rt)
     }
 
-    /// Takes how often the timer has expired since the last such call, or since it was armed, up to the time that the poller's
-    /// last wait, or a look at a timer, has told; where it hadn't expired by then, up to now. Later expirations come with the
-    /// next call, and with one event more. It never waits for an expiration.
-    ///
-    /// `EAGAIN`: it has not. The clock is read where no expiration was told before: its error is answered as in
-    /// [`reset`](TimerFd::reset).
+    /// Takes the number of expirations since the last such call, or since it was armed, up to the time last told, by a wait of the
+    /// poller or a look at a timer; if there is none by then, up to now, by the clock. Later ones come with the next call, and one
+    /// event more. It never waits for one. The clock's error as in [`reset`](TimerFd::reset); then `EAGAIN`: it hasn't expired.
     pub fn wait<R: Wait + Clock>(&self, rt: &R) -> Result<u64, Errno>
         ensures some { IfOk result (λ expirations. 0 < expirations) }
     {
@@ -122,7 +109,7 @@ impl<C: Counter + Drop> TimerFd<C> {
         state.timers.take_expirations(index).ok_or(Errno::EAGAIN)
     }
 
-    /// Whether the timer is due at some time to come. The clock's error is answered as in [`reset`](TimerFd::reset).
+    /// Whether the timer is due at some time to come. The clock's error is returned as in [`reset`](TimerFd::reset).
     pub fn is_armed<R: Wait + Clock>(&self, rt: &R) -> Result<bool, Errno> {
         let now = clock::now(rt)?;
         let mut state = self.handle.timers.state.lock(rt);

@@ -14,12 +14,10 @@ use vmm_sys::epoll::{ControlOperation, EpollEvent, EventSet, RawFd};
 use vmm_sys::errno::Errno;
 use vmm_sys::table::Table;
 
-/// Timers, each named by a number from 0 up, and a list of interests in them. A timer is ready for `IN` while it has expirations
-/// that weren't taken, and for nothing else.
+/// Timers by index, and interests in them. A timer is ready while it has expirations to take: for `IN`, and nothing else.
 #[derive(Drop)]
 pub struct TimerTable {
     timers: Timers,
-    // Each timer is a line of it.
     table: Table,
 }
 
@@ -34,7 +32,7 @@ impl Model for TimerTable {
 }
 
 impl TimerTable {
-    /// No timers, at time 0.
+    /// A table without timers, at time 0.
     pub fn new(alloc: Global) -> Self
         ensures { result ≡ record { told = record { time = 0; timers = [] }; interests = [] } }
     {
@@ -44,10 +42,8 @@ impl TimerTable {
         }
     }
 
-    /// Opens a timer, disarmed and without an interest, and answers its index: the lowest of a closed one, or else how many there
-    /// were before.
-    ///
-    /// `EMFILE`: 2147483648 are open. `ENOMEM`: memory was refused. Then the timers are as they were.
+    /// Opens a timer, disarmed and without an interest, and returns its index: the lowest of a closed one, else the number of
+    /// timers before. `EMFILE`: 2147483648 are open. `ENOMEM`: memory was refused. Then the timers are as they were.
     pub fn add(&mut self) -> Result<usize, Errno>
         ensures added { IfOk result (λ index. IsOpened (first_closed (table_of self.old)) self.old.told index self.new.told × (self.new ≡ with_told self.old self.new.told)) }
         ensures few { IfOk result (λ index. index < 2 ^ 31) }
@@ -60,7 +56,7 @@ impl TimerTable {
             Ok(number) => {
                 let index = number as usize;
                 if index != last {
-                    // That of a closed timer is given again.
+                    // The index of a closed timer is given again.
                     self.timers.remove_last();
                     self.timers.open(index);
                 }
@@ -73,9 +69,7 @@ impl TimerTable {
         }
     }
 
-    /// Closes the timer of this index, with its interest. Its index is given again. No memory is requested.
-    ///
-    /// `EBADF`: none is open.
+    /// Closes the timer of this index, with its interest. Its index is given again. No memory is requested. `EBADF`: none is open.
     pub fn close(&mut self, index: usize) -> Result<(), Errno>
         ensures { Closes (close_of (table_of self.old) (pos index)) index self.old result self.new }
     {
@@ -88,7 +82,7 @@ impl TimerTable {
         Ok(())
     }
 
-    /// How many there are.
+    /// The number of timers, closed ones included.
     pub fn len(&self) -> usize
         ensures { result ≡ length self.now.told.timers }
     {
@@ -102,7 +96,7 @@ impl TimerTable {
         self.timers.time()
     }
 
-    /// Whether the timer is due at some time; not, where there is no such timer.
+    /// Whether the timer is due at some time; false where there is no such timer.
     pub fn is_armed(&self, index: usize) -> bool
         ensures { result ≡ is_some (timer_at self.now.told.timers index).due }
     {
@@ -121,7 +115,6 @@ impl TimerTable {
     {
         match RawFd::try_from(index) {
             Ok(number) => self.table.ctl(op, number, event),
-            // No line has such a number.
             Err(_) => self.table.ctl(op, -1, event),
         }
     }
@@ -169,7 +162,6 @@ impl TimerTable {
         }
     }
 
-    // One of the timers that are due up to now expires, and is ready.
     fn expire_next(&mut self, now: u64) -> Option<usize>
         ensures interests { self.new.interests ≡ self.old.interests }
         ensures expired { MatchOption result (NoneIsDue now self.old.told self.new.told) (λ index. HasExpired now self.old.told index self.new.told) }
@@ -186,8 +178,7 @@ impl TimerTable {
         self.table.has_ready()
     }
 
-    /// Writes the entries of ready timers into the front of the buffer, as many as find room, and answers their number, as
-    /// [`Table::wait`] does; 0, where there is no room.
+    /// Reports ready timers as [`Table::wait`] does, and returns their number; 0 where the buffer is empty.
     pub fn report(&mut self, buffer: &mut [EpollEvent]) -> usize
         ensures count { result ≡ length (reported_entries (wait_of (table_of self.old) (length buffer.old))) }
         ensures entries { buffer.new ≡ filled (wait_of (table_of self.old) (length buffer.old)) buffer.old }
@@ -198,7 +189,6 @@ impl TimerTable {
     }
 }
 
-// The timer of this index is ready for `IN`, or for nothing; where none is open, nothing changes.
 fn set_ready(table: &mut Table, index: usize, ready: bool)
     requires lines { AreLines table.old.sources }
     requires few { length table.old.sources ≤ 2 ^ 31 }

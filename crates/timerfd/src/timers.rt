@@ -10,9 +10,8 @@ use crate::timer::Timer;
 use std::alloc::{AllocError, Global};
 use std::marker::Model;
 
-/// Timers, each named by its index, and the time that they were told last. Times are in nanoseconds.
-///
-/// The times at which they are due stand in a tree, whose room is made by [`Timers::add`]: nothing else takes memory.
+/// Timers, each named by its index, and the time that they were told last. Times are in nanoseconds. The due times are in a tree,
+/// whose room is made by [`Timers::add`]: nothing else takes memory.
 #[derive(Drop)]
 pub struct Timers {
     timers: Vec<Timer>,
@@ -32,7 +31,7 @@ impl Model for Timers {
 }
 
 impl Timers {
-    /// No timers, at time 0.
+    /// No timers yet, at time 0.
     pub fn new(alloc: Global) -> Self
         ensures { result ≡ record { time = 0; timers = [] } }
     {
@@ -43,8 +42,7 @@ impl Timers {
         }
     }
 
-    /// Adds a timer, disarmed, and answers the index by which it is named from now on: how many there were before. Refused for want
-    /// of memory; then the timers are as they were.
+    /// Adds a disarmed timer and returns its index: the number of timers before. Refused where memory is; then nothing changes.
     pub fn add(&mut self) -> Result<usize, AllocError>
         ensures index { IfOk result (λ index. index ≡ length self.old.timers) }
         ensures timers { self.new ≡ if is_ok result then record self.old { timers = self.old.timers ++ disarmed ∷ [] } else self.old }
@@ -57,7 +55,7 @@ impl Timers {
         Ok(index)
     }
 
-    /// Takes the last timer away; where there is none, nothing changes.
+    /// Removes the last timer; where there is none, nothing changes.
     pub fn remove_last(&mut self)
         ensures { self.new ≡ record self.old { timers = take (length self.old.timers - 1) self.old.timers } }
     {
@@ -67,7 +65,7 @@ impl Timers {
         }
     }
 
-    /// How many there are.
+    /// The number of timers, closed ones included.
     pub fn len(&self) -> usize
         ensures { result ≡ length self.now.timers }
     {
@@ -81,7 +79,7 @@ impl Timers {
         self.time
     }
 
-    /// The timer of this index; a disarmed one, where there is none.
+    /// The timer of this index; a disarmed one where there is none.
     pub fn timer(&self, index: usize) -> Timer
         ensures { result ≡ timer_at self.now.timers index }
     {
@@ -92,18 +90,15 @@ impl Timers {
         }
     }
 
-    /// Whether the timer is due at some time; not, where there is no such timer.
+    /// Whether the timer is due at some time; false where there is no such timer.
     pub fn is_armed(&self, index: usize) -> bool
         ensures { result ≡ is_some (timer_at self.now.timers index).due }
     {
         self.timer(index).due.is_some()
     }
 
-    /// The timer is due at this time, and from then on after each interval; at this time alone where the interval is 0. Where this
-    /// time is past, the timer expires once a time is told. Its expirations are dropped. Where no timer of this index is open,
-    /// nothing changes.
-    ///
-    /// It takes as long as the logarithm of how many timers there are.
+    /// Arms the timer, in time logarithmic in their number: due at `due`, and then after each interval, or once where that is 0. If
+    /// `due` is past, it expires once a time is told. Its expirations are dropped. A timer that isn't open stays as it is.
     pub fn arm(&mut self, index: usize, due: u64, interval: u64)
         ensures { self.new ≡ with_timer self.old index (armed due interval (timer_at self.old.timers index)) }
     {
@@ -111,9 +106,7 @@ impl Timers {
         self.replace(index, timer);
     }
 
-    /// The timer isn't due any more. Its expirations are dropped. Where no timer of this index is open, nothing changes.
-    ///
-    /// It takes as long as the logarithm of how many timers there are.
+    /// Disarms the timer, in logarithmic time. Its expirations are dropped. Nothing changes where no timer of this index is open.
     pub fn disarm(&mut self, index: usize)
         ensures { self.new ≡ with_timer self.old index (stopped (timer_at self.old.timers index)) }
     {
@@ -135,9 +128,8 @@ impl Timers {
         self.replace(index, Timer::CLOSED);
     }
 
-    /// How often the timer has expired since they were last taken, or it was armed or disarmed; none, where it hasn't, and where
-    /// there is no such timer. From then on it has none to take; it stays armed, or disarmed. 18446744073709551615 stands for more,
-    /// too.
+    /// Takes the number of expirations since they were last taken, or it was armed or disarmed; `None` where it hasn't expired, or
+    /// there is no such timer. It stays armed, or disarmed. 18446744073709551615 stands for more, too.
     pub fn take_expirations(&mut self, index: usize) -> Option<u64>
         ensures expirations { let t = timer_at self.old.timers index in result ≡ if t.expirations == 0 then None else Some t.expirations }
         ensures timers { let t = timer_at self.old.timers index in self.new ≡ with_timer self.old index (record t { expirations = 0 }) }
@@ -166,10 +158,8 @@ impl Timers {
         self.dues.first()
     }
 
-    /// Tells the time: each timer that is due up to now has expired. The others are as they were, and a time before the one that
-    /// was told last changes nothing.
-    ///
-    /// For each timer that is due it takes as long as the logarithm of how many there are, and no time for the others.
+    /// Tells the time: each timer that is due up to now has expired, the others are as they were. A time before the last one told
+    /// changes nothing. Each timer that is due takes time logarithmic in the number of timers, the others none.
     pub fn set_time(&mut self, now: u64)
         ensures { self.new ≡ told now self.old }
     {
@@ -185,9 +175,7 @@ impl Timers {
         while let Some(_index) = self.expire_next(now) {}
     }
 
-    /// One of the timers that are due up to now expires: the answer is its index. `None`, and nothing changes, where none is due.
-    ///
-    /// It takes as long as the logarithm of how many timers there are.
+    /// Lets one of the timers due up to now expire, in logarithmic time, and returns its index; `None` where none is due.
     pub fn expire_next(&mut self, now: u64) -> Option<usize>
         ensures { MatchOption result (NoneIsDue now self.old self.new) (λ index. HasExpired now self.old index self.new) }
     {
@@ -197,7 +185,6 @@ impl Timers {
         Some(index)
     }
 
-    // Puts this timer in place of that of the index, if there is one.
     fn replace(&mut self, index: usize, timer: Timer)
         ensures { self.new ≡ with_timer self.old index timer }
     {

@@ -17,24 +17,22 @@ pub trait Bell {
     /// Which answers a ring may give.
     ghost rings: { Self → Result (Unit {0}) Errno → Type 0 };
 
-    /// Rings once: what waits on its other side is woken, or finds it rung once it looks.
+    /// Rings once: who waits on the other side is woken, or finds it rung at the next look.
     fn ring<R: Wait + Clock>(&self, rt: &R) -> std::result::Result<(), Errno>
         ensures { rings self.now result };
 }
 
-/// A bell with a descriptor: ready for `IN` from a ring on, until it is cleared.
-///
-/// Linux's `eventfd` is one, and an [`EventFd`] of a table. Of a counter of your own a ring and a clear are each one step,
-/// whatever threads make them, and neither waits for the other.
+/// A bell with a descriptor: ready for `IN` from a ring on, until it is cleared. Linux's `eventfd` and an [`EventFd`] are such. In
+/// a counter of your own ring and clear must each be one step, whatever threads call them, and neither may wait for the other.
 pub trait Counter: AsRawFd + Bell {
     /// Which answers a clear may give.
     ghost clears: { Self → Result ℕ Errno → Type 0 };
 
-    /// Takes the value, how often it was rung, so that it isn't ready until the next ring.
+    /// Takes the value (how often it was rung, where only rings change it), so that it isn't ready until the next ring.
     fn clear<R: Wait + Clock>(&self, rt: &R) -> std::result::Result<u64, Errno>
         ensures { clears self.now result };
 
-    /// Gives this handle up: by its drop, where the type has no other way.
+    /// Gives this handle up; by default by its drop.
     fn close<R: Wait>(self, _rt: &R)
     where
         Self: Sized + Drop,

@@ -1,4 +1,4 @@
-//! What the handles of a descriptor share. As an open file description of Linux it lasts until the last handle is closed.
+//! What the handles of a descriptor share. Like an open file description of Linux it lasts until the last handle is closed.
 
 ghost use Rattle.std.specs.Prelude.{◌≡◌, ◌≤ℤ◌, pos, IfOk, IsOkUnless};
 ghost use Rattle.std.specs.Arc.{arc_value};
@@ -9,7 +9,6 @@ use crate::shared_table::TableOwner;
 use std::alloc::Global;
 use std::sync::{Arc, Wait};
 
-/// A descriptor of a shared table.
 #[derive(Drop)]
 pub(crate) struct Description {
     pub(crate) table: TableOwner,
@@ -17,10 +16,9 @@ pub(crate) struct Description {
     ghost from_0_up: { pos 0 ≤ℤ fd },
 }
 
-/// One of the handles on a description.
 pub(crate) type Handle = Arc<Description, Global>;
 
-/// The first handle on what was opened. `ENOMEM`: memory was refused; then it is closed.
+/// The first handle on what was opened, which is closed where memory is refused.
 pub(crate) fn first_handle<R: Wait>(table: TableOwner, fd: RawFd, rt: &R) -> Result<Handle, Errno>
     requires { pos 0 ≤ℤ fd }
     ensures descriptor { IfOk result (λ handle. (arc_value handle).fd ≡ fd) }

@@ -1,4 +1,4 @@
-//! Descriptors, and what has one; [`epoll`](crate::epoll) hands them out.
+//! Descriptors, and what has one; [`epoll`](crate::epoll) re-exports them.
 
 ghost use Rattle.std.specs.Prelude.{◌≡◌, ◌≤ℤ◌, pos, ℤ};
 ghost use Rattle.std.specs.Arc.{arc_value};
@@ -24,7 +24,6 @@ pub trait AsRawFd {
         ensures from_0_up { pos 0 ≤ℤ result };
 }
 
-/// That of what is referred to.
 impl<T: AsRawFd> AsRawFd for &T {
     ghost descriptor = { λ v. T.descriptor v.now };
 
@@ -33,7 +32,6 @@ impl<T: AsRawFd> AsRawFd for &T {
     }
 }
 
-/// That of what is shared.
 impl<T: AsRawFd> AsRawFd for Arc<T> {
     ghost descriptor = { λ v. T.descriptor (arc_value v) };
 
@@ -42,7 +40,6 @@ impl<T: AsRawFd> AsRawFd for Arc<T> {
     }
 }
 
-/// That of what is shared.
 impl<T: AsRawFd> AsRawFd for Rc<T> {
     ghost descriptor = { λ v. T.descriptor v.value };
 
@@ -51,7 +48,6 @@ impl<T: AsRawFd> AsRawFd for Rc<T> {
     }
 }
 
-/// That of what is in the box.
 impl<T: AsRawFd> AsRawFd for Box<T> {
     ghost descriptor = { λ v. T.descriptor v.value };
 
@@ -68,7 +64,7 @@ fn from_0_up(fd: RawFd) -> RawFd
     if fd < 0 { RawFd::MAX } else { fd }
 }
 
-/// Its number. One that is negative, which `unsafe` code alone can make, shows as 2147483647, which a poller refuses.
+/// A negative number, which only `unsafe` code can make, shows as 2147483647, which a poller refuses.
 impl AsRawFd for OwnedFd {
     ghost use Rattle.std.specs.Fd.{owned_raw_fd};
 
@@ -79,7 +75,7 @@ impl AsRawFd for OwnedFd {
     }
 }
 
-/// That of its [`OwnedFd`]. Linux's epoll refuses a plain file with `EPERM`.
+/// As of [`OwnedFd`]. Linux's epoll refuses a plain file with `EPERM`.
 impl AsRawFd for File {
     ghost use Rattle.std.specs.Fd.{file_raw_fd};
 
@@ -90,7 +86,6 @@ impl AsRawFd for File {
     }
 }
 
-/// 0.
 impl AsRawFd for Stdin {
     ghost descriptor = { λ _. pos 0 };
 

@@ -1,23 +1,22 @@
-//! What a poller is given and what it reports; [`epoll`](crate::epoll) hands it out.
+//! What a poller is given and what it reports; [`epoll`](crate::epoll) re-exports it.
 
 ghost use Rattle.std.specs.Prelude.{◌≡◌};
 
 use crate::descriptors::RawFd;
 use crate::event_set::EventSet;
 
-/// What is done to an interest list.
+/// A change of an interest list.
 #[derive(Clone, Copy, PartialEq, Eq, Debug)]
 pub enum ControlOperation {
-    /// An interest is put in.
+    /// Adds an interest.
     Add,
-    /// The wanted set and the word of an interest are replaced.
+    /// Replaces the wanted set and the word of an interest.
     Modify,
-    /// An interest is taken out.
+    /// Removes an interest.
     Delete,
 }
 
-/// An entry of a report, or what is wanted of a descriptor: a set of events, and a word of the
-/// caller's own.
+/// What is wanted of a descriptor, or an entry of a report: a set of events, and a word of the caller's own.
 #[derive(Clone, Copy, PartialEq, Eq, Debug)]
 pub struct EpollEvent {
     set: EventSet,
@@ -56,8 +55,7 @@ impl EpollEvent {
         self.word
     }
 
-    /// The low 32 bits of the word read as a signed number: the descriptor, where the word was
-    /// packed with one.
+    /// The low 32 bits of the word as a signed number: the descriptor, where the word was packed with one.
     pub fn fd(&self) -> RawFd
         ensures { result ≡ fd_of self.now }
     {

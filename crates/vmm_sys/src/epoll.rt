@@ -1,4 +1,4 @@
-//! The poller over a shared table. What a poller is given and what it reports is handed out here too, as in `vmm-sys-util`.
+//! The poller over a shared table. It re-exports what a poller takes and reports, as `vmm-sys-util` does.
 
 ghost use Rattle.std.specs.Prelude.{◌≡◌, ◌↔◌, ◌<ℤ◌, ◌*ℤ◌, pos, IsNone, IfSome, IsOkUnless};
 ghost use Rattle.std.specs.Duration.{as_nanos};
@@ -16,12 +16,9 @@ use std::alloc::Global;
 use std::sync::Wait;
 use std::time::{Clock, Duration};
 
-/// A poller over a [`Table`](crate::table::Table) that others share: other `Epoll`s,
-/// [`EventFd`](crate::eventfd::EventFd)s and [`Line`](crate::line::Line)s, on this thread and on
-/// others.
-///
-/// It keeps a handle of its maker's: its calls may wait for the table's lock. Each call is one step
-/// of the table, with the table's refusals; a wait is one or more.
+/// A poller over a [`Table`](crate::table::Table) that others share: other `Epoll`s, [`EventFd`](crate::eventfd::EventFd)s and
+/// [`Line`](crate::line::Line)s, on this thread and on others. It keeps the handle `rt` it was made with, as its calls may wait for
+/// the table's lock. Each call is one step of the table, with the table's refusals; a wait is one or more.
 #[derive(Drop)]
 pub struct Epoll<R> {
     pub(crate) table: TableOwner,
@@ -37,8 +34,7 @@ impl<R: Wait + Clock + Clone + Send + Drop> Epoll<R> {
         Ok(Epoll { table, rt })
     }
 
-    /// A poller over the same table: each of them reports what is ready there, also what was added by the other. `ENOMEM`:
-    /// one more owner of the table, or a copy of the handle, was refused.
+    /// Another poller over the same table and interest list. `ENOMEM`: one more owner of the table, or a copy of `rt`, was refused.
     pub fn try_clone(&self) -> Result<Epoll<R>, Errno>
         ensures { IsOkUnless result Errno.ENOMEM }
     {
@@ -50,7 +46,6 @@ impl<R: Wait + Clock + Clone + Send + Drop> Epoll<R> {
     }
 }
 
-// How long a wait of so many milliseconds lasts at most: for ever where they are negative.
 fn limit_of(ms: i32) -> Option<Duration>
     ensures for_ever { IsNone result ↔ ms <ℤ pos 0 }
     ensures time { IfSome result (λ limit. pos (as_nanos limit) ≡ ms *ℤ pos 1_000_000) }
@@ -74,12 +69,9 @@ impl<R: Wait + Clock + Clone + Send + Drop> Poller for Epoll<R> {
         self.table.ctl(op, fd, event, &self.rt)
     }
 
-    /// As [`Table::wait`](crate::table::Table::wait), tried until something is ready where `ms` is
-    /// negative, and once where it is 0.
-    ///
-    /// Else it is tried, and where nothing is ready tried once more: after so many milliseconds, or
-    /// once it is told of a change or interrupted by a signal, so 0 may be answered early. `EINVAL`,
-    /// at once: the buffer has no room.
+    /// As [`Table::wait`](crate::table::Table::wait), tried until something is ready where `ms` is negative, and once where it is
+    /// 0. Otherwise it is tried once, and where nothing is ready once more: after `ms` milliseconds, or once it is notified of a
+    /// change or interrupted by a signal, so it may return 0 early. `EINVAL`, at once: the buffer has no room.
     fn wait(&mut self, ms: i32, buffer: &mut [EpollEvent]) -> Result<usize, Errno> {
         match limit_of(ms) {
             Some(limit) => self.table.wait_at_most(limit, buffer, &self.rt),

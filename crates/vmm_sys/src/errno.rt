@@ -5,9 +5,7 @@ ghost use Rattle.std.specs.Fmt.{signed_decimal};
 
 use std::fmt;
 
-/// An error number of Linux. It prints as `os error N`, N in decimal with a `-` below 0.
-///
-/// Any number may be held: a caller's own poller answers what it likes.
+/// An error number of Linux. Prints as `os error N`, N in decimal, with a `-` below 0. A caller's own poller may return any number.
 #[derive(Clone, Copy, PartialEq, Eq, Debug)]
 pub struct Errno(pub i32);
 

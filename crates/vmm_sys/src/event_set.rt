@@ -9,10 +9,9 @@ mod operators;
 
 use bitflags::{Flag, Flags};
 
-/// A set of events and of modes, as `epoll` numbers them.
-///
-/// Ten bits have names. Others come only through [`EventSet::from_bits_retain`], and are kept. `|`, `&`, `-` and `^` are
-/// union, intersection, difference and symmetric difference; `!` gives the named bits that are not in a set.
+/// A set of events and of modes, as `epoll` numbers them. Ten bits have names; others come only through
+/// [`EventSet::from_bits_retain`], and are kept. `|`, `&`, `-` and `^` are union, intersection, difference and symmetric
+/// difference; `!` gives the named bits that are not in a set.
 #[derive(Clone, Copy, PartialEq, Eq, Debug)]
 pub struct EventSet(u32);
 

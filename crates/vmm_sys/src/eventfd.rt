@@ -9,17 +9,12 @@ use crate::errno::Errno;
 use crate::shared_table::another_owner;
 use std::sync::Wait;
 
-/// A counter in the table of an [`Epoll`], with values from 0 to 18446744073709551614.
+/// A counter in the table of an [`Epoll`], with values from 0 to 18446744073709551614. It stands in for Linux's `eventfd`, and
+/// never waits for its value. Each call is one step of the table, under its lock.
 ///
-/// It stands in for Linux's `eventfd`, and never waits for its value. Each call is one step of the
-/// table, under its lock.
-///
-/// Its descriptor is a number of this table: a poller over another table takes it for its own
-/// descriptor of that number.
-///
-/// It is closed where the last of its handles, the copies among them, ends by
-/// [`close`](EventFd::close). Where that one is only dropped it stays open: if it is registered it is
-/// still reported, and its number and its memory never come back.
+/// Its descriptor is a number of this table: a poller over another table takes it for its own descriptor of that number. It is
+/// closed when the last of its handles, copies included, ends by [`close`](EventFd::close). Where that one is only dropped it stays
+/// open: if it is registered it is still reported, and its number and its memory never come back.
 #[derive(Drop)]
 pub struct EventFd {
     handle: Handle,
@@ -30,10 +25,10 @@ impl EventFd {
     ghost use Rattle.vmm_sys.specs.Table.{write_of, read_of};
     ghost use Rattle.vmm_sys.specs.EventFd.{descriptor_of, IsOpeningError};
 
-    /// Opens a counter of this value: a number, and not flags as in `vmm-sys-util`.
+    /// Opens a counter of this value: a number, not flags as in `vmm-sys-util`. A refused call opens nothing.
     ///
-    /// `EINVAL`: the value is 18446744073709551615. `EMFILE`: 2147483648 are open in the table.
-    /// `ENOMEM`: memory, or one more owner of the table, was refused. A refused call opens nothing.
+    /// `ENOMEM`: one more owner of the table, which is asked for first, or memory was refused. `EINVAL`: the value is
+    /// 18446744073709551615. `EMFILE`: 2147483648 are open in the table.
     pub fn new<R: Wait>(epoll: &Epoll<R>, value: u64, rt: &R) -> Result<EventFd, Errno>
         ensures too_high { value ≡ 18446744073709551615 → IsErr result }
         ensures errors { IfErr result (IsOpeningError value) }
@@ -53,9 +48,8 @@ impl EventFd {
         Ok(EventFd { handle })
     }
 
-    /// Gives this handle up. With the last handle on a counter its descriptor is closed, as
-    /// [`Table::close`](crate::table::Table::close) does it: its interest is gone, and its number may
-    /// be given to what is opened next. So remove a counter from a manager before you close it.
+    /// Gives this handle up. A counter's last handle closes its descriptor, as [`Table::close`](crate::table::Table::close) does:
+    /// its interest is gone, and what is opened next may get its number. So remove a counter from a manager before you close it.
     pub fn close<R: Wait>(self, rt: &R) {
         description::close(self.handle, rt);
     }
@@ -67,10 +61,8 @@ impl EventFd {
         self.handle.table.read(self.handle.fd, rt)
     }
 
-    /// Adds to the value; `value` may be 0.
-    ///
-    /// `EINVAL`: `value` is 18446744073709551615. `EAGAIN`: the sum is above 18446744073709551614.
-    /// A refusal leaves the value.
+    /// Adds to the value; `value` may be 0, and a refusal adds nothing. `EINVAL`: `value` is 18446744073709551615. `EAGAIN`: the
+    /// sum is above 18446744073709551614.
     pub fn write<R: Wait>(&self, value: u64, rt: &R) -> Result<(), Errno>
         ensures { AnswersOfSome (λ t. write_of t (descriptor_of self.now) value) result }
     {

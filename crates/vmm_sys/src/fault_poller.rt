@@ -10,11 +10,8 @@ use crate::poller::Poller;
 use crate::script_poller::ScriptPoller;
 use std::marker::Model;
 
-/// A [`ScriptPoller`] of which one call is refused, whichever it is, to try what stands on a poller; it is no poller of
-/// the system's.
-///
-/// Its calls of `ctl` and `wait` are counted together from 1. The count stops at 18446744073709551615, which then is
-/// the number of each further call.
+/// A [`ScriptPoller`] of which one call of your choice is refused, to test what uses a poller; it is no poller of the system's. Its
+/// calls of `ctl` and `wait` are counted together from 1, up to 18446744073709551615, the number of each further call.
 #[derive(Drop)]
 pub struct FaultPoller {
     inner: ScriptPoller,
@@ -32,8 +29,7 @@ impl Model for FaultPoller {
 }
 
 impl FaultPoller {
-    /// Refuses call number `at` with `errno`, without asking `inner`, and does what `inner` does on all others. With
-    /// `at` 0 no call is refused.
+    /// Refuses call number `at` with `errno`, without asking `inner`, which answers all others. With `at` 0 no call is refused.
     pub fn new(inner: ScriptPoller, at: u64, errno: Errno) -> FaultPoller
         ensures { result ≡ record { script = inner; at = at; errno = errno; calls = 0 } }
     {
@@ -45,7 +41,6 @@ impl FaultPoller {
         }
     }
 
-    // Counts a call, and tells whether it is the refused one.
     fn count(&mut self) -> bool
         ensures refused { result ≡ is_refused self.old }
         ensures counted { self.new ≡ counted self.old }
@@ -62,7 +57,7 @@ impl Poller for FaultPoller {
 
     ghost may_wait = { MayWait };
 
-    /// Answers as the script does, or the one refusal, which leaves the script as it is.
+    /// Answers as the script does, or with the one refusal, which leaves the script as it is.
     fn ctl(&mut self, op: ControlOperation, fd: RawFd, _event: EpollEvent) -> Result<(), Errno> {
         if self.count() {
             return Err(self.errno);
@@ -70,8 +65,7 @@ impl Poller for FaultPoller {
         self.inner.strike_refusal(op, fd)
     }
 
-    /// Reports as the script does, or answers the one refusal, which leaves the script as it is. A wait whose buffer
-    /// has no room counts too.
+    /// As the script does, or with the one refusal, which leaves the script as it is. A wait whose buffer has no room counts too.
     fn wait(&mut self, _ms: i32, buffer: &mut [EpollEvent]) -> Result<usize, Errno> {
         if self.count() {
             return Err(self.errno);

@@ -5,7 +5,7 @@ ghost use Rattle.std.specs.Prelude.{◌≡◌, ◌≤ℤ◌, ◌↔◌, pos, IsO
 use crate::descriptors::{AsRawFd, RawFd};
 use crate::errno::Errno;
 
-/// A number of a descriptor, which somebody else keeps open: of a socket or a pipe of std's, or of what a system call gave.
+/// The number of a descriptor that somebody else keeps open: of a socket or a pipe of std's, or of what a system call gave.
 #[derive(Clone, Copy, PartialEq, Eq, Debug)]
 pub struct Fd {
     fd: RawFd,
@@ -15,7 +15,7 @@ pub struct Fd {
 impl Fd {
     ghost use Rattle.vmm_sys.specs.Fd.{fd_of};
 
-    /// This number. `EBADF`: it is negative.
+    /// A descriptor by this number. `EBADF`: it is negative.
     pub fn new(fd: RawFd) -> Result<Fd, Errno>
         ensures agreed { IsOk result ↔ pos 0 ≤ℤ fd }
         ensures number { IfOk result (λ it. fd_of it ≡ fd) }
@@ -27,7 +27,7 @@ impl Fd {
         Ok(Fd { fd })
     }
 
-    /// The number of what has a descriptor of std's, as a `TcpStream` or a `PipeReader`. `EBADF`: it is negative.
+    /// The descriptor of something of std's, such as a `TcpStream` or a `PipeReader`. `EBADF`: its number is negative.
     pub fn of<T: std::os::fd::AsRawFd>(source: &T) -> Result<Fd, Errno>
         ensures agreed { IfSome (T.raw_fd source.now) (λ fd. IsOk result ↔ pos 0 ≤ℤ fd) }
         ensures number { IfOk result (λ it. IfSome (T.raw_fd source.now) (λ fd. fd_of it ≡ fd)) }
@@ -37,7 +37,6 @@ impl Fd {
     }
 }
 
-/// The number.
 impl AsRawFd for Fd {
     ghost use Rattle.vmm_sys.specs.Fd.{fd_of};
 

@@ -1,11 +1,8 @@
-//! Event sets, packed events and pollers: what an event loop needs of `vmm-sys-util`, without a
-//! kernel.
+//! Event sets, packed events and pollers: what an event loop needs of the Rust crate `vmm-sys-util`, without a kernel.
 //!
-//! A [`poller::Poller`] keeps an interest list and reports events. [`script_poller::ScriptPoller`]
-//! answers what it was told to, and [`fault_poller::FaultPoller`] too, but for one call that it
-//! refuses. [`table::Table`] keeps counters and lines of its own and an interest list in them;
-//! [`epoll::Epoll`] is such a table that threads share, with [`eventfd::EventFd`] and
-//! [`line::Line`] for its descriptors.
+//! A [`poller::Poller`] keeps an interest list and reports events. [`script_poller::ScriptPoller`] answers as it was told to, and
+//! so does [`fault_poller::FaultPoller`], except for one call that it refuses. [`table::Table`] keeps counters, lines and an
+//! interest list in them; [`epoll::Epoll`] is such a table that threads share, with [`eventfd::EventFd`]s and [`line::Line`]s.
 #![tactic(auto)]
 
 pub mod counter;

@@ -10,11 +10,8 @@ use crate::event_set::EventSet;
 use crate::shared_table::another_owner;
 use std::sync::Wait;
 
-/// A descriptor in the table of an [`Epoll`] whose state is set; it stands in for a socket or a
-/// pipe.
-///
-/// Each call is one step of the table, under its lock. Of its descriptor, and of a line that is
-/// dropped, holds what is said of an [`EventFd`](crate::eventfd::EventFd).
+/// A descriptor in the table of an [`Epoll`] whose state is set; it stands in for a socket or a pipe. Each call is one step of the
+/// table, under its lock. Its descriptor, its close and its drop are as those of an [`EventFd`](crate::eventfd::EventFd).
 #[derive(Drop)]
 pub struct Line {
     handle: Handle,
@@ -25,10 +22,7 @@ impl Line {
     ghost use Rattle.vmm_sys.specs.Table.{set_line_of};
     ghost use Rattle.vmm_sys.specs.Line.{descriptor_of, IsOpeningError};
 
-    /// Opens a line with the empty set.
-    ///
-    /// `EMFILE`: 2147483648 are open in the table. `ENOMEM`: memory, or one more owner of the
-    /// table, was refused. A refused call opens nothing.
+    /// Opens a line with the empty set. Refused as [`EventFd::new`](crate::eventfd::EventFd::new), but never with `EINVAL`.
     pub fn new<R: Wait>(epoll: &Epoll<R>, rt: &R) -> Result<Line, Errno>
         ensures { IfErr result IsOpeningError }
     {
@@ -52,8 +46,7 @@ impl Line {
         description::close(self.handle, rt);
     }
 
-    /// Sets the state. The table's one refusal, `EBADF` for what is no line, is never met by the
-    /// descriptor of a line.
+    /// Sets the state. The table refuses what is no open line with `EBADF`; the descriptor of a `Line` always is one.
     pub fn set<R: Wait>(&self, set: EventSet, rt: &R) -> Result<(), Errno>
         ensures { AnswersOfSome (λ t. set_line_of t (descriptor_of self.now) set) result }
     {

@@ -11,7 +11,7 @@ use std::alloc::Global;
 use std::collections::VecDeque;
 use std::marker::Model;
 
-/// What is to be answered to one operation on one descriptor.
+/// The error that one operation on one descriptor is to answer.
 #[derive(Clone, Copy)]
 pub struct Refusal {
     op: ControlOperation,
@@ -19,12 +19,9 @@ pub struct Refusal {
     errno: Errno,
 }
 
-/// A poller whose reports, faults and refusals are said beforehand; it is no poller of the
-/// system's.
-///
-/// Waits take the pushed reports and faults in the order of pushing. A `ctl` is refused once for
-/// each pushed refusal of its operation and descriptor, and else agreed. Time limits are without
-/// effect: no call waits.
+/// A poller whose reports, faults and refusals are given beforehand; it is no poller of the system's. Waits take the pushed reports
+/// and faults in the order of pushing. A `ctl` is refused once for each pushed refusal of its operation and descriptor, and
+/// otherwise agreed. Time limits have no effect: no call waits.
 #[derive(Drop)]
 pub struct ScriptPoller {
     answers: VecDeque<Result<Vec<EpollEvent>, Errno>>,
@@ -62,9 +59,7 @@ impl ScriptPoller {
         }
     }
 
-    /// Appends a report, of any length, to the answers of the waits to come.
-    ///
-    /// `ENOMEM`: memory was refused; the script is as it was, and the report is dropped.
+    /// Appends a report, of any length, to the answers of later waits. `ENOMEM`: memory was refused, and the report is dropped.
     pub fn push_report(&mut self, events: Vec<EpollEvent>) -> Result<(), Errno>
         ensures errors { IsOkUnless result Errno.ENOMEM }
         ensures pushed { OnOk result (self.new ≡ with_answer self.old (Ok events.items)) }
@@ -73,9 +68,7 @@ impl ScriptPoller {
         self.push(Ok(events))
     }
 
-    /// Appends an error to the answers of the waits to come.
-    ///
-    /// `ENOMEM`: memory was refused; the script is as it was.
+    /// Appends an error to the answers of later waits. `ENOMEM`: memory was refused.
     pub fn push_fault(&mut self, errno: Errno) -> Result<(), Errno>
         ensures errors { IsOkUnless result Errno.ENOMEM }
         ensures pushed { OnOk result (self.new ≡ with_answer self.old (Err errno)) }
@@ -84,10 +77,7 @@ impl ScriptPoller {
         self.push(Err(errno))
     }
 
-    /// Keeps a refusal: one `ctl` of this operation and descriptor is to answer `errno`, after
-    /// those pushed before.
-    ///
-    /// `ENOMEM`: memory was refused; the script is as it was.
+    /// Makes one `ctl` of this operation and descriptor answer `errno`, after those pushed before. `ENOMEM`: memory was refused.
     pub fn push_refusal(
         &mut self,
         op: ControlOperation,
@@ -113,7 +103,7 @@ impl ScriptPoller {
             .position(|r| same_operation(r.op, op) && r.fd == fd)
     }
 
-    // Strikes out and answers the first refusal of the operation and descriptor.
+    // Strikes out and returns the first refusal of the operation and descriptor.
     pub(crate) fn strike_refusal(&mut self, op: ControlOperation, fd: RawFd) -> Result<(), Errno>
         ensures answer { result ≡ ctl_answer self.old op fd }
         ensures after { self.new ≡ after_ctl self.old op fd }
@@ -124,7 +114,6 @@ impl ScriptPoller {
         }
     }
 
-    // Takes the next report or fault; what doesn't fit of a report stays the next one.
     pub(crate) fn take_answer(&mut self, buffer: &mut [EpollEvent]) -> Result<usize, Errno>
         ensures answer { result ≡ answered_count (next_answer self.old.answers (length buffer.old)) }
         ensures entries { let events = answered_entries (next_answer self.old.answers (length buffer.old)) in
@@ -155,16 +144,13 @@ impl Poller for ScriptPoller {
 
     ghost may_wait = { MayWait };
 
-    /// Answers the first kept refusal of this operation and descriptor, which is then used up.
-    /// Without one the answer is `Ok`.
+    /// Returns the first kept refusal of this operation and descriptor, which is then used up; without one, `Ok`.
     fn ctl(&mut self, op: ControlOperation, fd: RawFd, _event: EpollEvent) -> Result<(), Errno> {
         self.strike_refusal(op, fd)
     }
 
-    /// Gives the next report or fault. `EINVAL`: the buffer has no room, and the script stays.
-    ///
-    /// Of a report longer than the buffer the first events are given, and the others stay as the
-    /// next report. With nothing left the answer is `Ok(0)`.
+    /// Gives the next report or fault, and `Ok(0)` where none is left. Of a report longer than the buffer the first events are
+    /// given, and the others stay as the next report. `EINVAL`, which leaves the script as it is: the buffer has no room.
     fn wait(&mut self, _ms: i32, buffer: &mut [EpollEvent]) -> Result<usize, Errno> {
         self.take_answer(buffer)
     }
@@ -181,7 +167,6 @@ fn same_operation(a: ControlOperation, b: ControlOperation) -> bool
     }
 }
 
-// Copies as many events as there is room for.
 fn copy_front(events: &[EpollEvent], buffer: &mut [EpollEvent]) -> usize
     ensures count { result ≡ length (take (length buffer.old) events.now) }
     ensures buffer { buffer.new ≡ take (length buffer.old) events.now ++ drop result buffer.old }
@@ -191,7 +176,6 @@ fn copy_front(events: &[EpollEvent], buffer: &mut [EpollEvent]) -> usize
     count
 }
 
-// The events behind the first ones.
 fn behind(events: Vec<EpollEvent>, count: usize) -> Vec<EpollEvent>
     requires { count ≤ length events.items }
     ensures { result.items ≡ drop count events.items }

@@ -15,14 +15,13 @@ use std::alloc::Global;
 use std::sync::{Arc, Condvar, CondvarTimeouts, Mutex, Wait};
 use std::time::{Clock, Duration};
 
-/// A table under a lock, and the notice that it changed.
 pub(crate) struct SharedTable {
     table: Mutex<Table>,
     changed: Condvar,
     pub(crate) alloc: Global,
 }
 
-// Not derived: then who owns one has a call to prove, and not a drop of all that is in it.
+// Not derived, as that of `Table`.
 impl Drop for SharedTable {
     fn drop(self) {
         let SharedTable {
@@ -33,10 +32,8 @@ impl Drop for SharedTable {
     }
 }
 
-/// One of the owners of a table.
 pub(crate) type TableOwner = Arc<SharedTable, Global>;
 
-/// A table without descriptors, with its first owner. `ENOMEM`: memory was refused.
 pub(crate) fn new_table(alloc: Global) -> Result<TableOwner, Errno>
     ensures { IsOkUnless result Errno.ENOMEM }
 {
@@ -51,7 +48,6 @@ pub(crate) fn new_table(alloc: Global) -> Result<TableOwner, Errno>
     }
 }
 
-/// Another owner of the same. `ENOMEM`: the `Arc` refused a copy.
 pub(crate) fn another_owner<T>(owner: &Arc<T, Global>) -> Result<Arc<T, Global>, Errno>
     ensures same { IfOk result (λ other. arc_value other ≡ arc_value owner.now) }
     ensures errors { IsOkUnless result Errno.ENOMEM }
@@ -63,7 +59,7 @@ pub(crate) fn another_owner<T>(owner: &Arc<T, Global>) -> Result<Arc<T, Global>,
 }
 
 impl SharedTable {
-    // Wakes those who wait, where the step was agreed and so may have made something ready.
+    // Wakes all waiters after a call that succeeded, as it may have made something ready.
     fn tell<A>(&self, answer: &Result<A, Errno>) {
         if answer.is_ok() {
             self.changed.notify_all();
@@ -132,7 +128,7 @@ impl SharedTable {
         answer
     }
 
-    /// Tries until something is ready; sleeps until the table has changed in between.
+    /// Tries until something is ready, and between tries sleeps until the table has changed.
     pub(crate) fn wait_until_ready<R: Wait>(
         &self,
         buffer: &mut [EpollEvent],
@@ -153,8 +149,7 @@ impl SharedTable {
         unreachable!()
     }
 
-    /// Tries once; where nothing is ready and the limit is above 0, sleeps once, until the table
-    /// has changed or the time is over, and tries once more.
+    /// Tries once; where nothing is ready and `limit` is above 0, sleeps once, until a change or the end of the time, and retries.
     pub(crate) fn wait_at_most<R: Wait + Clock>(
         &self,
         limit: Duration,

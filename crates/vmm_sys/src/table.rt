@@ -27,7 +27,7 @@ use std::marker::Model;
 /// The highest value of a counter.
 const HIGHEST: u64 = 18446744073709551614;
 
-/// How many descriptors a table opens: their numbers are those of an `i32` from 0 up.
+/// The most descriptors of a table, numbered by an `i32` from 0 up.
 const DESCRIPTORS: usize = 2147483648;
 
 /// What a descriptor of a [`Table`] stands for; the contracts of the table speak of it.
@@ -35,7 +35,7 @@ const DESCRIPTORS: usize = 2147483648;
 pub enum Source {
     /// A number from 0 to 18446744073709551614 that is written to and read.
     Counter(u64),
-    /// A set of events that is set.
+    /// A set of events, which [`Table::set_line`] sets.
     Line(EventSet),
     /// Nothing: the number was closed.
     Closed,
@@ -75,31 +75,25 @@ impl Source {
     }
 }
 
-/// Descriptors, and a list of interests in them; it stands in for `epoll`.
+/// Descriptors, each a counter or a line, and a list of interests in them; it stands in for Linux's `epoll`.
 ///
-/// A descriptor is a counter or a line. Its number is the lowest that isn't open, as POSIX has it:
-/// so from 0 in the order of opening, as long as nothing is closed. The state of a counter is `IN`
-/// where its value is above 0 and `OUT` where it is below 18446744073709551614; that of a line is the
-/// set last given to [`Table::set_line`], at first the empty one. With a descriptor comes the room
-/// for its interest, which is found, moved and taken out without a look at the others, but that once
-/// in as many moves as there are descriptors all interests are moved together.
+/// A new descriptor has the lowest number, from 0 up, that isn't open, as in POSIX. A counter has `IN` where its value is above 0
+/// and `OUT` where it is below 18446744073709551614; a line has the set last given to [`Table::set_line`], at first the empty one.
+/// The room for a descriptor's interest comes with the descriptor. An interest is found, moved and removed without a look at the
+/// others, except that at most once in as many additions and moves as there are descriptors all interests are moved together.
 ///
-/// An interest is ready where its descriptor's state has something of what is wanted, or `ERROR` or
-/// `HANG_UP`: that is what is reported, with the interest's word. It is level-triggered, as Linux's
-/// `epoll` is without a mode: a ready interest is reported again until it isn't ready any more. No
-/// mode is offered.
-///
-/// A refused call leaves the table as it was. Where several refusals apply, the first of the call's
-/// list is answered.
+/// An interest is ready where its descriptor's state has a wanted event, `ERROR` or `HANG_UP`: these are reported, with the
+/// interest's word. It is level-triggered, as Linux's `epoll` is without a mode: a ready interest is reported again until it no
+/// longer is ready. No mode is offered. A refused call leaves the table as it was, and returns the first refusal of its list that
+/// applies.
 pub struct Table {
     sources: Vec<Source>,
-    // The numbers that are `Closed`.
     closed: NumberSet,
     interests: Interests,
     limit: usize,
 }
 
-// Not derived: then who owns one has a call to prove, and not a drop of all that is in it.
+// Not derived, so that an owner's proof meets one call, and not the drops of all fields.
 impl Drop for Table {
     fn drop(self) {
         let Table {
@@ -153,7 +147,6 @@ impl Table {
         self.open_next(source)
     }
 
-    // The lowest number that was closed.
     fn first_closed(&mut self) -> Option<usize>
         ensures same { self.new ≡ self.old }
         ensures first { result ≡ first_closed self.old }
@@ -162,7 +155,6 @@ impl Table {
         self.closed.first()
     }
 
-    // Opens a number that was closed.
     fn open_again(&mut self, number: usize, source: Source)
         requires closed { first_closed self.old ≡ Some number }
         requires value { HasAllowedValue source }
@@ -174,7 +166,6 @@ impl Table {
         self.closed.remove(number);
     }
 
-    // Opens the number behind all others.
     fn open_next(&mut self, source: Source) -> Result<RawFd, Errno>
         requires none { first_closed self.old ≡ None }
         requires value { HasAllowedValue source }
@@ -199,10 +190,8 @@ impl Table {
         Ok(number as RawFd)
     }
 
-    /// Opens a counter of this value; the answer is its descriptor.
-    ///
-    /// `EINVAL`: the value is 18446744073709551615. `EMFILE`: 2147483648 are open. `ENOMEM`: memory
-    /// was refused, of which none is requested where a number was closed.
+    /// Opens a counter of this value, and returns its descriptor. `EINVAL`: the value is 18446744073709551615. `EMFILE`: 2147483648
+    /// are open. `ENOMEM`: memory was refused; none is requested where a closed number can be used again.
     pub fn add_counter(&mut self, value: u64) -> Result<RawFd, Errno>
         ensures answer { AnswersWithMemory (add_counter_of self.old value) self.old result self.new }
         ensures again { IsSome (first_closed self.old) → Answers (add_counter_of self.old value) self.old result self.new }
@@ -213,9 +202,7 @@ impl Table {
         self.open(Source::Counter(value))
     }
 
-    /// Opens a line with the empty set; the answer is its descriptor.
-    ///
-    /// `EMFILE`, `ENOMEM`: as of [`Table::add_counter`].
+    /// Opens a line with the empty set, and returns its descriptor. `EMFILE`, `ENOMEM`: as of [`Table::add_counter`].
     pub fn add_line(&mut self) -> Result<RawFd, Errno>
         ensures answer { AnswersWithMemory (add_line_of self.old) self.old result self.new }
         ensures again { IsSome (first_closed self.old) → Answers (add_line_of self.old) self.old result self.new }
@@ -223,10 +210,8 @@ impl Table {
         self.open(Source::Line(EventSet::empty()))
     }
 
-    /// Closes a descriptor, and takes its interest out. What is opened next has its number, or a
-    /// lower one that isn't open. No memory is requested.
-    ///
-    /// `EBADF`: `fd` isn't open.
+    /// Closes a descriptor, and removes its interest. What is opened next has its number, or a lower one that isn't open. No memory
+    /// is requested. `EBADF`: `fd` isn't open.
     pub fn close(&mut self, fd: RawFd) -> Result<(), Errno>
         ensures reachable { IsReachable self.old }
         ensures answer { Answers (close_of self.old fd) self.old result self.new }
@@ -241,7 +226,6 @@ impl Table {
         Ok(())
     }
 
-    // Takes out the interest of a descriptor, where it has one.
     fn take_out(&mut self, number: usize)
         requires { number < length self.old.sources }
         ensures left { self.new ≡ record self.old { interests = without self.old.interests (place_in self.old number) } }
@@ -252,7 +236,6 @@ impl Table {
         }
     }
 
-    // Closes a descriptor without an interest.
     fn mark_closed(&mut self, number: usize)
         requires open { IsOpen self.old.sources number }
         requires without_interest { place_in self.old number ≡ None }
@@ -262,12 +245,10 @@ impl Table {
         self.closed.insert(number);
     }
 
-    /// Puts an interest in as the last one, changes it at its place, or takes it out. For `Delete`
-    /// the event is without effect.
+    /// Adds an interest as the last one, changes it in place, or removes it; `Delete` ignores the event. No memory is requested.
     ///
-    /// `EBADF`: `fd` isn't open. `EINVAL`: `Add` or `Modify` of an event with one of the four
-    /// modes. `EEXIST`: `Add` where `fd` has an interest. `ENOENT`: `Modify` or `Delete` where it
-    /// has none. No memory is requested.
+    /// `EBADF`: `fd` isn't open. `EINVAL`: `Add` or `Modify` of an event with one of the four modes. `EEXIST`: `Add` where `fd` has
+    /// an interest. `ENOENT`: `Modify` or `Delete` where it has none.
     #[inline(always)]
     pub fn ctl(&mut self, op: ControlOperation, fd: RawFd, event: EpollEvent) -> Result<(), Errno>
         ensures reachable { IsReachable self.old }
@@ -284,11 +265,9 @@ impl Table {
         self.change(op, Interest { descriptor, event })
     }
 
-    /// Reports the first ready interests, as many as the buffer has room for, and moves them to the
-    /// back in the order of the report.
-    ///
-    /// The answer is their number, which may be 0; entries of the buffer past it stay. Those that
-    /// aren't ready cost nothing, and no memory is requested. `EINVAL`: the buffer has no room.
+    /// Reports the first ready interests, as many as the buffer has room for, and moves them to the back in the order of the
+    /// report. Returns their number, which may be 0; entries of the buffer past it stay. Interests that aren't ready cost nothing
+    /// but the moves that [`Table`] names, and no memory is requested. `EINVAL`: the buffer has no room.
     pub fn wait(&mut self, buffer: &mut [EpollEvent]) -> Result<usize, Errno>
         ensures reachable { IsReachable self.old }
         ensures answer { Answers (counted (wait_of self.old (length buffer.old))) self.old result self.new }
@@ -303,7 +282,7 @@ impl Table {
         Ok(self.report_ready(buffer))
     }
 
-    /// Whether a wait would report something, at the cost of a few words. Ours, epoll has no such call.
+    /// Whether a wait would report something; it looks at marks, and at no interest. Ours: epoll has no such call.
     pub fn has_ready(&self) -> bool
         ensures { result ≡ is_some (find (is_ready self.now.sources) self.now.interests) }
     {
@@ -313,10 +292,8 @@ impl Table {
         }
     }
 
-    /// Adds to a counter; `value` may be 0.
-    ///
-    /// `EBADF`: `fd` is no counter. `EINVAL`: `value` is 18446744073709551615. `EAGAIN`: the sum is
-    /// above 18446744073709551614.
+    /// Adds to a counter; `value` may be 0. `EBADF`: `fd` is no counter. `EINVAL`: `value` is 18446744073709551615. `EAGAIN`: the
+    /// sum is above 18446744073709551614.
     pub fn write(&mut self, fd: RawFd, value: u64) -> Result<(), Errno>
         ensures reachable { IsReachable self.old }
         ensures answer { Answers (write_of self.old fd value) self.old result self.new }
@@ -337,9 +314,7 @@ impl Table {
         }
     }
 
-    /// Takes the value of a counter, which is then 0.
-    ///
-    /// `EBADF`: `fd` is no counter. `EAGAIN`: its value is 0.
+    /// Takes the value of a counter, which is then 0. `EBADF`: `fd` is no counter. `EAGAIN`: its value is 0.
     pub fn read(&mut self, fd: RawFd) -> Result<u64, Errno>
         ensures reachable { IsReachable self.old }
         ensures answer { Answers (read_of self.old fd) self.old result self.new }
@@ -355,9 +330,7 @@ impl Table {
         Ok(held)
     }
 
-    /// Sets the state of a line. Modes in it are kept, and never reported, as no interest has one.
-    ///
-    /// `EBADF`: `fd` is no line.
+    /// Sets the state of a line. Modes in it are kept, but never reported, as no interest has one. `EBADF`: `fd` is no line.
     pub fn set_line(&mut self, fd: RawFd, set: EventSet) -> Result<(), Errno>
         ensures reachable { IsReachable self.old }
         ensures answer { Answers (set_line_of self.old fd set) self.old result self.new }
@@ -370,7 +343,7 @@ impl Table {
         Ok(())
     }
 
-    // It does nothing, and states what all calls keep.
+    // Does nothing; it states what all calls keep.
     #[inline(always)]
     fn stays_reachable(&self)
         ensures { IsReachable self.now }
@@ -378,7 +351,6 @@ impl Table {
         let _limit = self.limit;
     }
 
-    // Reports the first ready interests and moves them to the back.
     fn report_ready(&mut self, buffer: &mut [EpollEvent]) -> usize
         ensures count { result ≡ length (chosen self.old (length buffer.old)) }
         ensures entries { let entries = map (entry_in self.old.sources) (chosen self.old (length buffer.old)) in
@@ -388,7 +360,6 @@ impl Table {
         report(&self.sources, &mut self.interests, buffer)
     }
 
-    // The number of an open descriptor.
     #[inline(always)]
     fn descriptor(&self, fd: RawFd) -> Option<usize>
         ensures number { result ≡ opened self.now fd }
@@ -426,7 +397,7 @@ impl Table {
         }
     }
 
-    // Replaces the source of an open descriptor; where its state changes, its interest is marked anew.
+    // Where the state of the descriptor changes, its interest is marked anew.
     #[inline(always)]
     fn set_source(&mut self, number: usize, source: Source)
         requires there { IsOpen self.old.sources number }
@@ -478,13 +449,12 @@ impl Poller for Table {
         Table::ctl(self, op, fd, event)
     }
 
-    /// As [`Table::wait`]; the time limit is without effect, and nothing is waited for.
+    /// As [`Table::wait`]; the time limit has no effect, and nothing is waited for.
     fn wait(&mut self, _ms: i32, buffer: &mut [EpollEvent]) -> Result<usize, Errno> {
         Table::wait(self, buffer)
     }
 }
 
-// Whether an event that is added or that replaces one has a mode.
 fn has_mode(op: ControlOperation, event: EpollEvent) -> bool
     ensures { result ≡ has_mode op event }
 {
@@ -507,7 +477,7 @@ fn state_at(sources: &[Source], descriptor: usize) -> EventSet
     }
 }
 
-// The entry of an interest: its set is empty where the interest isn't ready.
+// Its set is empty where the interest isn't ready.
 fn entry_of(sources: &[Source], interest: Interest) -> EpollEvent
     ensures { result ≡ entry_in sources.now interest }
 {
@@ -517,14 +487,13 @@ fn entry_of(sources: &[Source], interest: Interest) -> EpollEvent
     EpollEvent::new(wanted.intersection(state), interest.event.data())
 }
 
-// Whether an interest is ready.
 fn is_ready(sources: &[Source], interest: Interest) -> bool
     ensures { result ≡ is_ready sources.now interest }
 {
     !entry_of(sources, interest).event_set().is_empty()
 }
 
-// Replaces the interest in a slot by one of its descriptor. Where it wants the same set, what is ready stays so.
+// Where both interests want the same set, the mark stays as it is.
 #[inline(always)]
 fn modify(sources: &[Source], interests: &mut Interests, slot: usize, interest: Interest)
     requires { Holds interests.old.slots slot interest.descriptor }
@@ -560,8 +529,7 @@ fn renew(sources: &[Source], interests: &mut Interests, descriptor: usize)
     interests.mark(slot, is_ready(sources, interest));
 }
 
-// Writes the entries of the first ready interests, as many as there is room for, and moves these to
-// the back.
+// Writes the entries of the first ready interests, as many as fit, and moves these to the back.
 fn report(sources: &[Source], interests: &mut Interests, buffer: &mut [EpollEvent]) -> usize
     requires { AreMarked (is_ready sources.now) interests.old }
     ensures count { result ≡ length (first_ready sources.now (held interests.old.slots) (length buffer.old)) }
@@ -580,7 +548,6 @@ fn report(sources: &[Source], interests: &mut Interests, buffer: &mut [EpollEven
     report_and_move(sources, interests, buffer)
 }
 
-// Writes the entries of the interests in the slots from one on.
 fn report_from(
     sources: &[Source],
     interests: &Interests,
@@ -602,8 +569,7 @@ fn report_from(
     count
 }
 
-// As `report`, whatever stands behind the ready ones. It goes from ready slot to ready slot, up to
-// the end of those in use when it begins.
+// As `report`, whatever stands behind the ready ones: from ready slot to ready slot, up to the end of those in use at the start.
 fn report_and_move(
     sources: &[Source],
     interests: &mut Interests,
@@ -638,14 +604,12 @@ fn report_and_move(
     room
 }
 
-/// States how long an interest of a [`Table`] may have to wait for its report; it does nothing.
+/// States how long a ready interest of a [`Table`] may have to wait for its report; it does nothing.
 ///
-/// No call gives an interest a later place, unless it takes it out or reports it, and a wait that
-/// doesn't report a ready one moves it forward by the length of its buffer. So an interest with `a`
-/// others before it that isn't taken out, by a `Delete` or a close, and is ready at each of the waits
-/// is reported by the time the lengths of the buffers add up to more than `a`; with buffers of one
-/// length `c` above 0, in one of the first `a / c + 1` waits. It holds of any list of calls, refused
-/// ones included.
+/// Unless a call removes or reports an interest, its place gets no later, and a wait that doesn't report it though it is ready
+/// moves it forward by the length of its buffer. So an interest that has `a` others before it, isn't removed by a `Delete` or a
+/// close, and is ready at each wait is reported by the time the lengths of the buffers add up to more than `a`; with buffers of one
+/// length `c` above 0, in one of the first `a / c + 1` waits. This holds for any list of calls, refused ones included.
 pub fn service_bound()
     ensures forward { EachStepMovesForward }
     ensures within_rooms { ReportedWithinRooms }

@@ -10,11 +10,11 @@ use std::alloc::AllocError;
 use std::marker::Model;
 use std::sync::ledger::Share;
 
-/// How many tokens a full bucket has.
+/// The tokens of a full bucket.
 pub const SIZE: u64 = 4;
 
-/// The bucket of a ring, with how many tokens were ever taken, how often it was filled again, and how many had been taken when it
-/// was paused, while it is.
+/// A ring's bucket: its tokens, how many were ever taken, its refills, and how many had been taken at the pause, while it is
+/// paused.
 #[derive(Drop)]
 pub struct Limiter<Q: RingName> {
     tokens: u64,
@@ -29,13 +29,11 @@ impl<Q: RingName> Model for Limiter<Q> {
 
     ghost view = { λ l. record { tokens = l.tokens; taken = l.taken; refills = l.refills; paused_at = l.paused_at } };
 
-    // No more were taken than a bucket, and one more for each time that it was filled; none since it was paused; and as many as its
-    // ring has served.
+    // At most a bucket, and one more for each refill, was taken; none since the pause; and as many as the ring has served.
     ghost invariant = { λ l. (l.taken + l.tokens ≤ 4 + 4 * l.refills) × ForSome l.paused_at (λ count. l.taken ≡ count) × (l.share.amount ≡ l.taken) × (l.share.parts ≡ 1) };
 }
 
 impl<Q: RingName> Limiter<Q> {
-    // A full bucket.
     pub(crate) fn new(share: Share<Served<Q>>) -> Self
         requires { (share.amount ≡ 0) × (share.parts ≡ 1) }
         ensures { result ≡ record { tokens = 4; taken = 0; refills = 0; paused_at = None } }
@@ -49,8 +47,7 @@ impl<Q: RingName> Limiter<Q> {
         }
     }
 
-    /// Serves as many of the requests that wait as there are tokens, each for one; none while it is paused. A ring can be served in
-    /// no other way. Where memory is refused it serves none.
+    /// Serves a waiting request for each token; none while paused, or where memory is refused. A ring is served in no other way.
     pub fn serve(&mut self, ring: &mut Ring<Q>) -> Result<(), AllocError>
         ensures paid { Pays self.old self.new }
         ensures served { (length ring.old.used.items ≡ self.old.taken) × (length ring.new.used.items ≡ self.new.taken) }
@@ -100,8 +97,7 @@ impl<Q: RingName> Limiter<Q> {
         }
     }
 
-    /// The ring has served as many requests as tokens were taken, and no more than a bucket, and one more for each time that
-    /// it was filled.
+    /// The ring has served as many requests as tokens were taken, at most those of a bucket and of one more for each refill.
     pub fn agree(&mut self, ring: &mut Ring<Q>)
         ensures agreed { length ring.old.used.items ≡ self.old.taken }
         ensures limited { self.old.taken + self.old.tokens ≤ 4 + 4 * self.old.refills }

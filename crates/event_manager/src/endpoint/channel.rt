@@ -17,17 +17,14 @@ use std::marker::Model;
 use std::sync::{Arc, Mutex, Wait};
 use std::time::Clock;
 
-/// What a manager and its endpoints share.
 #[derive(Drop)]
 pub(crate) struct Channel<S: MutEventSubscriber, J: Job<S>, N: NamedCounter> {
     pub(crate) state: Mutex<ChannelState<S, J, N>>,
-    // What wakes the manager's poller.
     pub(crate) counter: N,
-    // Of the slots.
     pub(crate) alloc: Global,
 }
 
-/// The manager's side of the channel: it alone takes jobs. Contracts see how many it took and ran.
+/// The manager's side: it alone takes jobs. Contracts see how many it took and ran.
 #[derive(Drop)]
 pub(crate) struct EventManagerChannel<S: MutEventSubscriber, J: Job<S>, N: NamedCounter> {
     channel: Arc<Channel<S, J, N>>,
@@ -46,7 +43,6 @@ impl<S: MutEventSubscriber, J: Job<S>, N: NamedCounter> Model for EventManagerCh
 }
 
 impl<S: MutEventSubscriber, J: Job<S>, N: NamedCounter> EventManagerChannel<S, J, N> {
-    /// An open channel in which no job waits.
     pub(crate) fn new(
         alloc: Global,
         counter: N,
@@ -68,20 +64,17 @@ impl<S: MutEventSubscriber, J: Job<S>, N: NamedCounter> EventManagerChannel<S, J
         })
     }
 
-    /// What its endpoints share, with one more owner. `OutOfMemory` where that is refused.
     pub(crate) fn shared(&self) -> Result<Arc<Channel<S, J, N>>>
         ensures refusals { IfErr result (λ e. e ≡ Error.OutOfMemory) }
     {
         Ok(Arc::try_clone(&self.channel)?)
     }
 
-    /// Whether jobs wait.
     pub(crate) fn has_waiting_jobs<R: Wait>(&self, rt: &R) -> bool {
         self.channel.state.lock(rt).waiting() > 0
     }
 
-    /// Clears the counter, takes all jobs that wait, and runs them in the order of their tickets. The lock of the queue
-    /// is free while they run.
+    /// Clears the counter, then takes all waiting jobs, and runs them in the order of the tickets, without the queue's lock.
     pub(crate) fn run_jobs<P: EventPoller, R: Wait + Clock>(
         &mut self,
         registry: &mut Registry<S, P>,
@@ -97,7 +90,6 @@ impl<S: MutEventSubscriber, J: Job<S>, N: NamedCounter> EventManagerChannel<S, J
         self.jobs.run_all(registry, rt);
     }
 
-    /// Closes the queue in one turn, and drops the jobs that wait.
     pub(crate) fn close<R: Wait + Clock>(self, rt: &R) -> Closed<N>
         ensures { result.taken ≡ self }
     {

@@ -9,7 +9,7 @@ use job_tickets::tickets::{Register, Ticket};
 use std::fmt;
 use std::marker::Model;
 
-/// What is known of a manager that was closed. Contracts see how many tickets were issued and how many jobs taken.
+/// What is known of a closed manager. Contracts see how many tickets were issued and how many jobs taken.
 #[derive(Drop)]
 pub struct Closed<N: Naming> {
     register: Register<N>,
@@ -52,10 +52,8 @@ impl<N: Naming> Closed<N> {
         self.taken
     }
 
-    /// Whether these are all the tickets that were issued: exactly where they are as many. Then they are sorted, and
-    /// their numbers are 1, 2, 3 and so on; else the list stays as it was. Takes no memory.
-    ///
-    /// The ticket of a `call_blocking` is in nobody's hands, so where one was accepted this answers false.
+    /// Whether these are all issued tickets; if so, sorts them. Takes no memory. Once a `call_blocking` was accepted it returns
+    /// `false`, as nobody has its ticket.
     pub fn gather(&mut self, tickets: &mut Vec<Ticket<N>>) -> bool
         ensures exactly { IsTrue result ↔ vec_len tickets.old ≡ self.old.issued }
         ensures all { result ≡ true → tickets.new.items ≡ one_to self.old.issued }

@@ -9,7 +9,6 @@ use std::alloc::Global;
 use std::marker::{Model, PhantomData};
 use std::sync::{Arc, Condvar, Mutex, Wait};
 
-// What the lock of a slot guards. Whatever reply is there meets the fact that its job type states.
 #[derive(Drop)]
 struct Held<S: MutEventSubscriber, J: Job<S>> {
     reply: Option<J::Reply>,
@@ -28,7 +27,7 @@ impl<S: MutEventSubscriber, J: Job<S>> Model for Held<S, J> {
 }
 
 impl<S: MutEventSubscriber, J: Job<S>> Held<S, J> {
-    // Hands out what was there, so that no reply is dropped under the lock.
+    // Returns the old reply, so that none is dropped under the lock.
     fn fill(&mut self, reply: J::Reply) -> Option<J::Reply>
         requires { J.replies reply }
     {
@@ -50,7 +49,6 @@ impl<S: MutEventSubscriber, J: Job<S>> Held<S, J> {
     }
 }
 
-// The slot of one call.
 #[derive(Drop)]
 struct Slot<S: MutEventSubscriber, J: Job<S>> {
     held: Mutex<Held<S, J>>,
@@ -70,15 +68,13 @@ impl<S: MutEventSubscriber, J: Job<S>> Slot<S, J> {
     }
 }
 
-/// The end of a slot by which it is filled once or closed once: either uses it up. No reply is dropped under the slot's
-/// lock.
+/// The end of a slot that fills it or closes it, once: either uses it up.
 #[derive(Drop)]
 pub(crate) struct ReplySender<S: MutEventSubscriber, J: Job<S>> {
     slot: Arc<Slot<S, J>>,
 }
 
 impl<S: MutEventSubscriber, J: Job<S>> ReplySender<S, J> {
-    /// Puts the reply in, and wakes the caller.
     pub(crate) fn fill<R: Wait>(self, reply: J::Reply, rt: &R)
         requires { J.replies reply }
     {
@@ -86,21 +82,18 @@ impl<S: MutEventSubscriber, J: Job<S>> ReplySender<S, J> {
         self.slot.changed.notify_all();
     }
 
-    /// Tells the caller that no reply will come.
     pub(crate) fn close<R: Wait>(self, rt: &R) {
         self.slot.held.lock(rt).close();
         self.slot.changed.notify_all();
     }
 }
 
-/// The end of a slot at which the caller waits.
 #[derive(Drop)]
 pub(crate) struct ReplyReceiver<S: MutEventSubscriber, J: Job<S>> {
     slot: Arc<Slot<S, J>>,
 }
 
 impl<S: MutEventSubscriber, J: Job<S>> ReplyReceiver<S, J> {
-    /// Waits for the reply. `ChannelRecv` where the slot was closed.
     pub(crate) fn wait<R: Wait>(self, rt: &R) -> Result<J::Reply>
         ensures fact { IfOk result (λ r. J.replies r) }
         ensures closed { IfErr result (λ e. e ≡ ChannelRecv) }
@@ -113,7 +106,6 @@ impl<S: MutEventSubscriber, J: Job<S>> ReplyReceiver<S, J> {
     }
 }
 
-/// A new slot. `OutOfMemory` where memory, or one more owner, is refused.
 pub(crate) fn new_slot<S: MutEventSubscriber, J: Job<S>>(
     alloc: Global,
 ) -> Result<(ReplySender<S, J>, ReplyReceiver<S, J>)>

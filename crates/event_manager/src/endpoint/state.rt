@@ -1,4 +1,4 @@
-//! What lies under the lock of the job queue.
+//! What the lock of the job queue guards: the queue, with the books of issued tickets and of taken jobs.
 
 ghost use Rattle.std.specs.Prelude.{◌≡◌, ◌⊎◌, ◌+◌, ◌<◌, ◌≤◌, [], length, Err, None, IfOk, IfErr, false};
 ghost use Rattle.event_manager.specs.JobQueue.{new_queue, after_take, after_close, IsSend, TicketsFollow, send_answer};
@@ -20,14 +20,12 @@ use std::sync::Wait;
 use std::time::Clock;
 use vmm_sys::counter::Bell;
 
-/// The queue, with the books of what was issued and of what was taken. Contracts see it as the queue.
 #[derive(Drop)]
 pub(crate) struct ChannelState<S: MutEventSubscriber, J: Job<S>, N: Naming> {
     queue: JobQueue<WaitingJob<S, J>, ()>,
-    // Here while the queue is open.
     register: Option<Register<N>>,
     taken: TakenBook<N>,
-    // Here once the queue is closed: so whoever has the count knows that the queue is open.
+    // `Some` once the queue is closed: so whoever has the count knows that the queue is open.
     last_count: Option<TakenCount<N>>,
 }
 
@@ -43,7 +41,6 @@ impl<S: MutEventSubscriber, J: Job<S>, N: Naming> Model for ChannelState<S, J, N
 }
 
 impl<S: MutEventSubscriber, J: Job<S>, N: Naming> ChannelState<S, J, N> {
-    /// An open queue in which nothing waits.
     pub(crate) fn new(alloc: Global, register: Register<N>, taken: TakenBook<N>) -> Self
         requires { (register ≡ 0) × (taken ≡ 0) }
         ensures { result ≡ new_queue }
@@ -56,14 +53,12 @@ impl<S: MutEventSubscriber, J: Job<S>, N: Naming> ChannelState<S, J, N> {
         }
     }
 
-    /// How many jobs wait.
     pub(crate) fn waiting(&self) -> usize
         ensures { result ≡ length self.now.waiting }
     {
         self.queue.waiting()
     }
 
-    /// Sends a job, and issues its ticket. Where it is refused, it comes back.
     pub(crate) fn send<B: Bell, R: Wait + Clock>(
         &mut self,
         job: WaitingJob<S, J>,
@@ -83,7 +78,6 @@ impl<S: MutEventSubscriber, J: Job<S>, N: Naming> ChannelState<S, J, N> {
         }
     }
 
-    /// Sends a job whose ticket has a number above the shown one's. Where it is refused, it comes back.
     pub(crate) fn send_after<B: Bell, R: Wait + Clock>(
         &mut self,
         shown: &Ticket<N>,
@@ -107,7 +101,6 @@ impl<S: MutEventSubscriber, J: Job<S>, N: Naming> ChannelState<S, J, N> {
         self.send(job, bell, rt)
     }
 
-    /// Takes all that waits, and counts it.
     pub(crate) fn take(&mut self, count: &mut TakenCount<N>, into: &mut TakenJobs<S, J>)
         requires { into.old.entries ≡ [] }
         ensures agree { count.old ≡ self.old.taken }
@@ -120,7 +113,6 @@ impl<S: MutEventSubscriber, J: Job<S>, N: Naming> ChannelState<S, J, N> {
         count.add(&mut self.taken, into.len() as u64);
     }
 
-    /// Closes the queue, which only the holder of the count can do. What waits is handed out, and not counted as taken.
     pub(crate) fn close(
         &mut self,
         mut count: TakenCount<N>,

@@ -1,4 +1,4 @@
-//! The jobs that a manager has taken from the queue, and what runs them, in the order of their tickets.
+//! The jobs that a manager has taken from the queue, and runs in the order of their tickets.
 
 ghost use Rattle.std.specs.Prelude.{◌≡◌, ◌+◌, ◌≤◌, [], length};
 ghost use Rattle.event_manager.specs.JobQueue.{TicketsFollow, after_take, after_close, tickets_and_jobs};
@@ -14,8 +14,7 @@ use std::marker::Model;
 use std::sync::Wait;
 use std::time::Clock;
 
-/// What a queue handed out, and how many jobs ran before. Nobody can look into it: what a queue has put in is run as it is, or
-/// closed. Contracts see the number and the entries.
+/// Jobs from a queue, and how many ran before. Others can't read or change them, only run or close them.
 #[derive(Drop)]
 pub(crate) struct TakenJobs<S: MutEventSubscriber, J: Job<S>> {
     // Empty between two runs; it keeps its room.
@@ -32,7 +31,6 @@ impl<S: MutEventSubscriber, J: Job<S>> Model for TakenJobs<S, J> {
 }
 
 impl<S: MutEventSubscriber, J: Job<S>> TakenJobs<S, J> {
-    /// Nothing was taken, and no job ran.
     pub(crate) fn new(alloc: Global) -> Self
         ensures { result ≡ record { ran = 0; entries = [] } }
     {
@@ -42,14 +40,12 @@ impl<S: MutEventSubscriber, J: Job<S>> TakenJobs<S, J> {
         }
     }
 
-    /// How many jobs were taken and didn't run.
     pub(crate) fn len(&self) -> usize
         ensures { result ≡ length self.now.entries }
     {
         self.entries.len()
     }
 
-    /// Takes all that waits in the queue.
     pub(crate) fn take(&mut self, queue: &mut JobQueue<WaitingJob<S, J>, ()>)
         requires { self.old.entries ≡ [] }
         ensures handed_out { self.new ≡ record self.old { entries = queue.old.waiting } }
@@ -60,7 +56,6 @@ impl<S: MutEventSubscriber, J: Job<S>> TakenJobs<S, J> {
         queue.take(&mut self.entries);
     }
 
-    /// Closes the queue, and takes what waits in it.
     pub(crate) fn close(&mut self, queue: &mut JobQueue<WaitingJob<S, J>, ()>)
         requires { self.old.entries ≡ [] }
         ensures handed_out { self.new ≡ record self.old { entries = queue.old.waiting } }
@@ -69,8 +64,6 @@ impl<S: MutEventSubscriber, J: Job<S>> TakenJobs<S, J> {
         queue.close(&mut self.entries);
     }
 
-    /// Runs the jobs, whose tickets follow those of the jobs that ran before: each of them under its own ticket, in that
-    /// order.
     pub(crate) fn run_all<P: EventPoller, R: Wait + Clock>(
         &mut self,
         registry: &mut Registry<S, P>,
@@ -88,7 +81,6 @@ impl<S: MutEventSubscriber, J: Job<S>> TakenJobs<S, J> {
         }
     }
 
-    /// Drops the jobs, and tells the callers that wait for their replies.
     pub(crate) fn close_all<R: Wait>(self, rt: &R) {
         let TakenJobs { entries, .. } = self;
         for entry in entries {

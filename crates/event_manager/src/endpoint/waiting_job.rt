@@ -11,8 +11,7 @@ use std::marker::Model;
 use std::sync::Wait;
 use std::time::Clock;
 
-/// A job that was sent, with the slot of the caller that waits for its reply, where one does. Nobody can part the two: so
-/// the reply of a job goes into its own slot. Contracts see the job.
+/// A sent job, with the slot of its caller if one waits. They can't be parted, so a reply goes into its own job's slot.
 #[derive(Drop)]
 pub(crate) struct WaitingJob<S: MutEventSubscriber, J: Job<S>> {
     job: J,
@@ -43,7 +42,6 @@ impl<S: MutEventSubscriber, J: Job<S>> WaitingJob<S, J> {
         }
     }
 
-    /// Drops the job, and tells the caller that waits for its reply, if one does.
     pub(crate) fn close<R: Wait>(self, rt: &R) {
         let WaitingJob { slot, .. } = self;
         if let Some(slot) = slot {

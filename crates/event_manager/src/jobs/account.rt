@@ -1,4 +1,4 @@
-//! Sends, takes and closes, done again on a new queue.
+//! Sends, takes and closes, replayed on a new queue.
 
 ghost use Rattle.std.specs.Prelude.{◌≡◌, ◌++◌, [], IfOk, IfErr};
 ghost use Rattle.event_manager.specs.Account.{answers_to_sends, handed_out, IsReplayed};
@@ -16,24 +16,23 @@ use vmm_sys::errno::Errno;
 /// A step of a replay.
 #[derive(Drop)]
 pub enum Step<J> {
-    /// A send of this job, with what the bell answers.
+    /// A send of this job, with the bell's answer.
     Send(J, std::result::Result<(), Errno>),
-    /// A take of all that waits.
+    /// A take of all waiting jobs.
     Take,
-    /// A close. The jobs that it hands out are dropped.
+    /// A close, which drops the waiting jobs.
     Close,
 }
 
-/// What a replay gave.
+/// The result of a replay.
 #[derive(Drop)]
 pub struct Outcome<J> {
     /// The answer of each send, in order: its ticket, or why it was refused.
     pub answers: Vec<Result<u64>>,
-    /// What the takes handed out, put together: tickets and jobs.
+    /// The tickets and jobs of all takes, in order.
     pub taken: Vec<(u64, J)>,
 }
 
-// A bell that answers what it was told.
 #[derive(Drop)]
 struct Told(std::result::Result<(), Errno>);
 
@@ -50,7 +49,7 @@ impl Bell for Told {
     }
 }
 
-// Moves the entries behind what was taken before. Where memory is refused, some may be lost.
+// If memory is refused, some entries may be lost.
 fn move_all<J: Drop>(out: &mut Vec<Entry<J, ()>>, taken: &mut Vec<(u64, J)>) -> Result<()>
     ensures taken { IfOk result (λ _. taken.new.items ≡ taken.old.items ++ tickets_and_jobs out.old.items) }
     ensures empty { IfOk result (λ _. out.new.items ≡ []) }
@@ -70,7 +69,6 @@ fn move_all<J: Drop>(out: &mut Vec<Entry<J, ()>>, taken: &mut Vec<(u64, J)>) -> 
     Ok(())
 }
 
-// Does one step, and notes what it gave.
 fn replay_one<J: Drop, R: Wait + Clock>(
     step: Step<J>,
     queue: &mut JobQueue<J, ()>,
@@ -106,7 +104,6 @@ fn replay_one<J: Drop, R: Wait + Clock>(
     }
 }
 
-// An outcome in which nothing is noted yet, and two lists of entries, each with room for this many.
 fn make_room<J: Drop>(
     alloc: Global,
     queue: &mut JobQueue<J, ()>,
@@ -127,13 +124,9 @@ fn make_room<J: Drop>(
     Ok((Outcome { answers, taken }, out))
 }
 
-/// Does the steps in turn on a new queue: its contract is the account of a list of sends, takes and closes, which speaks
-/// of no queue.
-///
-/// Accepted are the jobs that are sent before the first close and whose bell agrees, up to 9223372036854775807; the n-th
-/// has ticket n. Handed out are those accepted before the last take that comes before the first close.
-///
-/// All room is made before the first step. The one refusal is `OutOfMemory`; then no step is made.
+/// Does the steps in order on a new queue. Its contract, the account of these steps, speaks of no queue: accepted are the jobs sent
+/// before the first close whose bell agrees, at most 9223372036854775807, and the n-th has ticket n; taken are those accepted
+/// before the last take that precedes the first close. All room is made before the first step; `OutOfMemory` if it is refused.
 pub fn replay<J: Drop, R: Wait + Clock>(
     rt: &R,
     alloc: Global,

@@ -5,9 +5,7 @@ use event_loop::{EventPoller, MutEventSubscriber, Registry, Result, SubscriberId
 use std::sync::Wait;
 use std::time::Clock;
 
-/// What is done to one subscriber, or read of it, between two batches: sent as [`ActionOn`].
-///
-/// A type states which value it may leave and which reply it may give. Not in the Rust crate.
+/// What is done to one subscriber, or read of it, between two batches; sent as [`ActionOn`]. Not in event-manager.
 pub trait Action<S>: Drop {
     /// What it replies.
     type Reply: Drop;
@@ -15,7 +13,7 @@ pub trait Action<S>: Drop {
     /// Which reply it may give, and which value it may leave, from the value before.
     ghost does: { Self → S → Self.Reply → S → Type 0 };
 
-    /// What holds of each reply: what a caller knows who waits for one.
+    /// What a caller that waits for a reply knows of it.
     ghost replies: { Self.Reply → Type 0 } = { λ reply. Unit {0} };
 
     /// Does it.
@@ -24,8 +22,7 @@ pub trait Action<S>: Drop {
         ensures fact { replies result };
 }
 
-/// The job that does an action to the subscriber of an id, and replies what that replies. `InvalidId` where nobody has the
-/// id; then nothing is done.
+/// The job that does an action to the subscriber of an id and replies as it does. `InvalidId`, and nothing done, if nobody has it.
 #[derive(Drop)]
 pub struct ActionOn<A> {
     /// The id.

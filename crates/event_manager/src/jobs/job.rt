@@ -10,9 +10,6 @@ use std::sync::Wait;
 use std::time::Clock;
 
 /// A job on a registry of subscribers of type `S`.
-///
-/// A type states which steps of the registry its call may make, with their answers, which reply it may then give, and
-/// what holds of each reply.
 pub trait Job<S: MutEventSubscriber>: Drop {
     /// What the job replies.
     type Reply: Drop;
@@ -23,7 +20,7 @@ pub trait Job<S: MutEventSubscriber>: Drop {
     /// Which steps it may make, with their answers, and which reply it may then give.
     ghost may: { Self → List (LoopStep S) → Self.Reply → Type 0 };
 
-    /// What holds of each reply: what a caller knows who waits for one.
+    /// What a caller that waits for a reply knows of it.
     ghost replies: { Self.Reply → Type 0 };
 
     /// Does the job.

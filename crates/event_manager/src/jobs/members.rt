@@ -5,8 +5,7 @@ use event_loop::{EventPoller, MutEventSubscriber, Registry, Result, SubscriberId
 use std::sync::Wait;
 use std::time::Clock;
 
-/// The job that lets a subscriber join, and replies what [`SubscriberOps::add_subscriber`] answers. Where it is refused, the
-/// subscriber is dropped.
+/// The job that adds a subscriber, and replies as [`SubscriberOps::add_subscriber`] answers. A refused subscriber is dropped.
 #[derive(Drop)]
 pub struct AddSubscriber<S>(pub S);
 
@@ -30,7 +29,7 @@ impl<S: MutEventSubscriber + Drop> Job<S> for AddSubscriber<S> {
     }
 }
 
-/// The job that lets the subscriber of an id leave, and replies it. `InvalidId` where nobody has the id.
+/// The job that removes the subscriber of an id, and replies it. `InvalidId` if nobody has the id.
 #[derive(Drop)]
 pub struct RemoveSubscriber(pub SubscriberId);
 

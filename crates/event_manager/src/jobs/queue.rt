@@ -23,7 +23,6 @@ pub struct Entry<J, Q> {
     pub slot: Option<Q>,
 }
 
-/// A send that was refused: why, and what was to be sent.
 #[derive(Drop)]
 pub(crate) struct Refused<J, Q> {
     pub(crate) error: Error,
@@ -31,10 +30,8 @@ pub(crate) struct Refused<J, Q> {
     pub(crate) slot: Option<Q>,
 }
 
-/// Jobs that wait, in the order of their tickets.
-///
-/// Contracts see how many jobs were taken, how many tickets were issued, whether the queue is closed, and the list.
-/// While it is open as many wait as were issued and not taken; once it is closed none waits, and nothing changes.
+/// Waiting jobs, in the order of their tickets. Contracts see how many jobs were taken, how many tickets were issued, whether it is
+/// closed, and the list. An open queue has the jobs that were issued and not taken; a closed one has none, and never changes.
 #[derive(Drop)]
 pub struct JobQueue<J, Q> {
     waiting: Vec<Entry<J, Q>>,
@@ -54,15 +51,14 @@ impl<J, Q> Model for JobQueue<J, Q> {
 }
 
 impl<J, Q> JobQueue<J, Q> {
-    /// An open queue in which nothing waits.
+    /// An open, empty queue.
     pub fn new(alloc: Global) -> Self
         ensures { result ≡ new_queue }
     {
         JobQueue::behind(alloc, 0)
     }
 
-    /// An open queue in which nothing waits, of which so many tickets were issued (at most 9223372036854775807) and as many
-    /// jobs taken: the next ticket is one more.
+    /// An open, empty queue of which `issued` tickets (at most 9223372036854775807) were issued, and as many jobs taken.
     pub fn behind(alloc: Global, issued: u64) -> Self
         requires { issued ≤ MOST_TICKETS }
         ensures { result ≡ record new_queue { taken = issued; issued = issued } }
@@ -89,18 +85,15 @@ impl<J, Q> JobQueue<J, Q> {
         self.issued
     }
 
-    /// Makes room for so many more jobs. Refused, and the queue as it was, where memory is.
     pub(crate) fn reserve(&mut self, additional: usize) -> std::result::Result<(), AllocError>
         ensures kept { self.new ≡ self.old }
     {
         self.waiting.reserve(additional)
     }
 
-    /// Rings the bell and puts the job last; answers its ticket, the next number.
-    ///
-    /// Refused, in this order, the queue as it was and job and slot dropped: `ChannelSend` where it is closed;
-    /// `TicketsUsedUp` where 9223372036854775807 were issued; `OutOfMemory`, the room being made before the bell is rung;
-    /// `EventFd` with the number that the bell answers.
+    /// Makes room, rings the bell and puts the job last; returns its ticket, the next number. Refused, in this order, with the
+    /// queue unchanged and job and slot dropped: `ChannelSend` if it is closed; `TicketsUsedUp` if 9223372036854775807 were issued;
+    /// `OutOfMemory`, before the bell is rung; `EventFd` with the number that the bell answers.
     pub fn send<B: Bell, R: Wait + Clock>(
         &mut self,
         job: J,
@@ -119,8 +112,7 @@ impl<J, Q> JobQueue<J, Q> {
         }
     }
 
-    /// As [`send`](JobQueue::send), but job and slot come back where they are refused: so whoever holds a lock round the
-    /// queue drops none under it.
+    /// As [`send`](JobQueue::send), but refused jobs and slots come back, so that a lock's holder drops none under it.
     pub(crate) fn offer<B: Bell, R: Wait + Clock>(
         &mut self,
         job: J,
@@ -148,7 +140,7 @@ impl<J, Q> JobQueue<J, Q> {
         Err(Refused { error, job, slot })
     }
 
-    /// Hands out all jobs that wait, and counts them as taken. The two lists change places, so it takes no memory.
+    /// Moves all waiting jobs into the empty list, and counts them as taken. Swaps the two lists, so takes no memory.
     pub fn take(&mut self, into: &mut Vec<Entry<J, Q>>)
         requires { into.old.items ≡ [] }
         ensures handed_out { into.new.items ≡ self.old.waiting }
@@ -162,8 +154,7 @@ impl<J, Q> JobQueue<J, Q> {
         self.taken += into.len() as u64;
     }
 
-    /// Hands out all jobs that wait, without counting them as taken, and takes no job in from then on. The two lists change
-    /// places, so it takes no memory.
+    /// As [`take`](JobQueue::take), but without counting them as taken; sends are refused from then on.
     pub fn close(&mut self, into: &mut Vec<Entry<J, Q>>)
         requires { into.old.items ≡ [] }
         ensures handed_out { into.new.items ≡ self.old.waiting }

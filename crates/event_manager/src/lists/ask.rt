@@ -1,4 +1,4 @@
-//! Calls for one subscriber that stand in lists: requests in order, and another value.
+//! Calls of a list for one subscriber: requests in order, and another value.
 
 ghost use Rattle.std.specs.Prelude.{◌≡◌, ◌≤◌, List, [], length, vec_capacity};
 ghost use Rattle.event_loop.specs.Exchange.{Exchanges, requests_of, answers_of};
@@ -11,7 +11,6 @@ ghost use Rattle.event_manager.specs.SingleCall.{IsAsk, IsReplacement};
 use event_loop::{EventOps, EventPoller, Request, Result, SubscriberId, SubscriberOps};
 use std::mem;
 
-// Makes requests in order, and puts the answers into a list that has room for them.
 fn make_requests<P: EventPoller>(
     ops: &mut EventOps<P>,
     requests: &[Request],
@@ -28,7 +27,6 @@ fn make_requests<P: EventPoller>(
     }
 }
 
-/// Makes requests under an id, in order, and answers a list that has room for their answers.
 pub(crate) fn ask<M: SubscriberOps>(
     manager: &mut M,
     id: SubscriberId,
@@ -50,7 +48,6 @@ pub(crate) fn ask<M: SubscriberOps>(
     }
 }
 
-/// Puts another value in the place of a subscriber, and answers the old one.
 pub(crate) fn replace<M: SubscriberOps>(
     manager: &mut M,
     id: SubscriberId,

@@ -7,7 +7,6 @@ use crate::calls::Call;
 use event_loop::Result;
 use std::alloc::AllocError;
 
-/// A call, and an empty list with room for the answers to its requests.
 #[derive(Drop)]
 pub(crate) struct Planned<S> {
     pub(crate) call: Call<S>,
@@ -16,7 +15,6 @@ pub(crate) struct Planned<S> {
     ghost room: { answers_to call ≤ vec_capacity answers },
 }
 
-// How many requests a call makes.
 fn count_requests<S>(call: &Call<S>) -> usize
     ensures { result ≡ answers_to call.now }
 {

@@ -10,20 +10,18 @@ use crate::entries::EpollEvent;
 use std::alloc::{AllocError, Global};
 use std::marker::Model;
 
-/// How many slots there are for each descriptor. With fewer, a wait that reports one of many might
-/// have to close the slots up each time.
+/// Slots for each descriptor. With fewer, a wait that reports one of many might have to close the slots up each time.
 const SLOTS: usize = 3;
 
-/// What is wanted of a descriptor, and the word to report it with; the contracts of
-/// [`Table`](crate::table::Table) speak of it.
+/// What is wanted of a descriptor, and the word to report it with; the contracts of [`Table`](crate::table::Table) speak of it.
 #[derive(Clone, Copy)]
 pub struct Interest {
     pub(super) descriptor: usize,
     pub(super) event: EpollEvent,
 }
 
-/// Interests in the order of their slots, at most one of each descriptor below a room. A slot is
-/// used once, until the slots are closed up: what comes last takes the next one.
+/// Interests in the order of their slots; what comes last takes the next one. An emptied slot stays unused until the slots are
+/// closed up, unless it was the last one in use.
 #[derive(Drop)]
 pub(super) struct Interests {
     slots: Vec<Option<Interest>>,
@@ -54,7 +52,6 @@ impl Interests {
         }
     }
 
-    /// How many descriptors may have an interest: those below it.
     pub(super) fn room(&self) -> usize
         ensures room { result ≡ self.now.room }
         ensures enough { length (held self.now.slots) ≤ result }
@@ -62,7 +59,6 @@ impl Interests {
         self.places.len()
     }
 
-    /// Makes room for the interest of one more descriptor.
     pub(super) fn make_room(&mut self) -> Result<(), AllocError>
         requires { self.old.room < 2 ^ 31 }
         ensures slots { self.new.slots ≡ self.old.slots }
@@ -78,7 +74,6 @@ impl Interests {
         Ok(())
     }
 
-    /// The slot of a descriptor's interest.
     pub(super) fn slot_of(&self, descriptor: usize) -> Option<usize>
         requires { descriptor < self.now.room }
         ensures { MatchOption result (NoneHolds self.now.slots descriptor) (λ s. AloneHolds self.now.slots s descriptor) }
@@ -87,7 +82,6 @@ impl Interests {
         self.places[descriptor]
     }
 
-    /// What a slot holds; `None` past those in use.
     pub(super) fn interest_in(&self, slot: usize) -> Option<Interest>
         ensures { result ≡ slot_at self.now.slots slot }
     {
@@ -97,14 +91,13 @@ impl Interests {
         }
     }
 
-    /// The first slot that isn't in use.
     pub(super) fn end(&self) -> usize
         ensures { result ≡ length self.now.slots }
     {
         self.slots.len()
     }
 
-    /// The first marked slot. One behind the slots in use says nothing, so it may stand there.
+    /// The first marked slot; it may stand behind the slots in use, where a mark says nothing.
     pub(super) fn first_ready(&mut self) -> Option<usize>
         ensures unchanged { self.new ≡ self.old }
         ensures first { MatchOption result (NoneFrom self.old.marks 0) (λ s. IsFirstFrom self.old.marks 0 s) }
@@ -112,14 +105,13 @@ impl Interests {
         self.ready.first()
     }
 
-    /// The first marked slot from one on, in use or not.
     pub(super) fn ready_from(&self, slot: usize) -> Option<usize>
         ensures { MatchOption result (NoneFrom self.now.marks slot) (λ s. IsFirstFrom self.now.marks slot s) }
     {
         self.ready.first_from(slot)
     }
 
-    /// Whether the slots in use from one on are at most so many, and all marked.
+    /// Whether the slots in use from `slot` on are at most `most`, and all marked.
     pub(super) fn are_ready_from(&self, slot: usize, most: usize) -> bool
         ensures few { IsTrue result → length self.now.slots ≤ slot + most }
         ensures marked { IsTrue result → (s : ℕ) → slot ≤ s → s < length self.now.slots → IsMarked self.now.marks s }
@@ -136,7 +128,6 @@ impl Interests {
         true
     }
 
-    /// Marks a slot in use as ready, or as not ready.
     #[inline(always)]
     pub(super) fn mark(&mut self, slot: usize, ready: bool)
         requires { slot < length self.old.slots }
@@ -153,7 +144,6 @@ impl Interests {
         }
     }
 
-    /// Puts an interest in as the last one.
     #[inline(always)]
     pub(super) fn push_back(&mut self, interest: Interest, ready: bool)
         requires room { interest.descriptor < self.old.room }
@@ -168,7 +158,6 @@ impl Interests {
         self.mark(slot, ready);
     }
 
-    // Puts an interest into the next slot.
     #[inline(always)]
     fn put_last(&mut self, interest: Interest)
         requires room { interest.descriptor < self.old.room }
@@ -180,7 +169,6 @@ impl Interests {
         self.slots.push_reserved(Some(interest));
     }
 
-    /// Replaces the interest in a slot by one of its descriptor.
     pub(super) fn replace(&mut self, slot: usize, interest: Interest)
         requires { Holds self.old.slots slot interest.descriptor }
         ensures { self.new ≡ record self.old { slots = slice_set self.old.slots slot (Some interest) } }
@@ -188,8 +176,7 @@ impl Interests {
         set_event(&mut self.slots[slot], interest);
     }
 
-    /// Takes the interest of a descriptor out of its slot, and its mark; where that slot is the last one in use, it is given
-    /// back as it is marked.
+    /// Where the slot is the last one in use, it is given back and keeps its mark.
     #[inline(always)]
     pub(super) fn remove(&mut self, slot: usize, descriptor: usize)
         requires { Holds self.old.slots slot descriptor }
@@ -205,7 +192,6 @@ impl Interests {
         }
     }
 
-    // Empties the slot of a descriptor's interest.
     #[inline(always)]
     fn empty(&mut self, slot: usize, descriptor: usize)
         requires { Holds self.old.slots slot descriptor }
@@ -215,8 +201,7 @@ impl Interests {
         self.places[descriptor] = None;
     }
 
-    /// Leaves so many slots unused: where there are fewer, those that hold an interest come to the
-    /// front.
+    /// Leaves `count` slots unused: where fewer are, closes the slots up.
     pub(super) fn leave_unused(&mut self, count: usize)
         requires { count ≤ self.old.room }
         ensures room { self.new.room ≡ self.old.room }
@@ -242,7 +227,6 @@ impl Interests {
         self.shift(slot, last);
     }
 
-    // Moves the interest of a slot to an empty one, and its mark with it.
     #[inline(always)]
     fn shift(&mut self, from: usize, to: usize)
         requires some { IsSome (slot_at self.old.slots from) }
@@ -261,7 +245,7 @@ impl Interests {
         move_mark(&mut self.ready, from, to);
     }
 
-    // Moves what the slots hold to their front, in order.
+    // Moves the interests to the front slots, in order.
     #[cold]
     #[inline(never)]
     fn close_up(&mut self)
@@ -276,8 +260,7 @@ impl Interests {
         self.slots.truncate(next);
     }
 
-    // Moves what a slot holds to an earlier empty one, or leaves it where there is none; the answer
-    // is the slot after it, or `next` where it holds nothing.
+    // Moves what a slot holds to the front of the gap before it, where there is one.
     fn close_slot(&mut self, slot: usize, next: usize) -> usize
         requires used { slot < length self.old.slots }
         requires order { next ≤ slot }
@@ -300,7 +283,7 @@ impl Interests {
     }
 }
 
-// Replaces an interest by one of its descriptor: what is the same is not written.
+// Writes the event alone, as the descriptor is the same.
 #[inline(always)]
 fn set_event(held: &mut Option<Interest>, interest: Interest)
     requires same_descriptor { IfSome held.old (λ before. before.descriptor ≡ interest.descriptor) }
@@ -312,7 +295,6 @@ fn set_event(held: &mut Option<Interest>, interest: Interest)
     }
 }
 
-// Takes the mark of one number for another, or the lack of one.
 #[inline(always)]
 fn move_mark(ready: &mut NumberSet, from: usize, to: usize)
     requires from { from < length ready.old }

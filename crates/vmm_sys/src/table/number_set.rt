@@ -1,5 +1,4 @@
-//! A set of numbers below a room: one is put in, taken out or found, in their order, at the cost of a few words, however
-//! large the room is.
+//! A set of numbers below a room: a change or an ordered search costs a few words, a search of the largest room about a thousand.
 
 ghost use Rattle.std.specs.Prelude.{◌≡◌, ◌<◌, ◌≤◌, ◌↔◌, ◌^◌, ◌++◌, [], ℕ, true, false, length, replicate, slice_set, IsTrue, MatchOption, OnOk, OnErr};
 ghost use Rattle.vmm_sys.specs.NumberSet.{IsMarked, IsFirstFrom, NoneFrom, MarksWords};
@@ -10,16 +9,13 @@ use row::{Row, WORD};
 use std::alloc::{AllocError, Global};
 use std::marker::Model;
 
-/// A set of numbers below its room.
 #[derive(Drop)]
 pub(super) struct NumberSet {
     /// A mark for each number, set for those of the set.
     numbers: Row,
-    /// A mark for each word of `numbers`, set where that has one.
+    /// Marks the words of `numbers` that have a mark, as `groups` marks those of `words`, and `blocks` those of `groups`.
     words: Row,
-    /// A mark for each word of `words`, set where that has one.
     groups: Row,
-    /// A mark for each word of `groups`, set where that has one.
     blocks: Row,
     /// No number of the set is below it: a search begins there.
     lowest: usize,
@@ -49,7 +45,6 @@ impl NumberSet {
         }
     }
 
-    /// How many numbers there may be: those below it.
     pub(super) fn room(&self) -> usize
         ensures { result ≡ length self.now }
     {
@@ -63,7 +58,6 @@ impl NumberSet {
         self.numbers.contains(number)
     }
 
-    /// Puts a number in.
     #[inline(always)]
     pub(super) fn insert(&mut self, number: usize)
         requires { number < length self.old }
@@ -81,7 +75,6 @@ impl NumberSet {
         }
     }
 
-    /// Takes a number out.
     #[inline(always)]
     pub(super) fn remove(&mut self, number: usize)
         requires { number < length self.old }
@@ -98,7 +91,7 @@ impl NumberSet {
         }
     }
 
-    /// The lowest number of the set, where searches begin from then on.
+    /// Later searches begin at the number that it finds.
     #[inline(always)]
     pub(super) fn first(&mut self) -> Option<usize>
         ensures set { self.new ≡ self.old }
@@ -109,7 +102,6 @@ impl NumberSet {
         found
     }
 
-    /// The lowest number of the set from `number` on.
     #[inline(always)]
     pub(super) fn first_from(&self, number: usize) -> Option<usize>
         ensures { MatchOption result (NoneFrom self.now number) (λ n. IsFirstFrom self.now number n) }
@@ -117,7 +109,7 @@ impl NumberSet {
         self.search(number.max(self.lowest))
     }
 
-    // The lowest number of the set from one on, whatever is known of those below.
+    // As `first_from`, without a look at `lowest`.
     #[inline(always)]
     fn search(&self, number: usize) -> Option<usize>
         ensures { MatchOption result (NoneFrom self.now number) (λ n. IsFirstFrom self.now number n) }
@@ -129,7 +121,6 @@ impl NumberSet {
         self.numbers.first_in_word(word)
     }
 
-    /// Makes room for the numbers below `room`, or for more.
     pub(super) fn make_room(&mut self, room: usize) -> Result<(), AllocError>
         requires { room ≤ 2 ^ 34 }
         ensures marks { OnOk result ((k : ℕ) × (self.new ≡ self.old ++ replicate k false)) }
@@ -146,7 +137,7 @@ impl NumberSet {
     }
 }
 
-// Marks a word that has its first mark now, and the groups and blocks that have theirs with it.
+// The word has its first mark now: marks it, and the groups and blocks that have their first with it.
 #[inline(always)]
 fn mark_word(words: &mut Row, groups: &mut Row, blocks: &mut Row, word: usize)
     requires word { word < length words.old }
@@ -166,7 +157,7 @@ fn mark_word(words: &mut Row, groups: &mut Row, blocks: &mut Row, word: usize)
     blocks.set(group / WORD);
 }
 
-// Takes the mark of a word that has lost its last, and those of the groups and blocks that have lost theirs with it.
+// The word has lost its last mark: clears its mark, and those of the groups and blocks that have lost their last with it.
 #[inline(always)]
 fn clear_word(words: &mut Row, groups: &mut Row, blocks: &mut Row, word: usize)
     requires word { word < length words.old }
@@ -186,7 +177,6 @@ fn clear_word(words: &mut Row, groups: &mut Row, blocks: &mut Row, word: usize)
     blocks.clear(group / WORD);
 }
 
-// The first mark of `words` from one on.
 #[inline(never)]
 fn first_word_from(words: &Row, groups: &Row, blocks: &Row, word: usize) -> Option<usize>
     requires groups { MarksWords groups.now words.now }
@@ -200,7 +190,6 @@ fn first_word_from(words: &Row, groups: &Row, blocks: &Row, word: usize) -> Opti
     words.first_in_word(group)
 }
 
-// The first mark of `groups` from one on.
 fn first_group_from(groups: &Row, blocks: &Row, group: usize) -> Option<usize>
     requires { MarksWords blocks.now groups.now }
     ensures { MatchOption result (NoneFrom groups.now group) (λ g. IsFirstFrom groups.now group g) }

@@ -37,7 +37,7 @@ impl Counter {
         let _ = self.event_fd.write(1, rt);
     }
 
-    /// Reads the `EventFd`, which then is ready for `IN` no more.
+    /// Reads the `EventFd`, which is then no longer ready for `IN`.
     pub fn clear_event<R: Wait>(&self, rt: &R) {
         let _ = self.event_fd.read(rt);
     }
@@ -49,14 +49,12 @@ impl Counter {
         self.counter
     }
 
-    /// One event more, up to `u64::MAX`.
     pub(super) fn count(&mut self)
         ensures { self.new ≡ one_more self.old }
     {
         self.counter = self.counter.saturating_add(1);
     }
 
-    /// `IN` of its descriptor, with this data.
     pub(super) fn input(&self, data: u32) -> Events
         ensures { result ≡ event_on self.now «data» }
     {

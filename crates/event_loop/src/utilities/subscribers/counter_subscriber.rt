@@ -15,9 +15,7 @@ use crate::subscribers::MutEventSubscriber;
 use std::ops::{Deref, DerefMut};
 use vmm_sys::eventfd::EventFd;
 
-/// Counts the `IN` events of one [`Counter`], which it lends by `Deref`.
-///
-/// `init` adds the counter's descriptor with `IN` and data 0.
+/// Counts the `IN` events of one [`Counter`], which it lends by `Deref`. `init` adds its descriptor with `IN` and data 0.
 #[derive(Drop)]
 pub struct CounterSubscriber {
     counter: Counter,

@@ -1,4 +1,4 @@
-//! What an event is, by its set.
+//! What an event is, by exactly its set.
 
 ghost use Rattle.std.specs.Prelude.{◌≡◌};
 ghost use Rattle.event_loop.specs.CounterEvents.{kind_of};
@@ -6,14 +6,10 @@ ghost use Rattle.event_loop.specs.CounterEvents.{kind_of};
 use crate::events::Events;
 use vmm_sys::epoll::EventSet;
 
-/// What an event is, by exactly its set.
 #[derive(Clone, Copy, PartialEq, Eq, Debug)]
 pub(super) enum EventKind {
-    /// `IN`.
     Input,
-    /// `ERROR`.
     Error,
-    /// `HANG_UP`.
     HangUp,
     /// Any other set.
     Other,

@@ -14,9 +14,7 @@ use std::sync::{OnceLock, Wait};
 use vmm_sys::epoll::{AsRawFd, EventSet};
 use vmm_sys::eventfd::EventFd;
 
-/// Counts the `IN` events of one `EventFd` in atomics, so that others may look at it while a registry holds it, as in an
-/// `Arc`. The count wraps.
-///
+/// Counts the `IN` events of one `EventFd` in atomics, so that others may read them while a registry holds it, as in an `Arc`.
 /// `init` adds the descriptor with `IN` and data 0. Nothing is claimed of its numbers.
 #[derive(Drop)]
 pub struct CounterInnerMutSubscriber {
@@ -48,7 +46,7 @@ impl CounterInnerMutSubscriber {
         let _ = self.event_fd.write(1, rt);
     }
 
-    /// Reads the `EventFd`, which then is ready for `IN` no more.
+    /// Reads the `EventFd`, which is then no longer ready for `IN`.
     pub fn clear_event<R: Wait>(&self, rt: &R) {
         let _ = self.event_fd.read(rt);
     }
@@ -63,7 +61,7 @@ impl CounterInnerMutSubscriber {
         self.errors.load(Ordering::SeqCst)
     }
 
-    /// Always 0: of an event whose set is neither `IN`, `ERROR` nor `HANG_UP` nothing is kept.
+    /// Always 0: an event whose set is neither `IN`, `ERROR` nor `HANG_UP` isn't counted.
     pub fn spurious(&self) -> u64
         ensures { result ≡ 0 }
     {
@@ -88,7 +86,6 @@ impl CounterInnerMutSubscriber {
     }
 }
 
-/// One more, up to `u64::MAX`.
 fn count_up(count: &AtomicU64) {
     let _ = count.fetch_update(Ordering::SeqCst, Ordering::SeqCst, |n| n.checked_add(1));
 }

@@ -1,4 +1,4 @@
-//! What the counting subscribers keep beside their counts.
+//! What the counting subscribers keep beside their counts: numbers up to `u64::MAX`, and the first refusal.
 
 ghost use Rattle.std.specs.Prelude.{◌≡◌};
 ghost use Rattle.event_loop.specs.CounterEvents.{nothing_observed, with_error, with_spurious, with_hang_up, with_fault, with_first_fault};
@@ -6,16 +6,11 @@ ghost use Rattle.event_loop.specs.CounterEvents.{nothing_observed, with_error, w
 use crate::error::{Error, Result};
 use crate::events::RefusedRequest;
 
-/// What was observed beside the events that count.
 #[derive(Clone, Copy)]
 pub(super) struct Observations {
-    /// How many events had the set `ERROR`, up to `u64::MAX`.
     pub(super) errors: u64,
-    /// How many events were expected by none of the rows, up to `u64::MAX`.
     pub(super) spurious: u64,
-    /// Whether an event had the set `HANG_UP`.
     pub(super) hung_up: bool,
-    /// The first refusal that a request met.
     pub(super) fault: Option<Error>,
 }
 
@@ -43,7 +38,6 @@ impl Observations {
         self.spurious = self.spurious.saturating_add(1);
     }
 
-    /// Keeps the hang-up, and the answer to the removal.
     pub(super) fn hang_up(&mut self, answer: Result<()>)
         ensures { self.new ≡ with_hang_up answer self.old }
     {
@@ -51,7 +45,6 @@ impl Observations {
         self.keep_fault(answer);
     }
 
-    /// Keeps the first refusal of a list of requests, where there was none before.
     pub(super) fn keep_first_fault(&mut self, answer: std::result::Result<(), RefusedRequest>)
         ensures { self.new ≡ with_first_fault answer self.old }
     {
@@ -60,7 +53,6 @@ impl Observations {
         }
     }
 
-    /// Keeps a refusal, where there was none before.
     pub(super) fn keep_fault(&mut self, answer: Result<()>)
         ensures { self.new ≡ with_fault answer self.old }
     {

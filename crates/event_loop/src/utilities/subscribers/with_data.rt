@@ -18,11 +18,9 @@ use std::alloc::Global;
 use std::sync::Wait;
 use vmm_sys::eventfd::EventFd;
 
-/// Counts the `IN` events of three [`Counter`]s, each by data of its own: `first_data`, and 1 and 2 more.
-///
-/// `init` adds the three with `IN` and their data. Once [`set_toggle_registry`](CounterSubscriberWithData::set_toggle_registry)
-/// has set the toggle, the next `process`, whatever its event, first clears it, removes all three descriptors and adds
-/// them again.
+/// Counts the `IN` events of three [`Counter`]s, whose data are `first_data` and the two numbers after it. `init` adds the three
+/// with `IN` and their data. Once [`set_toggle_registry`](CounterSubscriberWithData::set_toggle_registry) has set the toggle, the
+/// next `process`, whatever its event, first clears it, removes all three descriptors and adds them again.
 #[derive(Drop)]
 pub struct CounterSubscriberWithData {
     first: Counter,
@@ -38,8 +36,7 @@ pub struct CounterSubscriberWithData {
 impl CounterSubscriberWithData {
     ghost use Rattle.event_loop.specs.DataCounterSubscribers.{event_fds_of, first_data_of, is_toggled, counts_of, with_toggle, observed_with_data, wanted, renewal, renewed, counted, data_row};
 
-    /// A subscriber with three counters from 0 and the toggle clear, that has observed nothing. The allocator is for
-    /// [`get_all_counter_values`](CounterSubscriberWithData::get_all_counter_values).
+    /// A subscriber that has counted nothing; `alloc` is for `get_all_counter_values`.
     pub fn new(alloc: Global, event_fds: [EventFd; 3], first_data: u32) -> Self
         requires { first_data ≤ 4294967293 }
         ensures event_fds { event_fds_of result ≡ event_fds }
@@ -113,7 +110,6 @@ impl CounterSubscriberWithData {
         self.observations.fault
     }
 
-    /// What each counter wants, with its data.
     fn wanted(&self) -> [Events; 3]
         ensures { result ≡ wanted self.now }
     {
@@ -124,7 +120,6 @@ impl CounterSubscriberWithData {
         ]
     }
 
-    /// Where the toggle is set: clears it, and removes and adds all three.
     fn renew<P: EventPoller>(&mut self, ops: &mut EventOps<P>)
         ensures { (exchanges : Exchanges) × (calls : List PollerCall) × (requests_of exchanges ≡ renewal self.old)
             × (self.new ≡ renewed exchanges self.old) × AreMadeThrough P.controls P.waits ops.old ops.new exchanges calls }
@@ -145,7 +140,6 @@ impl CounterSubscriberWithData {
         self.observations.keep_first_fault(answer);
     }
 
-    /// Counts an `IN` event by its data.
     fn count(&mut self, data: u32)
         ensures { self.new ≡ counted «data» self.old }
     {
@@ -160,7 +154,6 @@ impl CounterSubscriberWithData {
         }
     }
 
-    /// What an event of this set does, once the registrations were renewed.
     fn serve<P: EventPoller>(&mut self, events: Events, ops: &mut EventOps<P>)
         ensures { (exchanges : Exchanges) × (calls : List PollerCall) × data_row (kind_of events.set) self.old events exchanges self.new
             × AreMadeThrough P.controls P.waits ops.old ops.new exchanges calls }

@@ -1,4 +1,4 @@
-//! A row of marks, held as bits: a mark is set, cleared or found at the cost of a word.
+//! A row of marks, held as bits in words: a mark is set, cleared or read at the cost of one word.
 
 ghost use Rattle.std.specs.Prelude.{◌≡◌, ◌<◌, ◌≤◌, ◌↔◌, ◌*◌, ◌/◌, ◌-◌, ◌^◌, ◌++◌, [], true, false, length, replicate, slice_set, IsTrue, MatchOption, OnOk, OnErr};
 ghost use Rattle.vmm_sys.specs.NumberSet.{IsMarked, IsFirstFrom, NoneFrom, NoneInWordFrom, IsEmptyWord};
@@ -9,7 +9,6 @@ use std::marker::Model;
 /// How many marks a word holds.
 pub(super) const WORD: usize = 64;
 
-/// A row of marks, a whole number of words long.
 #[derive(Drop)]
 pub(super) struct Row {
     words: Vec<u64>,
@@ -35,7 +34,6 @@ impl Row {
         }
     }
 
-    /// How many marks there are, set or not.
     pub(super) fn len(&self) -> usize
         ensures len { result ≡ length self.now }
         ensures bound { result ≤ 2 ^ 35 }
@@ -43,7 +41,6 @@ impl Row {
         self.words.len() * WORD
     }
 
-    /// Makes the row at least so many words long.
     pub(super) fn make_words(&mut self, words: usize) -> Result<(), AllocError>
         requires { words ≤ 2 ^ 29 }
         ensures longer { OnOk result (self.new ≡ self.old ++ replicate (64 * words - length self.old) false) }
@@ -62,7 +59,6 @@ impl Row {
         (self.words[number / WORD] >> (number % WORD)) & 1 == 1
     }
 
-    /// Sets a mark, and says whether its word had none.
     pub(super) fn set(&mut self, number: usize) -> bool
         requires { number < length self.old }
         ensures marks { self.new ≡ slice_set self.old number true }
@@ -74,7 +70,6 @@ impl Row {
         was_empty
     }
 
-    /// Clears a mark, and says whether its word has none now.
     pub(super) fn clear(&mut self, number: usize) -> bool
         requires { number < length self.old }
         ensures marks { self.new ≡ slice_set self.old number false }
@@ -85,7 +80,6 @@ impl Row {
         *word == 0
     }
 
-    /// The first mark from a number on, in the word of that number.
     pub(super) fn first_in_word_from(&self, number: usize) -> Option<usize>
         ensures { MatchOption result (NoneInWordFrom self.now number) (λ n. IsFirstFrom self.now number n) }
     {
@@ -97,7 +91,6 @@ impl Row {
         Some(number + rest.trailing_zeros() as usize)
     }
 
-    /// The first mark of a word.
     pub(super) fn first_in_word(&self, word: usize) -> Option<usize>
         ensures { MatchOption result (IsEmptyWord self.now word) (λ n. IsFirstFrom self.now (word * 64) n) }
     {
@@ -108,7 +101,6 @@ impl Row {
         Some(word * WORD + marks.trailing_zeros() as usize)
     }
 
-    /// The first mark from a number on.
     pub(super) fn first_from(&self, number: usize) -> Option<usize>
         ensures { MatchOption result (NoneFrom self.now number) (λ n. IsFirstFrom self.now number n) }
     {
