@@ -69,7 +69,8 @@ impl ReplayPoller {
         self.entries[self.passed..].is_empty()
     }
 
-    /// If a call differed from the record, the index of the entry that was next, or the length of the record.
+    /// If a call differed from the record, the index of the entry that was next, or the length of the record. It compares calls of
+    /// the poller alone: what a subscriber reads elsewhere (a counter, a channel, a clock) isn't recorded, and may differ unseen.
     pub fn diverged(&self) -> Option<usize>
         ensures { result ≡ divergence_index self.now }
     {
