@@ -28,6 +28,8 @@ mod rounds;
 mod senders;
 pub mod told_queue;
 #[cfg(test)]
+mod tracked;
+#[cfg(test)]
 mod wake_ups;
 #[cfg(test)]
 mod watched;

@@ -3,3 +3,4 @@ pub mod RefusalText
 pub mod Ends
 pub mod Steps
 pub mod Room
+pub mod Tracked

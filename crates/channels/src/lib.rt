@@ -8,14 +8,17 @@
 
 mod ends;
 mod errors;
+mod history;
 pub mod laws;
 pub mod queue;
 mod receiver;
 pub mod room;
 mod sender;
 mod shared;
+mod tracked;
 
 pub use ends::{channel, sync_channel, sync_channel_with_room};
 pub use errors::{CloseError, Refusal, SendError};
 pub use receiver::Receiver;
 pub use sender::Sender;
+pub use tracked::{TrackedReceiver, TrackedSender};

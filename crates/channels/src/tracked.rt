@@ -1,0 +1,137 @@
+//! Ends of which contracts see the messages.
+
+ghost use Rattle.std.specs.Prelude.{◌≡◌, ◌++◌, ◌∷◌, List, [], Err, None, Some, OnErr, IfErr, MatchOption, MatchResult, option_to_list};
+ghost use Rattle.channels.specs.Ends.{counter_of_sender, room_of_sender, IsSendRefusal};
+
+use crate::errors::{CloseError, SendError};
+use crate::history::{self, History};
+use crate::receiver::Receiver;
+use crate::sender::Sender;
+use std::alloc::AllocError;
+use std::marker::Model;
+use std::snapshot::Snapshot;
+use std::sync::Wait;
+use std::time::Clock;
+use vmm_sys::counter::Counter;
+use vmm_sys::epoll::{AsRawFd, RawFd};
+use vmm_sys::eventfd::EventFd;
+
+/// A [`Sender`] of which contracts see what it has sent: so a relation can say what its owner sends. The list is no part of the
+/// program that runs.
+#[derive(Drop)]
+pub struct TrackedSender<M, C = EventFd> {
+    sender: Sender<M, C>,
+    sent: Snapshot<History<M>>,
+}
+
+impl<M, C> Model for TrackedSender<M, C> {
+    ghost use Rattle.channels.specs.Tracked.{Sent, messages_of};
+
+    ghost Value = { Sent M C };
+
+    ghost view = { λ it. record { sender = it.sender; messages = messages_of it.sent.value } };
+}
+
+impl<M: Drop, C: Counter + Drop> TrackedSender<M, C> {
+    /// One that has sent nothing yet.
+    pub fn new(sender: Sender<M, C>) -> Self
+        ensures { result ≡ record { sender = sender; messages = [] } }
+    {
+        TrackedSender {
+            sender,
+            sent: history::nothing(),
+        }
+    }
+
+    /// As [`Sender::send`].
+    pub fn send<R: Wait + Clock>(&mut self, message: M, rt: &R) -> Result<(), SendError<M>>
+        ensures sent { MatchResult result (λ _. self.new ≡ record self.old { messages = self.old.messages ++ message ∷ [] }) (λ _. self.new ≡ self.old) }
+        ensures handed_back { IfErr result (λ refused. refused.message ≡ message) }
+        ensures refusals { IfErr result (λ refused. IsSendRefusal (C.rings (counter_of_sender self.old.sender)) refused.why) }
+    {
+        let snapshot = Snapshot::of(&message);
+        self.sender.send(message, rt)?;
+        history::push(&mut self.sent, snapshot);
+        Ok(())
+    }
+
+    /// As [`Sender::room`].
+    pub fn room(&self) -> Option<&C>
+        ensures { MatchOption result (room_of_sender self.now.sender ≡ None) (λ counter. room_of_sender self.now.sender ≡ Some counter.now) }
+    {
+        self.sender.room()
+    }
+
+    /// As [`Sender::close`]. A sender that comes back isn't tracked any more.
+    pub fn close<R: Wait + Clock>(self, rt: &R) -> Result<(), CloseError<Sender<M, C>>>
+        ensures handed_back { IfErr result (λ refused. (refused.sender ≡ self.sender) × C.rings (counter_of_sender self.sender) (Err refused.errno)) }
+    {
+        self.sender.close(rt)
+    }
+}
+
+/// A [`Receiver`] of which contracts see what it has returned. The list is no part of the program that runs.
+#[derive(Drop)]
+pub struct TrackedReceiver<M, C = EventFd> {
+    receiver: Receiver<M, C>,
+    received: Snapshot<History<M>>,
+}
+
+impl<M, C> Model for TrackedReceiver<M, C> {
+    ghost use Rattle.channels.specs.Tracked.{Received, messages_of};
+
+    ghost Value = { Received M C };
+
+    ghost view = { λ it. record { receiver = it.receiver; messages = messages_of it.received.value } };
+}
+
+impl<M: Drop, C: Counter + Drop> TrackedReceiver<M, C> {
+    /// One that has returned nothing yet.
+    pub fn new(receiver: Receiver<M, C>) -> Self
+        ensures { result ≡ record { receiver = receiver; messages = [] } }
+    {
+        TrackedReceiver {
+            receiver,
+            received: history::nothing(),
+        }
+    }
+
+    /// As [`Receiver::take`].
+    pub fn take<R: Wait + Clock>(&mut self, into: &mut Vec<M>, rt: &R) -> Result<(), AllocError>
+        ensures taken { (taken : List M) × (into.new.items ≡ into.old.items ++ taken) × (self.new ≡ record self.old { messages = self.old.messages ++ taken }) × OnErr result (taken ≡ []) }
+    {
+        let from = into.len();
+        self.receiver.take(into, rt)?;
+        history::push_rest(&mut self.received, into, from);
+        Ok(())
+    }
+
+    /// As [`Receiver::recv`].
+    pub fn recv<R: Wait + Clock>(&mut self, rt: &R) -> Option<M>
+        ensures { self.new ≡ record self.old { messages = self.old.messages ++ option_to_list result } }
+    {
+        let message = self.receiver.recv(rt)?;
+        history::push(&mut self.received, Snapshot::of(&message));
+        Some(message)
+    }
+
+    /// As [`Receiver::is_over`].
+    pub fn is_over<R: Wait>(&self, rt: &R) -> bool {
+        self.receiver.is_over(rt)
+    }
+
+    /// As [`Receiver::close`].
+    pub fn close<R: Wait + Clock>(self, rt: &R) -> Vec<M> {
+        self.receiver.close(rt)
+    }
+}
+
+impl<M, C: AsRawFd> AsRawFd for TrackedReceiver<M, C> {
+    ghost use Rattle.channels.specs.Ends.{counter_of_receiver};
+
+    ghost descriptor = { λ it. C.descriptor (counter_of_receiver it.receiver) };
+
+    fn as_raw_fd(&self) -> RawFd {
+        self.receiver.as_raw_fd()
+    }
+}
