@@ -43,6 +43,7 @@ fn what_a_tracked_sender_sends_is_received(rt: HostRuntime) {
     let refused = refused.map(|refused| (refused.why, refused.message));
     expect_same(&rt, &refused, &Some((Refusal::Full, 7)));
     expect_same(&rt, &is_reported(&rt, &mut channel.epoll, 0), &true);
+    expect_same(&rt, &channel.receiver.pending(), &Some(2));
     expect_same(&rt, &channel.receiver.recv(&rt), &Some(5));
     let mut list = expect_ok(&rt, vec![in rt.alloc(); 9]);
     expect_ok(&rt, channel.receiver.take(&mut list, &rt));

@@ -120,6 +120,11 @@ impl<M: Drop, C: Counter + Drop> TrackedReceiver<M, C> {
         self.receiver.is_over(rt)
     }
 
+    /// As [`Receiver::pending`].
+    pub fn pending(&self) -> Option<usize> {
+        self.receiver.pending()
+    }
+
     /// As [`Receiver::close`].
     pub fn close<R: Wait + Clock>(self, rt: &R) -> Vec<M> {
         self.receiver.close(rt)

@@ -4,7 +4,8 @@ use crate::again;
 use crate::descriptors::{copy_counter, open_counter, open_epoll};
 use crate::expecting::{Host, Looping, expect_ok, expect_same, mark};
 use channels::{
-    Receiver, Refusal, SendError, Sender, channel, sync_channel, sync_channel_with_room,
+    Receiver, Refusal, SendError, Sender, TrackedReceiver, TrackedSender, channel, sync_channel,
+    sync_channel_with_room,
 };
 use std::alloc::Global;
 use vmm_sys::errno::Errno;
@@ -64,6 +65,53 @@ fn messages_are_sent_and_taken(rt: HostRuntime) {
     let copied = sender.try_clone(&rt);
     mark(&rt);
     expect_ok(&rt, "Sender::try_clone", copied);
+}
+
+/// Sends a number by a tracked sender, as [`send`].
+fn send_tracked<R: Looping>(
+    rt: &R,
+    sender: &mut TrackedSender<usize>,
+    number: usize,
+) -> Result<(), Refusal> {
+    match sender.send(number, rt) {
+        Ok(()) => Ok(()),
+        Err(SendError { why, message }) => {
+            expect_same(rt, "TrackedSender::send", &message, &number);
+            Err(why)
+        }
+    }
+}
+
+#[test]
+fn messages_pass_tracked_ends(rt: HostRuntime) {
+    let mut epoll = open_epoll(&rt, rt.alloc());
+    let counter = open_counter(&rt, &mut epoll, 0);
+    let (sender, receiver) = again!(
+        &rt,
+        "channel",
+        channel(copy_counter(&rt, &counter), rt.alloc())
+    );
+    let mut sender = TrackedSender::new(sender);
+    let mut receiver = TrackedReceiver::new(receiver);
+    again!(
+        &rt,
+        "TrackedSender::send",
+        send_tracked(&rt, &mut sender, 1),
+        counter.read(&rt) == Err(Errno::EAGAIN)
+    );
+    let mut taken = Vec::new(rt.alloc());
+    again!(
+        &rt,
+        "TrackedReceiver::take",
+        receiver.take(&mut taken, &rt),
+        taken.is_empty()
+    );
+    expect_same(
+        &rt,
+        "TrackedReceiver::take",
+        &taken.as_slice(),
+        &[1].as_slice(),
+    );
 }
 
 /// A channel with room for two numbers: neither their sends nor their receipts take memory.
