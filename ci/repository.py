@@ -6,7 +6,7 @@ import shutil
 
 from command import ROOT
 
-LIBRARIES = ["vmm_sys", "job_tickets", "dispatch_tables", "event_loop", "event_manager", "recorded_runs", "poller_records", "channels", "inboxes", "timerfd"]
+LIBRARIES = ["vmm_sys", "job_tickets", "dispatch_tables", "event_loop", "event_manager", "recorded_runs", "poller_records", "channels", "inboxes", "timerfd", "closing"]
 KERNEL = f"{ROOT}/docs/KERNEL.md"
 UNUSED = shutil.ignore_patterns("out", "must-fail", "refused", "proved", "test-fail")
 BLOCK = re.compile(r"^```\w+ (\S+)\n(.*?)^```$", re.M | re.S)

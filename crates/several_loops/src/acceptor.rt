@@ -3,10 +3,10 @@
 use crate::fault::Fault;
 use crate::worker::{Connection, Report};
 use channels::{Receiver, Sender, channel};
+use closing::Closing;
 use event_manager::{Either, EventLoop, EventPoller, SubscriberOps, ThreadLoop};
 use inboxes::Inbox;
 use std::alloc::Global;
-use std::mem;
 use std::sync::Wait;
 use std::time::Clock;
 use vmm_sys::epoll::Epoll;
@@ -17,11 +17,11 @@ pub type Client = [&'static str; 2];
 
 /// The way to a worker: its poller, by which a descriptor is opened that it can watch, and where it is sent connections.
 #[derive(Drop)]
-pub struct Lane<R> {
+pub struct Lane<R: Wait + Clock> {
     /// The worker's poller.
     pub epoll: Epoll<R>,
-    /// Where it is sent connections.
-    pub connections: Sender<Connection>,
+    /// Where it is sent connections, until this is dropped.
+    pub connections: Closing<Sender<Connection>, R>,
 }
 
 /// Who is in the acceptor's loop: where clients come, and where the workers report.
@@ -29,7 +29,7 @@ type Peer<R> = Either<Inbox<Client, R>, Inbox<Report, R>>;
 
 /// Gives each client that comes a connection to the worker whose turn it is, and gathers what the workers report.
 #[derive(Drop)]
-pub struct Acceptor<P, R> {
+pub struct Acceptor<P, R: Wait + Clock> {
     /// Its poller.
     pub poller: P,
     /// By which clients come.
@@ -56,27 +56,22 @@ fn say<R: Wait + Clock>(
     Ok(())
 }
 
-impl<R: Wait + Clock + Drop> Lane<R> {
+impl<R: Wait + Clock + Copy + Drop> Lane<R> {
     /// Makes a connection, in whose place a channel of the worker's table stands, and sends the worker its end. The client
     /// says what it has to say, and closes whatever came of that: the worker waits for it.
     fn connect(&self, client: Client, alloc: Global, rt: &R) -> Result<(), Fault> {
         let (sender, receiver) = channel(EventFd::new(&self.epoll, 0, rt)?, alloc)?;
+        let sender = Closing::new(sender, *rt);
         self.connections
+            .end
             .send(receiver, rt)
             .map_err(|refused| refused.why)?;
-        let said = say(client, &sender, alloc, rt);
-        sender.close(rt).map_err(|refused| refused.errno)?;
-        said
-    }
-
-    /// Sends no more connections.
-    fn close(self, rt: &R) -> Result<(), Fault> {
-        Ok(self.connections.close(rt).map_err(|refused| refused.errno)?)
+        say(client, &sender.end, alloc, rt)
     }
 }
 
 /// Connects each client to the worker whose turn it is.
-fn connect_all<R: Wait + Clock + Drop>(
+fn connect_all<R: Wait + Clock + Copy + Drop>(
     clients: Vec<Client>,
     lanes: &mut Vec<Lane<R>>,
     alloc: Global,
@@ -91,21 +86,12 @@ fn connect_all<R: Wait + Clock + Drop>(
     Ok(())
 }
 
-/// Closes all that are open.
-fn close_all<R: Wait + Clock + Drop>(lanes: &mut Vec<Lane<R>>, rt: &R) -> Result<(), Fault> {
-    let empty = Vec::new(*lanes.allocator());
-    for lane in mem::replace(lanes, empty) {
-        lane.close(rt)?;
-    }
-    Ok(())
-}
-
 /// Gathers the reports, in the order in which they come, until all workers have closed.
-fn gather<R: Wait + Clock + Drop, P: EventPoller + Drop>(
+fn gather<R: Wait + Clock + Copy + Drop, P: EventPoller + Drop>(
     mut peers: EventLoop<Peer<R>, P>,
     clients: Inbox<Client, R>,
     reports: Inbox<Report, R>,
-    lanes: &mut Vec<Lane<R>>,
+    mut lanes: Vec<Lane<R>>,
     alloc: Global,
     rt: &R,
 ) -> Result<Vec<Report>, Fault> {
@@ -115,9 +101,9 @@ fn gather<R: Wait + Clock + Drop, P: EventPoller + Drop>(
     for _run in rt.forever() {
         // Before the wait, since one whose request was refused has no event that would end it.
         if let Either::First(inbox) = peers.subscriber_mut(clients)? {
-            connect_all(inbox.take_arrived()?, lanes, alloc, rt)?;
+            connect_all(inbox.take_arrived()?, &mut lanes, alloc, rt)?;
             if inbox.is_over() {
-                close_all(lanes, rt)?;
+                lanes.clear();
             }
         }
         if let Either::Second(inbox) = peers.subscriber_mut(reports)? {
@@ -139,16 +125,12 @@ impl<P: EventPoller + Drop, R: Wait + Clock + Copy + Drop> ThreadLoop<R> for Acc
             poller,
             clients,
             reports,
-            mut lanes,
+            lanes,
             alloc,
         } = self;
         let clients = Inbox::new(clients, alloc, *rt);
         let reports = Inbox::new(reports, alloc, *rt);
-        let gathered = match EventLoop::new(alloc, poller) {
-            Ok(peers) => gather(peers, clients, reports, &mut lanes, alloc, rt),
-            Err(error) => Err(Fault::Loop(error)),
-        };
-        close_all(&mut lanes, rt)?;
-        gathered
+        let peers = EventLoop::new(alloc, poller)?;
+        gather(peers, clients, reports, lanes, alloc, rt)
     }
 }

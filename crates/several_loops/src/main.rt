@@ -9,6 +9,7 @@ mod worker;
 
 use acceptor::{Acceptor, Client, Lane};
 use channels::channel;
+use closing::Closing;
 use event_manager::with_loops;
 use fault::Fault;
 use std::alloc::Global;
@@ -41,7 +42,9 @@ fn serve<R: Threads + Wait + Clock + Copy + Send + Sync + Drop>(
 ) -> Result<Vec<Report>, Fault> {
     let epoll = Epoll::new(*rt, alloc)?;
     let (to_acceptor, clients) = channel(EventFd::new(&epoll, 0, rt)?, alloc)?;
+    let to_acceptor = Closing::new(to_acceptor, *rt);
     let (to_report, reports) = channel(EventFd::new(&epoll, 0, rt)?, alloc)?;
+    let to_report = Closing::new(to_report, *rt);
     let mut lanes = Vec::new(alloc);
     let mut workers = Vec::new(alloc);
     for number in 0..WORKERS {
@@ -49,21 +52,24 @@ fn serve<R: Threads + Wait + Clock + Copy + Send + Sync + Drop>(
         let (to_worker, connections) = channel(EventFd::new(&epoll, 0, rt)?, alloc)?;
         lanes.push(Lane {
             epoll: epoll.try_clone()?,
-            connections: to_worker,
+            connections: Closing::new(to_worker, *rt),
         })?;
         workers.push(Worker {
             number,
             poller: epoll,
             connections,
-            reports: to_report.try_clone(rt)?,
+            reports: to_report.end.try_clone(rt)?,
             alloc,
         })?;
     }
-    to_report.close(rt).map_err(|refused| refused.errno)?;
+    drop(to_report);
     for client in CLIENTS {
-        to_acceptor.send(client, rt).map_err(|refused| refused.why)?;
+        to_acceptor
+            .end
+            .send(client, rt)
+            .map_err(|refused| refused.why)?;
     }
-    to_acceptor.close(rt).map_err(|refused| refused.errno)?;
+    drop(to_acceptor);
     let acceptor = Acceptor {
         poller: epoll,
         clients,

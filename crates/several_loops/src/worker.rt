@@ -2,6 +2,7 @@
 
 use crate::fault::Fault;
 use channels::{Receiver, Sender};
+use closing::Closing;
 use event_manager::{
     Either, EventLoop, EventPoller, Result, SubscriberId, SubscriberOps, ThreadLoop,
 };
@@ -121,9 +122,9 @@ impl<P: EventPoller + Drop, R: Wait + Clock + Copy + Drop> ThreadLoop<R> for Wor
             reports,
             alloc,
         } = self;
-        let served = serve(number, poller, connections, alloc, rt);
-        let sent = served.map(|report| reports.send(report, rt));
-        reports.close(rt).map_err(|refused| refused.errno)?;
-        Ok(sent?.map_err(|refused| refused.why)?)
+        let reports = Closing::new(reports, *rt);
+        let report = serve(number, poller, connections, alloc, rt)?;
+        reports.end.send(report, rt).map_err(|refused| refused.why)?;
+        Ok(())
     }
 }
