@@ -4,7 +4,7 @@ ghost use Rattle.std.specs.Prelude.{◌≡◌, [], false, Ok, Err, IfOk, IfErr};
 ghost use Rattle.channels.specs.Ends.{counter_of_receiver};
 ghost use Rattle.event_loop.specs.CounterEvents.{event_on, new_counter};
 
-use channels::Receiver;
+use channels::{Receiver, TrackedReceiver};
 use event_loop::{Error, EventOps, EventPoller, EventSet, Events, MutEventSubscriber, Result};
 use std::alloc::Global;
 use std::marker::Model;
@@ -16,7 +16,7 @@ use std::time::Clock;
 /// no more.
 #[derive(Drop)]
 pub struct Inbox<M, R> {
-    receiver: Receiver<M>,
+    receiver: TrackedReceiver<M>,
     ready: Events,
     arrived: Vec<M>,
     is_over: bool,
@@ -30,17 +30,17 @@ impl<M, R> Model for Inbox<M, R> {
 
     ghost Value = { Gathered M };
 
-    ghost view = { λ inbox. record { ready = inbox.ready; arrived = inbox.arrived.items; is_over = inbox.is_over; went = inbox.went } };
+    ghost view = { λ inbox. record { ready = inbox.ready; received = inbox.receiver.messages; arrived = inbox.arrived.items; is_over = inbox.is_over; went = inbox.went } };
 }
 
 impl<M: Drop, R: Drop> Inbox<M, R> {
     /// One in which nothing has arrived. It takes with this handle.
     pub fn new(receiver: Receiver<M>, alloc: Global, rt: R) -> Self
-        ensures { result ≡ record { ready = event_on (new_counter (counter_of_receiver receiver)) 0; arrived = []; is_over = false; went = Ok tt } }
+        ensures { result ≡ record { ready = event_on (new_counter (counter_of_receiver receiver)) 0; received = []; arrived = []; is_over = false; went = Ok tt } }
     {
         let ready = Events::new(&receiver, EventSet::IN);
         Inbox {
-            receiver,
+            receiver: TrackedReceiver::new(receiver),
             ready,
             arrived: Vec::new(alloc),
             is_over: false,
@@ -78,7 +78,8 @@ impl<M: Drop, R: Wait + Clock + Drop> MutEventSubscriber for Inbox<M, R> {
     ghost begins = { λ v exchanges w. (exchanges ≡ (Add v.ready, w.went) ∷ []) × (w ≡ record v { went = w.went }) };
 
     ghost serves = { λ v event exchanges w. MatchBool w.is_over (requests_of exchanges ≡ Remove v.ready ∷ []) (requests_of exchanges ≡ [])
-        × (w ≡ record v { arrived = w.arrived; is_over = w.is_over; went = w.went }) × ((messages : List M) × (w.arrived ≡ v.arrived ++ messages)) × OnErr w.went (w.arrived ≡ v.arrived) };
+        × (w ≡ record v { received = w.received; arrived = w.arrived; is_over = w.is_over; went = w.went })
+        × ((messages : List M) × (w.received ≡ v.received ++ messages) × (w.arrived ≡ v.arrived ++ messages) × OnErr w.went (messages ≡ [])) };
 
     fn process<P: EventPoller>(&mut self, _events: Events, ops: &mut EventOps<P>) {
         let taken = self.receiver.take(&mut self.arrived, &self.rt);

@@ -5,7 +5,7 @@ ghost use Rattle.event_manager.specs.CounterEvents.{next_count};
 ghost use Rattle.server.specs.Peers.{statistics_of as said_by};
 
 use crate::connection::Connection;
-use channels::{Sender, TrackedSender};
+use channels::Sender;
 use event_manager::{
     Action, ActionOn, Either, Error, EventOps, EventPoller, EventSet, Events, MutEventSubscriber,
     Result,
@@ -35,7 +35,7 @@ pub struct Acceptor<R> {
     knocks: Events,
     // The connections to come, the last first.
     coming: Vec<Connection<R>>,
-    accepted: TrackedSender<Connection<R>>,
+    accepted: Sender<Connection<R>>,
     statistics: Statistics,
     asked: Result<()>,
     rt: R,
@@ -54,7 +54,7 @@ impl<R: Drop> Acceptor<R> {
             listener,
             knocks,
             coming,
-            accepted: TrackedSender::new(accepted),
+            accepted,
             statistics: Statistics::default(),
             asked: Ok(()),
             rt,
@@ -85,18 +85,15 @@ impl<R: Wait + Clock + Drop> MutEventSubscriber for Acceptor<R> {
     // It asks to add its listener, and keeps the answer.
     ghost begins = { λ v exchanges w. (exchanges ≡ (Add v.knocks, w.asked) ∷ []) × (w ≡ record v { asked = w.asked }) };
 
-    // It asks for nothing, and the next that comes, if any, is sent or still to come; it counts none, as the loop lets them join.
-    ghost serves = { λ v event exchanges w. AsksNothing exchanges × (w ≡ record v { coming = w.coming; accepted = w.accepted })
-        × ((next : Option (Connection R)) × (v.coming.items ≡ w.coming.items ++ option_to_list next)
-        × (w.accepted ≡ record v.accepted { messages = v.accepted.messages ++ option_to_list next })) };
+    // It asks for nothing, and accepts who comes next, if anybody; nobody is counted before the loop lets them join.
+    ghost serves = { λ v event exchanges w. AsksNothing exchanges × (w ≡ record v { coming = w.coming })
+        × ((next : Option (Connection R)) × (v.coming.items ≡ w.coming.items ++ option_to_list next)) };
 
     fn process<P: EventPoller>(&mut self, _events: Events, _ops: &mut EventOps<P>) {
         let _ = self.listener.read(&self.rt);
         if let Some(connection) = self.coming.pop() {
-            if let Err(refused) = self.accepted.send(connection, &self.rt) {
-                // There is room, since it has just been taken out.
-                let _ = self.coming.push(refused.message);
-            }
+            // A connection that the channel refuses is dropped.
+            let _ = self.accepted.send(connection, &self.rt);
         }
     }
 
