@@ -1,4 +1,4 @@
-"""Repositories of a user's own, made of the crates that stand here and of the files that a page shows."""
+"""Repositories of a user's own, made of the crates that stand here."""
 
 import os
 import re
@@ -7,14 +7,17 @@ import shutil
 from command import ROOT
 
 LIBRARIES = ["vmm_sys", "job_tickets", "dispatch_tables", "event_loop", "event_manager", "recorded_runs", "poller_records", "channels", "inboxes", "timerfd", "closing"]
-KERNEL = f"{ROOT}/docs/KERNEL.md"
+BESIDE = f"{ROOT}/beside_the_kernel"
+# Which file has the lines of a folder's crates. `rt ci` takes one crates.txt, and no .rt outside its crates: there they end in .rs.
+LINES = {ROOT: "crates.txt", BESIDE: "crate_lines.txt"}
+# What a user's own repository over Linux's epoll has, the programs behind the library.
+LINUX = ["linux", "first", "console", "recorded"]
 UNUSED = shutil.ignore_patterns("out", "must-fail", "refused", "proved", "test-fail")
-BLOCK = re.compile(r"^```\w+ (\S+)\n(.*?)^```$", re.M | re.S)
 
 
-def rows():
-    """The line of each crate in crates.txt."""
-    with open(f"{ROOT}/crates.txt", encoding="utf-8") as it:
+def rows(home):
+    """The line of crates.txt of each crate of a folder."""
+    with open(f"{home}/{LINES[home]}", encoding="utf-8") as it:
         return {line.split(":")[0].split()[0]: line for line in it if line.strip() and not line.startswith("#")}
 
 
@@ -25,22 +28,17 @@ def append(path, text):
         it.write(text)
 
 
-def copy(folder, crates):
-    """Copies crates, with their proofs, and lists them."""
-    lines = rows()
+def copy_named(given, made):
+    """Copies a file; one that ends in .rs becomes an .rt."""
+    return shutil.copy2(given, re.sub(r"\.rs$", ".rt", made))
+
+
+def copy(folder, crates, home=ROOT):
+    """Copies crates of this repository, or of a folder of it, with their proofs, and lists them."""
+    lines = rows(home)
     for crate in crates:
-        shutil.copytree(f"{ROOT}/crates/{crate}", f"{folder}/crates/{crate}", ignore=UNUSED)
+        shutil.copytree(f"{home}/crates/{crate}", f"{folder}/crates/{crate}", ignore=UNUSED, copy_function=copy_named)
         append(f"{folder}/crates.txt", lines[crate])
-
-
-def lay(folder, page):
-    """Writes the files that a page shows, each in a block that names it; what it adds to crates.txt stands behind what is
-    there. Answers the page's crates that are programs, in its order."""
-    with open(page, encoding="utf-8") as it:
-        blocks = BLOCK.findall(it.read())
-    for path, text in blocks:
-        append(f"{folder}/{path}", text)
-    return [path.split("/")[1] for path, _ in blocks if path.endswith("src/main.rt")]
 
 
 def make(folder, crates):

@@ -74,9 +74,9 @@ def rewrite(folder, change):
 
 
 def renamed(text, names):
-    """The text with other names of crates, where they stand in a path."""
+    """The text with other names of crates, where they begin a path: a module may be named as its crate is."""
     for old, new in names.items():
-        text = re.sub(rf"\b{old}(?=::)|(?<=Rattle\.){old}\b", new, text)
+        text = re.sub(rf"(?<!::)\b{old}(?=::)|(?<=Rattle\.){old}\b", new, text)
     return text
 
 
