@@ -50,7 +50,7 @@ fn play<S: MutEventSubscriber, P: EventPoller, R: Wait + Clock + Print + AllocGl
     for names in ROUNDS {
         for name in names {
             let name = String::from_str(rt.alloc(), name)?;
-            greeter.send(name, rt).map_err(|refused| refused.why)?;
+            greeter.send(name, rt)?;
         }
         let events = run(actors)?;
         println!(rt; "{events} events")?;

@@ -15,6 +15,7 @@ mod in_a_loop;
 mod looks;
 #[cfg(test)]
 mod order;
+pub mod queue_with_counter;
 pub mod queue_with_room;
 #[cfg(test)]
 mod receiving;
@@ -26,7 +27,6 @@ mod room;
 mod rounds;
 #[cfg(test)]
 mod senders;
-pub mod told_queue;
 #[cfg(test)]
 mod tracked;
 #[cfg(test)]

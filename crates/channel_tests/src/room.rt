@@ -1,4 +1,4 @@
-//! The counter by which senders are told of room.
+//! The counter that is ready for senders while there is room.
 
 use crate::ends::expect_next_is;
 use crate::expecting::{expect_ok, expect_same};
@@ -51,7 +51,7 @@ fn open<R: Looping>(rt: R, alloc: Global, most: usize) -> Bounded<R> {
     open_over(rt, alloc, counter, most)
 }
 
-/// The descriptor of the counter by which a sender is told of room.
+/// The descriptor of the counter that is ready while there is room.
 fn room_of<R: Looping>(rt: &R, sender: &Sender<u64>) -> RawFd {
     sender.room().expect(rt, "it has one").as_raw_fd()
 }

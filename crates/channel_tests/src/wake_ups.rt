@@ -1,19 +1,19 @@
 //! What the counters of a queue show while messages come and go.
 
 use crate::expecting::{expect_ok, expect_same};
+use crate::queue_with_counter::QueueWithCounter;
 use crate::queue_with_room::QueueWithRoom;
-use crate::told_queue::ToldQueue;
 use channels::{Refusal, SendError};
 use std::process::Abort;
 
 /// Expects this value of the counter, and that so many messages wait.
-fn expect_told<R: Abort>(rt: &R, queue: &ToldQueue<u64>, value: u64, waiting: usize) {
+fn expect_told<R: Abort>(rt: &R, queue: &QueueWithCounter<u64>, value: u64, waiting: usize) {
     expect_same(rt, &(queue.value(), queue.waiting()), &(value, waiting));
 }
 
 #[test]
 fn a_value_of_zero_says_that_nothing_waits(rt: HostRuntime) {
-    let mut queue = ToldQueue::new(rt.alloc());
+    let mut queue = QueueWithCounter::new(rt.alloc());
     expect_told(&rt, &queue, 0, 0);
     for message in [5, 6] {
         expect_same(&rt, &queue.send(message), &Ok(()));
@@ -32,7 +32,7 @@ fn a_value_of_zero_says_that_nothing_waits(rt: HostRuntime) {
 
 #[test]
 fn the_end_is_told_until_the_receiver_closes(rt: HostRuntime) {
-    let mut queue = ToldQueue::new(rt.alloc());
+    let mut queue = QueueWithCounter::new(rt.alloc());
     expect_ok(&rt, queue.join());
     expect_same(&rt, &queue.leave(), &Ok(()));
     expect_told(&rt, &queue, 0, 0);

@@ -12,7 +12,7 @@ module _ {M C : Type 0} where
   abbrev pub counter_of_sender : Sender M C → C
   counter_of_sender sender = (arc_value sender.shared).counter
 
-  -- the counter by which it is told of room, if it is
+  -- the counter that is ready while there is room, if it has one
   abbrev pub room_of_sender : Sender M C → Option C
   room_of_sender sender = (arc_value sender.shared).room
 

@@ -1,4 +1,4 @@
--- The messages of a channel, and what each call does to them, and to the signal that tells the receiver.
+-- The messages of a channel, and what each call does to them and to the receiver's signal.
 use Rattle.std.specs.Prelude.{◌≡◌, ◌<◌, ◌+◌, ◌-◌, ◌++◌, ◌∷◌, [], ℕ, Bool, true, false, not, ◌&&◌, ◌||◌, ◌⊎◌, ◌==◌, nat_lt, List, length, Option, None, Some, MatchBool, Result, Ok, Err}
 use Rattle.std.specs.declared.alloc.AllocError.{AllocError}
 use Rattle.vmm_sys.specs.declared.errno.Errno.{Errno}
@@ -24,7 +24,7 @@ module _ {M : Type 0} where
   abbrev pub new_messages : Option ℕ → Messages M
   new_messages most = record { waiting = []; most = most; senders = 1; is_open = true }
 
-  -- there is something to tell the receiver: messages wait, or all senders have closed
+  -- the receiver has something to do: messages wait, or all senders have closed
   abbrev pub is_ready : Messages M → Bool
   is_ready q = q.is_open && (not (length q.waiting == 0) || (q.senders == 0))
 
@@ -55,27 +55,27 @@ module _ {M : Type 0} where
   IsJoined q (Err _) r = (r ≡ q) × ((q.senders ≡ 0) ⊎ (q.senders ≡ 18446744073709551615))
 
 module _ {M S : Type 0} (raises : S → Result (Unit {0}) Errno → S → Type 0) where
-  -- the signal is raised where there is nothing to tell, and left alone where there is something
-  abbrev pub IsTold : Messages M → S → Result (Unit {0}) Errno → S → Type 0
-  IsTold q before answer after = MatchBool (is_ready q) ((answer ≡ Ok tt) × (after ≡ before)) (raises before answer after)
+  -- the signal is raised where the queue is not ready yet, and else left alone
+  abbrev pub IsRaised : Messages M → S → Result (Unit {0}) Errno → S → Type 0
+  IsRaised q before answer after = MatchBool (is_ready q) ((answer ≡ Ok tt) × (after ≡ before)) (raises before answer after)
 
   -- why a message may be refused; but for a raise that is refused the signal is left alone
   abbrev pub IsRefused : Messages M → S → Refusal → S → Type 0
   IsRefused q before Closed after = (q.is_open ≡ false) × (after ≡ before)
   IsRefused q before Full after = (q.is_open ≡ true) × (has_room q.most (length q.waiting) ≡ false) × (after ≡ before)
   IsRefused q before OutOfMemory after = (q.is_open ≡ true) × (q.most ≡ None) × (after ≡ before)
-  IsRefused q before (EventFd errno) after = (q.is_open ≡ true) × (has_room q.most (length q.waiting) ≡ true) × IsTold q before (Err errno) after
+  IsRefused q before (EventFd errno) after = (q.is_open ≡ true) × (has_room q.most (length q.waiting) ≡ true) × IsRaised q before (Err errno) after
 
-  -- a send puts the message last, once the receiver is told; or the message comes back, and nothing changed
+  -- a send puts the message last, once the signal is raised; or the message comes back, and nothing changed
   abbrev pub IsSend : Messages M → S → M → Result (Unit {0}) (SendError M) → Messages M → S → Type 0
-  IsSend q before message (Ok _) r after = (q.is_open ≡ true) × (has_room q.most (length q.waiting) ≡ true) × IsTold q before (Ok tt) after × (r ≡ with_message q message)
+  IsSend q before message (Ok _) r after = (q.is_open ≡ true) × (has_room q.most (length q.waiting) ≡ true) × IsRaised q before (Ok tt) after × (r ≡ with_message q message)
   IsSend q before message (Err e) r after = (e.message ≡ message) × IsRefused q before e.why after × (r ≡ q)
 
-  -- one sender less, once the receiver is told where that was the last one; or the sender counts as before
+  -- one sender less, once the signal is raised where that was the last one; or the sender counts as before
   abbrev pub IsLeave : Messages M → S → Result (Unit {0}) Errno → Messages M → S → Type 0
-  IsLeave q before (Ok _) r after = (r ≡ record q { senders = q.senders - 1 }) × MatchBool (is_ready r) (IsTold q before (Ok tt) after) (after ≡ before)
-  IsLeave q before (Err errno) r after = (r ≡ q) × IsTold q before (Err errno) after
+  IsLeave q before (Ok _) r after = (r ≡ record q { senders = q.senders - 1 }) × MatchBool (is_ready r) (IsRaised q before (Ok tt) after) (after ≡ before)
+  IsLeave q before (Err errno) r after = (r ≡ q) × IsRaised q before (Err errno) after
 
--- the signal is lowered where there was something to tell and there isn't now, and else left alone
-abbrev pub IsSettled : {M S : Type 0} → (S → S → Type 0) → Messages M → S → Messages M → S → Type 0
-IsSettled lowers q before r after = MatchBool (is_ready q && not (is_ready r)) (lowers before after) (after ≡ before)
+-- the signal is lowered where the queue was ready and isn't now, and else left alone
+abbrev pub IsLowered : {M S : Type 0} → (S → S → Type 0) → Messages M → S → Messages M → S → Type 0
+IsLowered lowers q before r after = MatchBool (is_ready q && not (is_ready r)) (lowers before after) (after ≡ before)

@@ -1,14 +1,14 @@
--- Lists of steps on a queue of messages and on the counter that tells its receiver.
+-- Lists of steps on a queue of messages and on its receiver's counter.
 use Rattle.std.specs.Prelude.{◌≡◌, ◌<◌, ◌+◌, ℕ, true, List, [], ◌∷◌, Option, Result, Ok, Err}
 use Rattle.std.specs.declared.alloc.AllocError.{AllocError}
 use Rattle.vmm_sys.specs.declared.errno.Errno.{Errno}
-use Rattle.channels.specs.Messages.{Messages, new_messages, IsSend, IsLeave, IsTaken, IsReceived, IsClosed, IsJoined, IsSettled}
+use Rattle.channels.specs.Messages.{Messages, new_messages, IsSend, IsLeave, IsTaken, IsReceived, IsClosed, IsJoined, IsLowered}
 use Rattle.channels.specs.declared.errors.SendError.{SendError}
 use Rattle.channels.specs.declared.laws.QueueStep.{QueueStep}
 use Rattle.channels.specs.declared.laws.QueueStep.TheVariants.{Send, Ring, Take, Receive, Close, Join, Leave}
 
--- the messages, and the value of the counter that tells their receiver
-pub record Told (M : Type 0) : Type 0 where
+-- the messages, and the value of their receiver's counter
+pub record QueueWithCounter (M : Type 0) : Type 0 where
   pub messages : Messages M
   pub value : ℕ
 
@@ -23,26 +23,26 @@ lowers value after = after ≡ 0
 
 module _ {M : Type 0} where
   -- a new queue, and a counter that nobody rang
-  abbrev pub new_told : Option ℕ → Told M
-  new_told most = record { messages = new_messages most; value = 0 }
+  abbrev pub new_queue_with_counter : Option ℕ → QueueWithCounter M
+  new_queue_with_counter most = record { messages = new_messages most; value = 0 }
 
   -- a step does what the queue promises of its call, whatever that answers; a ring by somebody else leaves the messages
-  abbrev pub StepsTo : QueueStep M → Told M → Told M → Type 0
+  abbrev pub StepsTo : QueueStep M → QueueWithCounter M → QueueWithCounter M → Type 0
   StepsTo (Send message) before after = (answer : Result (Unit {0}) (SendError M)) × IsSend raises before.messages before.value message answer after.messages after.value
   StepsTo Ring before after = (answer : Result (Unit {0}) Errno) × raises before.value answer after.value × (after.messages ≡ before.messages)
   StepsTo Take before after =
       (list : List M) × (answer : Result (Unit {0}) AllocError) × (longer : List M) × IsTaken before.messages list answer after.messages longer
-      × IsSettled lowers before.messages before.value after.messages after.value
-  StepsTo Receive before after = (answer : Option M) × IsReceived before.messages answer after.messages × IsSettled lowers before.messages before.value after.messages after.value
-  StepsTo Close before after = (all : List M) × IsClosed before.messages all after.messages × IsSettled lowers before.messages before.value after.messages after.value
+      × IsLowered lowers before.messages before.value after.messages after.value
+  StepsTo Receive before after = (answer : Option M) × IsReceived before.messages answer after.messages × IsLowered lowers before.messages before.value after.messages after.value
+  StepsTo Close before after = (all : List M) × IsClosed before.messages all after.messages × IsLowered lowers before.messages before.value after.messages after.value
   StepsTo Join before after = (answer : Result (Unit {0}) AllocError) × IsJoined before.messages answer after.messages × (after.value ≡ before.value)
   StepsTo Leave before after = (answer : Result (Unit {0}) Errno) × IsLeave raises before.messages before.value answer after.messages after.value
 
   -- each step from where the one before it led
-  abbrev pub AreSteps : Told M → List (QueueStep M) → Told M → Type 0
+  abbrev pub AreSteps : QueueWithCounter M → List (QueueStep M) → QueueWithCounter M → Type 0
   AreSteps before [] after = after ≡ before
-  AreSteps before (step ∷ steps) after = (between : Told M) × StepsTo step before between × AreSteps between steps after
+  AreSteps before (step ∷ steps) after = (between : QueueWithCounter M) × StepsTo step before between × AreSteps between steps after
 
   -- while the counter's value is 0, no message waits in an open queue, and not all senders have closed
-  abbrev pub NoWakeUpIsLost : Told M → Type 0
-  NoWakeUpIsLost told = told.value ≡ 0 → told.messages.is_open ≡ true → (told.messages.waiting ≡ []) × (0 < told.messages.senders)
+  abbrev pub NoWakeUpIsLost : QueueWithCounter M → Type 0
+  NoWakeUpIsLost queue = queue.value ≡ 0 → queue.messages.is_open ≡ true → (queue.messages.waiting ≡ []) × (0 < queue.messages.senders)

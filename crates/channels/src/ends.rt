@@ -67,7 +67,7 @@ pub fn sync_channel<M: Drop, C: Counter + Drop>(
 
 /// As [`sync_channel`], with a counter for its senders, too ([`Sender::room`]), which is ready for `IN` while no send is refused as
 /// `Full`, as `OUT` of a socket is: a sender that was refused adds it to its poller, and removes it once all is sent. Both counters
-/// must have the value 0. Where the counter of room refuses its ring, the next send or take rings it again.
+/// must have the value 0. Where the counter of room refuses its ring, the next send, take or `recv` rings it again.
 ///
 /// Refused with `ENOMEM`, or with the number with which `room` refuses its first ring; then both counters are dropped.
 pub fn sync_channel_with_room<M: Drop, C: Counter + Drop, R: Wait + Clock>(
@@ -84,6 +84,6 @@ pub fn sync_channel_with_room<M: Drop, C: Counter + Drop, R: Wait + Clock>(
     let queue = MessageQueue::with_room(alloc, most).map_err(|_refused| Errno::ENOMEM)?;
     let ends = ends_of(queue, counter, Some(room), alloc).map_err(|_refused| Errno::ENOMEM)?;
     let shared = &*ends.0.shared;
-    shared.tell_room(&mut shared.state.lock(rt), rt)?;
+    shared.update_room(&mut shared.state.lock(rt), rt)?;
     Ok(ends)
 }

@@ -1,5 +1,6 @@
 //! Errors of sends and closes.
 
+use std::error::Error;
 use std::fmt;
 use vmm_sys::errno::Errno;
 
@@ -32,10 +33,10 @@ impl fmt::Display for Refusal {
     }
 }
 
-impl std::error::Error for Refusal {}
+impl Error for Refusal {}
 
-/// A message that was refused.
-#[derive(Drop, PartialEq, Eq, Debug)]
+/// A message that was refused. It prints why.
+#[derive(Drop, PartialEq, Eq)]
 pub struct SendError<M> {
     /// Why.
     pub why: Refusal,
@@ -43,7 +44,27 @@ pub struct SendError<M> {
     pub message: M,
 }
 
-/// A sender that was not closed.
+// Not derived, nor that of `CloseError`: as std's they want nothing of what is handed back.
+impl<M> fmt::Debug for SendError<M> {
+    fn fmt<W: fmt::Write>(&self, f: &mut fmt::Formatter<W>) -> fmt::Result {
+        write!(f, "SendError {{ why: {:?}, .. }}", self.why)
+    }
+}
+
+impl<M> fmt::Display for SendError<M> {
+    ghost use Rattle.channels.specs.RefusalText.{text_of};
+    ghost use Rattle.std.specs.Prelude.{Some};
+
+    ghost output = { λ error. Some (text_of error.why) };
+
+    fn fmt<W: fmt::Write>(&self, f: &mut fmt::Formatter<W>) -> fmt::Result {
+        write!(f, "{}", self.why)
+    }
+}
+
+impl<M: Drop> Error for SendError<M> {}
+
+/// A sender that was not closed. It prints that the counter refuses its ring.
 #[derive(Drop)]
 pub struct CloseError<S> {
     /// The number with which the counter refused its ring.
@@ -51,3 +72,23 @@ pub struct CloseError<S> {
     /// The sender.
     pub sender: S,
 }
+
+impl<S> fmt::Debug for CloseError<S> {
+    fn fmt<W: fmt::Write>(&self, f: &mut fmt::Formatter<W>) -> fmt::Result {
+        write!(f, "CloseError {{ errno: {:?}, .. }}", self.errno)
+    }
+}
+
+impl<S> fmt::Display for CloseError<S> {
+    ghost use Rattle.channels.specs.RefusalText.{text_of};
+    ghost use Rattle.channels.specs.declared.errors.Refusal.TheVariants.{EventFd};
+    ghost use Rattle.std.specs.Prelude.{Some};
+
+    ghost output = { λ error. Some (text_of (EventFd error.errno)) };
+
+    fn fmt<W: fmt::Write>(&self, f: &mut fmt::Formatter<W>) -> fmt::Result {
+        write!(f, "{}", Refusal::EventFd(self.errno))
+    }
+}
+
+impl<S: Drop> Error for CloseError<S> {}

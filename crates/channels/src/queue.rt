@@ -2,7 +2,7 @@
 
 ghost use Rattle.std.specs.Prelude.{◌≡◌, ◌<◌, ◌+◌, length, vec_len, vec_capacity, IfOk, OnErr, MatchBool, not, ◌&&◌};
 ghost use Rattle.channels.specs.Room.{is_full};
-ghost use Rattle.channels.specs.Messages.{has_room, is_over, is_ready, new_messages, IsTold, IsSend, IsLeave, IsTaken, IsReceived, IsClosed, IsJoined, IsSettled};
+ghost use Rattle.channels.specs.Messages.{has_room, is_over, is_ready, new_messages, IsRaised, IsSend, IsLeave, IsTaken, IsReceived, IsClosed, IsJoined, IsLowered};
 
 use crate::errors::{Refusal, SendError};
 use std::alloc::{AllocError, Global};
@@ -117,8 +117,8 @@ impl<M> MessageQueue<M> {
         self.is_open && !self.has_room()
     }
 
-    fn tell<S: Signal>(&self, signal: &mut S) -> Result<(), Errno>
-        ensures { IsTold S.raises self.now signal.old result signal.new }
+    fn raise<S: Signal>(&self, signal: &mut S) -> Result<(), Errno>
+        ensures { IsRaised S.raises self.now signal.old result signal.new }
     {
         if self.is_ready() {
             return Ok(());
@@ -126,7 +126,7 @@ impl<M> MessageQueue<M> {
         signal.raise()
     }
 
-    fn settle<S: Signal>(&self, was_ready: bool, signal: &mut S)
+    fn lower<S: Signal>(&self, was_ready: bool, signal: &mut S)
         ensures { MatchBool (was_ready && not (is_ready self.now)) (S.lowers signal.old signal.new) (signal.new ≡ signal.old) }
     {
         if was_ready && !self.is_ready() {
@@ -146,7 +146,7 @@ impl<M> MessageQueue<M> {
             Refusal::Full
         } else if self.waiting.reserve(1).is_err() {
             Refusal::OutOfMemory
-        } else if let Err(errno) = self.tell(signal) {
+        } else if let Err(errno) = self.raise(signal) {
             Refusal::EventFd(errno)
         } else {
             self.waiting.push_back_reserved(message);
@@ -159,38 +159,38 @@ impl<M> MessageQueue<M> {
     pub fn take<S: Signal>(&mut self, into: &mut Vec<M>, signal: &mut S) -> Result<(), AllocError>
         ensures taken { IsTaken self.old into.old.items result self.new into.new.items }
         ensures refused { OnErr result (vec_capacity into.old < vec_len into.old + length self.old.waiting) }
-        ensures settled { IsSettled S.lowers self.old signal.old self.new signal.new }
+        ensures lowered { IsLowered S.lowers self.old signal.old self.new signal.new }
     {
         let was_ready = self.is_ready();
         let empty = VecDeque::new(*self.waiting.allocator());
         let mut all = mem::replace(&mut self.waiting, empty).into_vec();
         let taken = into.append(&mut all);
         mem::replace(&mut self.waiting, VecDeque::from_vec(all)).destroy_empty();
-        self.settle(was_ready, signal);
+        self.lower(was_ready, signal);
         taken
     }
 
     /// The message that has waited longest, if one waits.
     pub fn receive<S: Signal>(&mut self, signal: &mut S) -> Option<M>
         ensures received { IsReceived self.old result self.new }
-        ensures settled { IsSettled S.lowers self.old signal.old self.new signal.new }
+        ensures lowered { IsLowered S.lowers self.old signal.old self.new signal.new }
     {
         let was_ready = self.is_ready();
         let message = self.waiting.pop_front();
-        self.settle(was_ready, signal);
+        self.lower(was_ready, signal);
         message
     }
 
     /// Refuses messages from now on, and returns all that wait, in order.
     pub fn close<S: Signal>(&mut self, signal: &mut S) -> Vec<M>
         ensures closed { IsClosed self.old result.items self.new }
-        ensures settled { IsSettled S.lowers self.old signal.old self.new signal.new }
+        ensures lowered { IsLowered S.lowers self.old signal.old self.new signal.new }
     {
         let was_ready = self.is_ready();
         let empty = VecDeque::new(*self.waiting.allocator());
         let all = mem::replace(&mut self.waiting, empty).into_vec();
         self.is_open = false;
-        self.settle(was_ready, signal);
+        self.lower(was_ready, signal);
         all
     }
 
@@ -213,7 +213,7 @@ impl<M> MessageQueue<M> {
     {
         let senders = self.senders.saturating_sub(1);
         if self.is_open && senders == 0 {
-            self.tell(signal)?;
+            self.raise(signal)?;
         }
         self.senders = senders;
         Ok(())

@@ -31,7 +31,7 @@ impl<M: Drop, C: Counter + Drop> Receiver<M, C> {
         let mut signal = shared.signal(rt);
         let mut state = shared.state.lock(rt);
         let taken = state.queue.take(into, &mut signal);
-        let _ = shared.tell_room(&mut state, rt);
+        let _ = shared.update_room(&mut state, rt);
         taken
     }
 
@@ -43,7 +43,7 @@ impl<M: Drop, C: Counter + Drop> Receiver<M, C> {
         let mut signal = shared.signal(rt);
         let mut state = shared.state.lock(rt);
         let message = state.queue.receive(&mut signal);
-        let _ = shared.tell_room(&mut state, rt);
+        let _ = shared.update_room(&mut state, rt);
         message
     }
 

@@ -1,6 +1,6 @@
 //! How senders are notified of room.
 
-ghost use Rattle.channels.specs.Room.{IsRoomTold};
+ghost use Rattle.channels.specs.Room.{IsRoomUpdated};
 
 use crate::queue::{MessageQueue, Signal};
 use vmm_sys::errno::Errno;
@@ -15,12 +15,12 @@ pub struct Room {
 impl Room {
     /// Raises or lowers the signal where the queue has changed so. Refused with the number of the refused raise, which the next
     /// call makes again.
-    pub fn tell<M, S: Signal>(
+    pub fn update<M, S: Signal>(
         &mut self,
         queue: &MessageQueue<M>,
         signal: &mut S,
     ) -> Result<(), Errno>
-        ensures { IsRoomTold S.raises S.lowers queue.now self.old.is_raised signal.old result self.new.is_raised signal.new }
+        ensures { IsRoomUpdated S.raises S.lowers queue.now self.old.is_raised signal.old result self.new.is_raised signal.new }
     {
         let is_raised = !queue.is_full();
         if is_raised && !self.is_raised {

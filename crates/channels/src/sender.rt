@@ -31,7 +31,7 @@ impl<M: Drop, C: Counter + Drop> Sender<M, C> {
         let mut signal = shared.signal(rt);
         let mut state = shared.state.lock(rt);
         let sent = state.queue.send(message, &mut signal);
-        let _ = shared.tell_room(&mut state, rt);
+        let _ = shared.update_room(&mut state, rt);
         sent
     }
 

@@ -56,8 +56,8 @@ impl<M, C> Shared<M, C> {
 }
 
 impl<M, C: Counter> Shared<M, C> {
-    /// Tells senders whether there is room.
-    pub(crate) fn tell_room<R: Wait + Clock>(
+    /// Updates the senders' counter to the queue.
+    pub(crate) fn update_room<R: Wait + Clock>(
         &self,
         state: &mut State<M>,
         rt: &R,
@@ -67,7 +67,7 @@ impl<M, C: Counter> Shared<M, C> {
         match &self.room {
             Some(counter) => state
                 .room
-                .tell(&state.queue, &mut CounterSignal { counter, rt }),
+                .update(&state.queue, &mut CounterSignal { counter, rt }),
             None => Ok(()),
         }
     }
@@ -76,7 +76,7 @@ impl<M, C: Counter> Shared<M, C> {
         let mut signal = self.signal(rt);
         let mut state = self.state.lock(rt);
         let waiting = state.queue.close(&mut signal);
-        let _ = self.tell_room(&mut state, rt);
+        let _ = self.update_room(&mut state, rt);
         waiting
     }
 }

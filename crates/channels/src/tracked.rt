@@ -16,8 +16,8 @@ use vmm_sys::counter::Counter;
 use vmm_sys::epoll::{AsRawFd, RawFd};
 use vmm_sys::eventfd::EventFd;
 
-/// A [`Sender`] of which contracts see what it has sent: so a relation can say what its owner sends. The list is no part of the
-/// program that runs.
+/// A [`Sender`] of which contracts see what it has sent: so a relation can say what its owner sends. What others send by clones of the
+/// sender isn't in the list, which is no part of the program that runs.
 #[derive(Drop)]
 pub struct TrackedSender<M, C = EventFd> {
     sender: Sender<M, C>,

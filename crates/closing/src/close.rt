@@ -8,7 +8,7 @@ use vmm_sys::counter::Counter;
 use vmm_sys::eventfd::EventFd;
 use vmm_sys::line::Line;
 
-/// Something that a handle of type `R` closes.
+/// Something that a handle of type `R` closes: an [`EventFd`], a [`Line`], a [`TimerFd`], an end of a channel, or a type of your own.
 pub trait Close<R> {
     /// Closes it; a refusal is passed over.
     fn close(self, rt: &R);

@@ -12,3 +12,4 @@ pub mod Owning
 pub mod ClassEntries
 pub mod DispatchOrders
 pub mod Ascending
+pub mod HeldIds

@@ -5,6 +5,7 @@ ghost use Rattle.std.specs.Option.{option_copied, option_copied_mut};
 ghost use Rattle.std.specs.Borrow.{Lends, LendsIf, sem};
 ghost use Rattle.std.specs.FinMap as map;
 ghost use Rattle.std.specs.HashMap.{get};
+ghost use Rattle.std.specs.List.{filter_map};
 ghost use Rattle.dispatch_tables.specs.Members.{nobody, joined_by, with_member, without_member, AreBelow};
 ghost use Rattle.dispatch_tables.specs.Places.{held_id, subscriber_of, id_at, with_subscriber, AreIndexed, AreLinked, HaveSameHolders};
 
@@ -130,6 +131,19 @@ fn vacant_place<S: Drop>(
     Ok(place)
 }
 
+/// The ids in the order of their places; `count` is how many, to take the memory at once.
+fn held_ids<S>(places: &[Place<S>], count: usize, alloc: Global) -> Result<Vec<u64>, AllocError>
+    ensures { IfOk result (λ ids. ids.items ≡ filter_map held_id places.now) }
+{
+    let mut ids = Vec::with_capacity(alloc, count)?;
+    for place in places {
+        if let Place::Held(id, _) = place {
+            ids.push(*id)?;
+        }
+    }
+    Ok(ids)
+}
+
 impl<S> SubscriberPlaces<S> {
     ghost use Rattle.dispatch_tables.specs.contracts.places.SubscriberPlaces.{the_row};
 
@@ -198,6 +212,15 @@ impl<S> SubscriberPlaces<S> {
             }
             Place::Vacant(_) => unreachable!(),
         }
+    }
+
+    /// The ids of all subscribers, in ascending order.
+    pub fn ids(&self, alloc: Global) -> Result<Vec<u64>, AllocError>
+        ensures { IfOk result (λ ids. ids.items ≡ map.keys self.now.by_id) }
+    {
+        let mut ids = held_ids(&self.places, self.index.len(), alloc)?;
+        ids.sort_unstable();
+        Ok(ids)
     }
 
     /// The place that the next subscriber gets.

@@ -1,6 +1,6 @@
 -- A list of calls that is driven, and driven again.
 use Rattle.std.specs.Prelude.{◌≡◌, false, List, ◌++◌}
-use Rattle.event_manager.specs.Prelude.{Controls, Waits, Begins, Serves, May, LoopState, manager_state}
+use Rattle.event_manager.specs.Prelude.{Controls, Waits, Begins, Serves, May, LoopState, contents_of}
 use Rattle.event_manager.specs.Trace.{TraceEntry}
 use Rattle.event_manager.specs.Driven.{IsTraceOf}
 use Rattle.event_manager.specs.declared.calls.Call.{Call}
@@ -24,4 +24,4 @@ module _ {S J R : Type 0} (begins : Begins S) (serves : Serves S) (may : May S J
   RunsAgain {P} controls waits start again end =
       (before after : LoopState S (Recording P)) (calls : List (Call S)) (replies : List (Reply S)) (trace : List (TraceEntry S J R))
       → IsTraceOf begins serves may controls waits before calls replies after trace
-      → BeginsAgain before after start → end.poller.diverged ≡ false → IsMadeAgain trace again → IsTheRun trace again (manager_state after) (manager_state end)
+      → BeginsAgain before after start → end.poller.diverged ≡ false → IsMadeAgain trace again → IsTheRun trace again (contents_of after) (contents_of end)

@@ -2,7 +2,7 @@
 
 ghost use Rattle.std.specs.Prelude.{◌≡◌, ℕ, OnOk};
 ghost use Rattle.event_manager.specs.CounterSubscribers.{counter_begins, counter_serves};
-ghost use Rattle.event_manager.specs.LoopState.{manager_state};
+ghost use Rattle.event_manager.specs.LoopState.{contents_of};
 ghost use Rattle.event_manager.specs.Manager.{state_of};
 ghost use Rattle.recorded_runs.specs.Determinism.{IsReplay, IsTheRun};
 ghost use Rattle.drive_tests.specs.Again.{AreMade, RunsAgain};
@@ -63,8 +63,8 @@ where
         (state_of one.old) calls.items replies.old.items replies.new.items (state_of one.new))
         × (again : AreMade counter_begins counter_serves ⟦<NoJob as Job<CounterSubscriber>>⟧.may Q.controls Q.waits
         (state_of other.old) calls_again.items replies_again.old.items replies_again.new.items (state_of other.new))
-        × ((capacity : ℕ) → manager_state (state_of other.old) ≡ manager_state (state_of one.old) → IsReplay capacity made.trace again.trace →
-        IsTheRun made.trace again.trace (manager_state (state_of one.new)) (manager_state (state_of other.new)))) }
+        × ((capacity : ℕ) → contents_of (state_of other.old) ≡ contents_of (state_of one.old) → IsReplay capacity made.trace again.trace →
+        IsTheRun made.trace again.trace (contents_of (state_of one.new)) (contents_of (state_of other.new)))) }
 {
     counters_are_functions();
     a_replay_is_the_run::<CounterSubscriber, NoJob>();

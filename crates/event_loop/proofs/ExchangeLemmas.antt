@@ -3,7 +3,7 @@ use Rattle.std.proofs.Common.{◌≡◌, ℕ, List, [], ◌∷◌, ◌++◌, ref
 use Rattle.std.proofs.lemmas.List.{append-nil}
 use Rattle.std.proofs.lemmas.List.Folds.{list_any-append}
 use Rattle.std.proofs.lemmas.Bool.Decides.{nat_tests}
-use Rattle.event_loop.specs.Prelude.{Event, PollerCall, Control, Wait, Exchanges, ExchangesFit, Fits, Answer, by_manager, by_poller, by_agreement, removes, is_removal, Registrations, Controls, Waits, Leads, AreMade, AreMadeThrough}
+use Rattle.event_loop.specs.Prelude.{Event, PollerCall, Control, Wait, Exchanges, ExchangesFit, Fits, Answer, by_manager, by_poller, by_agreement, has_removal, is_removal, Registrations, Controls, Waits, Leads, AreMade, AreMadeThrough}
 use Rattle.event_loop.specs.declared.error.Error.{Error}
 use Rattle.event_loop.specs.declared.events.Request.{Request}
 use Rattle.event_loop.specs.declared.events.Request.TheVariants.{Add, AddWithPriority, Modify, Remove}
@@ -26,7 +26,7 @@ or_assoc false b c = refl
 
 -- with a mark at each position whose descriptor the exchanges remove, for no exchange too
 abbrev pub marked : Exchanges → List (Event × Bool) → List (Event × Bool)
-marked exchanges ready = map (λ p. (p.0, p.1 || removes p.0.fd exchanges)) ready
+marked exchanges ready = map (λ p. (p.0, p.1 || has_removal p.0.fd exchanges)) ready
 
 marked_none : (ready : List (Event × Bool)) → marked [] ready ≡ ready
 marked_none [] = refl
@@ -35,8 +35,8 @@ marked_none ((e, m) ∷ ready) = ap (λ b. (e, b) ∷ marked [] ready) (or_false
 marked_join : (t u : Exchanges) (ready : List (Event × Bool)) → marked (t ++ u) ready ≡ marked u (marked t ready)
 marked_join t u [] = refl
 marked_join t u ((e, m) ∷ ready) =
-    ap (λ b. (e, b) ∷ marked (t ++ u) ready) (ap (λ b. m || b) (list_any-append (λ exchange. is_removal e.fd exchange.0 exchange.1) t u) ∙ or_assoc m (removes e.fd t) (removes e.fd u))
-    ∙ ap (λ r. (e, (m || removes e.fd t) || removes e.fd u) ∷ r) (marked_join t u ready)
+    ap (λ b. (e, b) ∷ marked (t ++ u) ready) (ap (λ b. m || b) (list_any-append (λ exchange. is_removal e.fd exchange.0 exchange.1) t u) ∙ or_assoc m (has_removal e.fd t) (has_removal e.fd u))
+    ∙ ap (λ r. (e, (m || has_removal e.fd t) || has_removal e.fd u) ∷ r) (marked_join t u ready)
 
 pub cancel_removed_marks : (exchanges : Exchanges) (ready : List (Event × Bool)) → cancel_removed exchanges ready ≡ marked exchanges ready
 cancel_removed_marks [] ready = sym (marked_none ready)

@@ -8,7 +8,7 @@ use Rattle.std.proofs.lemmas.List.Folds.{list_any-append}
 use Rattle.std.proofs.lemmas.List.Sorted.{list_any-IsPermutation}
 use Rattle.std.specs.FinMap.{get}
 use Rattle.dispatch_tables.specs.Members.{with_member}
-use Rattle.event_loop.specs.Prelude.{Event, Registrations, Owns, owner_of, class_in, IsDispatchOrder, PollerCall, Wait, Exchanges, ExchangesFit, removes, Serves, HasId, Nobody, To, Position, exchanges_of, is_removed, still_pending, events_of, with_pending, IsDelivery, AreDispatched, calls_of_delivery, calls_of_positions, is_reported, AreMade, Controls, Waits, Leads}
+use Rattle.event_loop.specs.Prelude.{Event, Registrations, Owns, owner_of, class_in, IsDispatchOrder, PollerCall, Wait, Exchanges, ExchangesFit, has_removal, Serves, HasId, Nobody, To, Position, exchanges_of, is_removed, still_pending, events_of, with_pending, IsDelivery, AreDispatched, calls_of_delivery, calls_of_positions, is_reported, AreMade, Controls, Waits, Leads}
 use Rattle.dispatch_tables.specs.Owners.{ownership_of}
 use Rattle.dispatch_tables.specs.declared.owners.Owner.{Owner}
 use Rattle.dispatch_tables.proofs.DispatchOrders.{nil_cons, head_is, tail_is, ordered_permutation}
@@ -97,9 +97,9 @@ module _ {S P : Type 0} (before : Registry S P) (mid : RegistrationState) (fd : 
 abbrev pub cancelled_by : {V : Type 0} → List (Position V) → List Event → List (Event × Bool)
 cancelled_by positions later = map (λ (e : Event). (e, is_removed e.fd positions)) later
 
-pub is_removed-push : {V : Type 0} (fd : ℕ) (positions : List (Position V)) (d : Position V) → is_removed fd (positions ++ d ∷ []) ≡ is_removed fd positions || removes fd (exchanges_of d.delivery)
+pub is_removed-push : {V : Type 0} (fd : ℕ) (positions : List (Position V)) (d : Position V) → is_removed fd (positions ++ d ∷ []) ≡ is_removed fd positions || has_removal fd (exchanges_of d.delivery)
 is_removed-push {V} fd positions d =
-    list_any-append (λ (p : Position V). removes fd (exchanges_of p.delivery)) positions (d ∷ []) ∙ ap (λ b. is_removed fd positions || b) (or_false (removes fd (exchanges_of d.delivery)))
+    list_any-append (λ (p : Position V). has_removal fd (exchanges_of p.delivery)) positions (d ∷ []) ∙ ap (λ b. is_removed fd positions || b) (or_false (has_removal fd (exchanges_of d.delivery)))
 
 marked_more : {V : Type 0} (positions : List (Position V)) (d : Position V) (later : List Event) → marked (exchanges_of d.delivery) (cancelled_by positions later) ≡ cancelled_by (positions ++ d ∷ []) later
 marked_more positions d [] = refl

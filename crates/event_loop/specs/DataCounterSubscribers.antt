@@ -30,29 +30,29 @@ abbrev pub with_toggle : Bool → CounterSubscriberWithData → CounterSubscribe
 with_toggle toggle v = record v { toggle_registry = toggle }
 
 -- what each counter wants, with its data
-abbrev pub wanted : CounterSubscriberWithData → List Event
-wanted v = event_on v.first v.first_data ∷ event_on v.second (v.first_data + 1) ∷ event_on v.third (v.first_data + 2) ∷ []
+abbrev pub events_wanted : CounterSubscriberWithData → List Event
+events_wanted v = event_on v.first v.first_data ∷ event_on v.second (v.first_data + 1) ∷ event_on v.third (v.first_data + 2) ∷ []
 
 -- with the toggle set, all three are removed and added again
 abbrev pub renewal : CounterSubscriberWithData → List Request
-renewal v = if v.toggle_registry then map Remove (wanted v) ++ map Add (wanted v) else []
+renewal v = if v.toggle_registry then map Remove (events_wanted v) ++ map Add (events_wanted v) else []
 
-abbrev pub renewed : Exchanges → CounterSubscriberWithData → CounterSubscriberWithData
-renewed exchanges v = record v { toggle_registry = false; observations = with_first_fault (first_refusal (answers_of exchanges)) v.observations }
+abbrev pub with_renewal : Exchanges → CounterSubscriberWithData → CounterSubscriberWithData
+with_renewal exchanges v = record v { toggle_registry = false; observations = with_first_fault (first_refusal (answers_of exchanges)) v.observations }
 
 -- one event more of the counter that has this data
-abbrev pub counted : ℕ → CounterSubscriberWithData → CounterSubscriberWithData
-counted payload v =
+abbrev pub with_event_counted : ℕ → CounterSubscriberWithData → CounterSubscriberWithData
+with_event_counted payload v =
     if payload == v.first_data then record v { first = one_more v.first }
     else (if payload == v.first_data + 1 then record v { second = one_more v.second }
     else (if payload == v.first_data + 2 then record v { third = one_more v.third }
     else record v { observations = with_spurious v.observations }))
 
 abbrev pub data_begins : CounterSubscriberWithData → Exchanges → CounterSubscriberWithData → Type 0
-data_begins v exchanges w = (requests_of exchanges ≡ map Add (wanted v)) × (w ≡ record v { observations = with_first_fault (first_refusal (answers_of exchanges)) v.observations })
+data_begins v exchanges w = (requests_of exchanges ≡ map Add (events_wanted v)) × (w ≡ record v { observations = with_first_fault (first_refusal (answers_of exchanges)) v.observations })
 
 abbrev pub data_row : EventKind → CounterSubscriberWithData → Event → Exchanges → CounterSubscriberWithData → Type 0
-data_row Input v event exchanges w = (exchanges ≡ []) × (w ≡ counted event.payload v)
+data_row Input v event exchanges w = (exchanges ≡ []) × (w ≡ with_event_counted event.payload v)
 data_row Error v event exchanges w = (exchanges ≡ []) × (w ≡ record v { observations = with_error v.observations })
 data_row HangUp v event exchanges w = (answer : Answer) × (exchanges ≡ (Remove event, answer) ∷ []) × (w ≡ record v { observations = with_hang_up answer v.observations })
 data_row Other v event exchanges w = (exchanges ≡ []) × (w ≡ v)
@@ -61,4 +61,4 @@ data_row Other v event exchanges w = (exchanges ≡ []) × (w ≡ v)
 abbrev pub data_serves : CounterSubscriberWithData → Event → Exchanges → CounterSubscriberWithData → Type 0
 data_serves v event exchanges w =
     (renewing : Exchanges) × (serving : Exchanges) × (exchanges ≡ renewing ++ serving)
-    × (requests_of renewing ≡ renewal v) × data_row (kind_of event.set) (renewed renewing v) event serving w
+    × (requests_of renewing ≡ renewal v) × data_row (kind_of event.set) (with_renewal renewing v) event serving w

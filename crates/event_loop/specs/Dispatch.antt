@@ -6,7 +6,7 @@ use Rattle.dispatch_tables.specs.Event.{Event}
 use Rattle.event_loop.specs.Registrations.{Registrations, Owns}
 use Rattle.event_loop.specs.DispatchOrder.{IsDispatchOrder}
 use Rattle.event_loop.specs.PollerCall.{PollerCall}
-use Rattle.event_loop.specs.Exchange.{Exchanges, ExchangesFit, removes, Serves}
+use Rattle.event_loop.specs.Exchange.{Exchanges, ExchangesFit, has_removal, Serves}
 use Rattle.event_loop.specs.Registry.{Registry, HasId}
 
 -- what became of an event: nobody got it; or this id did, with its exchanges, their poller calls, and its value after
@@ -25,7 +25,7 @@ exchanges_of (To id exchanges calls after) = exchanges
 
 -- whether the exchanges of one of these positions hold an agreed Remove of the descriptor
 abbrev pub is_removed : {V : Type 0} → ℕ → List (Position V) → Bool
-is_removed fd positions = list_any (λ position. removes fd (exchanges_of position.delivery)) positions
+is_removed fd positions = list_any (λ position. has_removal fd (exchanges_of position.delivery)) positions
 
 -- the later events whose descriptor no exchange of the earlier positions removed
 abbrev pub still_pending : {V : Type 0} → List (Position V) → List Event → List Event

@@ -4,7 +4,7 @@ use Rattle.event_loop.specs.LoopState.{LoopState}
 use Rattle.event_loop.specs.Subscribers.{loop_state}
 use Rattle.event_loop.specs.declared.error.Error.{Error}
 use Rattle.event_loop.specs.declared.error.Error.TheVariants.{InvalidCapacity, OutOfMemory}
-use Rattle.event_loop.specs.declared.loop_without_jobs.EventLoop.{EventLoop}
+use Rattle.event_loop.specs.declared.event_loop.EventLoop.{EventLoop}
 
 abbrev pub seen_of : {S P : Type 0} → EventLoop S P → LoopState S P
 seen_of l = loop_state l.registry

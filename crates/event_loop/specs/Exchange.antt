@@ -21,9 +21,9 @@ use Rattle.event_loop.specs.declared.events.Request.TheVariants.{Add, AddWithPri
 abbrev pub Answer : Type 0
 Answer = Result (Unit {0}) Error
 
--- refused with the number n
-abbrev pub refused : ℤ → Answer
-refused n = Err (Epoll (record { 0 = n }))
+-- refused by the number n, as a poller refuses
+abbrev pub epoll_error : ℤ → Answer
+epoll_error n = Err (Epoll (record { 0 = n }))
 
 abbrev pub event_of : Request → Event
 event_of (Add e) = e
@@ -32,10 +32,10 @@ event_of (Modify e) = e
 event_of (Remove e) = e
 
 -- the priority at which a request adds its descriptor, if it adds one: the lowest where it names none
-abbrev pub added : Request → Option Priority
-added (Add e) = Some Lowest
-added (AddWithPriority e priority) = Some priority
-added request = None
+abbrev pub priority_asked : Request → Option Priority
+priority_asked (Add e) = Some Lowest
+priority_asked (AddWithPriority e priority) = Some priority
+priority_asked request = None
 
 abbrev pub operation_of : Request → ControlOperation
 operation_of (Modify e) = operation.Modify
@@ -58,18 +58,18 @@ IsVacant registrations e (Err error) =
 abbrev pub IsAdditionRefused : Registrations → Event → Answer → Type 0
 IsAdditionRefused registrations e answer =
     (¬ IsFree registrations e.fd × (answer ≡ Err FdAlreadyRegistered))
-    ⊎ (IsFree registrations e.fd × (e.fd ≡ registrations.endpoint) × (answer ≡ refused (pos 17)))
+    ⊎ (IsFree registrations e.fd × (e.fd ≡ registrations.endpoint) × (answer ≡ epoll_error (pos 17)))
     ⊎ (IsFree registrations e.fd × ¬ (e.fd ≡ registrations.endpoint) × (answer ≡ Err OutOfMemory))
 
 -- what id i is answered without the poller being asked: as said of an addition; a descriptor that is not its own
 abbrev pub IsRefusedByManager : ℕ → Registrations → Request → Answer → Type 0
 IsRefusedByManager i registrations request answer =
-    MatchOption (added request) (¬ Owns i registrations (event_of request).fd × (answer ≡ refused (pos 2))) (λ priority. IsAdditionRefused registrations (event_of request) answer)
+    MatchOption (priority_asked request) (¬ Owns i registrations (event_of request).fd × (answer ≡ epoll_error (pos 2))) (λ priority. IsAdditionRefused registrations (event_of request) answer)
 
 -- whether the request reaches the poller
 abbrev pub ReachesPoller : ℕ → Registrations → Request → Type 0
 ReachesPoller i registrations request =
-    MatchOption (added request) (Owns i registrations (event_of request).fd)
+    MatchOption (priority_asked request) (Owns i registrations (event_of request).fd)
     (λ priority. IsFree registrations (event_of request).fd × ¬ ((event_of request).fd ≡ registrations.endpoint))
 
 -- the registrations once the poller agreed: id i owns what it added; what it removed is free, and its events are pending no more
@@ -78,12 +78,12 @@ registrations_after i (Modify e) registrations = registrations
 registrations_after i (Remove e) registrations =
     record registrations { owners = finite.remove registrations.owners e.fd; pending = filter (λ pending. not (pending.fd == e.fd)) registrations.pending }
 registrations_after i request registrations =
-    record registrations { owners = finite.insert registrations.owners (event_of request).fd (record { id = i; priority = unwrap_or (added request) Lowest }) }
+    record registrations { owners = finite.insert registrations.owners (event_of request).fd (record { id = i; priority = unwrap_or (priority_asked request) Lowest }) }
 
 -- From these registrations, id i may get this answer to the request after these poller calls, and leave the registrations after.
 pub data Fits (i : ℕ) (registrations : Registrations) (request : Request) (answer : Answer) (calls : List PollerCall) (after : Registrations) : Type 0 where
   by_manager : IsRefusedByManager i registrations request answer → calls ≡ [] → after ≡ registrations → Fits i registrations request answer calls after
-  by_poller : (number : ℤ) → ReachesPoller i registrations request → calls ≡ call_for request (Err (record { 0 = number })) ∷ [] → answer ≡ refused number
+  by_poller : (number : ℤ) → ReachesPoller i registrations request → calls ≡ call_for request (Err (record { 0 = number })) ∷ [] → answer ≡ epoll_error number
       → after ≡ registrations → Fits i registrations request answer calls after
   by_agreement : ReachesPoller i registrations request → calls ≡ call_for request (Ok tt) ∷ [] → answer ≡ Ok tt
       → after ≡ registrations_after i request registrations → Fits i registrations request answer calls after
@@ -157,5 +157,5 @@ abbrev pub is_removal : ℕ → Request → Answer → Bool
 is_removal fd (Remove e) (Ok entry) = e.fd == fd
 is_removal fd request answer = false
 
-abbrev pub removes : ℕ → Exchanges → Bool
-removes fd exchanges = list_any (λ exchange. is_removal fd exchange.0 exchange.1) exchanges
+abbrev pub has_removal : ℕ → Exchanges → Bool
+has_removal fd exchanges = list_any (λ exchange. is_removal fd exchange.0 exchange.1) exchanges

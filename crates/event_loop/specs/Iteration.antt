@@ -11,8 +11,8 @@ use Rattle.vmm_sys.specs.declared.errno.Errno.{Errno}
 use Rattle.event_loop.specs.declared.error.Error.{Error}
 use Rattle.event_loop.specs.declared.error.Error.TheVariants.{Epoll}
 
--- a manager: its registry, and how many jobs it has taken
-pub record ManagerState (V : Type 0) : Type 0 where
+-- what a loop holds: its registry, and how many jobs it has taken
+pub record LoopContents (V : Type 0) : Type 0 where
   pub registry : Registry V
   pub taken : ℕ
 
@@ -47,14 +47,14 @@ module _ {V : Type 0} (begins : Begins V) where
 
 module _ {V J R : Type 0} (begins : Begins V) (serves : Serves V) (may : May V J R) where
   -- the jobs, one after another, with the tickets that follow the jobs taken so far
-  abbrev pub AreRun : ManagerState V → List (JobRun V J R) → ManagerState V → Type 0
+  abbrev pub AreRun : LoopContents V → List (JobRun V J R) → LoopContents V → Type 0
   AreRun before [] after = after ≡ before
   AreRun before (job_run ∷ jobs) after =
       (mid : Registry V) × (job_run.ticket ≡ before.taken + 1) × may job_run.job job_run.steps job_run.reply × AllSteps begins before.registry job_run.steps mid
       × AreRun (record { registry = mid; taken = before.taken + 1 }) jobs after
 
   -- a refused wait changes nothing; after another its report is dispatched, and then jobs may run if the endpoint was reported
-  abbrev pub IsIteration : ManagerState V → Result (List Event) Errno → List (Position V) → List (JobRun V J R) → ManagerState V → Type 0
+  abbrev pub IsIteration : LoopContents V → Result (List Event) Errno → List (Position V) → List (JobRun V J R) → LoopContents V → Type 0
   IsIteration before (Err errno) positions jobs after = (positions ≡ []) × (jobs ≡ []) × (after ≡ before)
   IsIteration before (Ok report) positions jobs after =
       (mid : Registry V) × IsDispatch serves before.registry report positions mid × (All (λ e. e.fd ≢ before.registry.registrations.endpoint) report → jobs ≡ [])

@@ -10,7 +10,7 @@ use Rattle.event_loop.specs.PollerCall.{PollerCall, Controls, Waits, Leads}
 use Rattle.event_loop.specs.Exchange.{Exchanges, Answer, Begins, Serves}
 use Rattle.event_loop.specs.Registry.{Registry, LoopStep, Steps, Joined, NotJoined, Left, Requested, Refused, calls_of, new_registry, May}
 use Rattle.event_loop.specs.Dispatch.{Position, IsDispatch}
-use Rattle.event_loop.specs.Iteration.{ManagerState, Iteration, AllSteps, IsIteration, calls_of_iteration, run_answer}
+use Rattle.event_loop.specs.Iteration.{LoopContents, Iteration, AllSteps, IsIteration, calls_of_iteration, run_answer}
 use Rattle.std.specs.List.{flat_map}
 
 -- the subscribers, the next id and the registrations; how many jobs were taken; the poller; the capacity of a batch
@@ -42,8 +42,8 @@ abbrev pub no_job : {S : Type 0} → ⊥ → List (LoopStep S) → Unit {0} → 
 no_job job steps reply = ⊥
 
 -- without poller and capacity
-abbrev pub manager_state : {S P : Type 0} → LoopState S P → ManagerState S
-manager_state state = record { registry = state.registry; taken = state.taken }
+abbrev pub contents_of : {S P : Type 0} → LoopState S P → LoopContents S
+contents_of state = record { registry = state.registry; taken = state.taken }
 
 -- with another value at the id
 abbrev pub with_value : {S P : Type 0} → LoopState S P → ℕ → S → LoopState S P
@@ -91,6 +91,6 @@ module _ {S J R : Type 0} (begins : Begins S) (serves : Serves S) (may : May S J
     pub iteration : Iteration S J R
     pub milliseconds : iteration.ms ≡ ms
     pub answer : result ≡ run_answer iteration.waited
-    pub iterated : IsIteration begins serves may (manager_state before) iteration.waited iteration.positions iteration.jobs (manager_state after)
+    pub iterated : IsIteration begins serves may (contents_of before) iteration.waited iteration.positions iteration.jobs (contents_of after)
     pub led : Leads controls waits before.poller (calls_of_iteration before.capacity iteration) after.poller
     pub same_capacity : after.capacity ≡ before.capacity

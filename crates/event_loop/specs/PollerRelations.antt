@@ -10,8 +10,8 @@ use Rattle.vmm_sys.specs.EpollEvent.{event}
 use Rattle.vmm_sys.specs.EventSet.{with_bits}
 
 -- an event as it is packed for a poller
-abbrev pub packed : Event → EpollEvent
-packed e = event (with_bits e.set) (word_of_parts e.payload e.fd)
+abbrev pub entry_of_event : Event → EpollEvent
+entry_of_event e = event (with_bits e.set) (word_of_parts e.payload e.fd)
 
 -- What a wait may give by a poller's relation between its states: a report, or a refusal.
 abbrev pub WaitsBy : (Gv → ℤ → ℕ → Result ℕ Errno → List EpollEvent → Gv → Type 0) → Gv → ℤ → ℕ → Result (List Event) Errno → Gv → Type 0
@@ -20,7 +20,7 @@ WaitsBy may_wait before ms capacity (Err errno) after = may_wait before ms capac
 
 module _ {P : Type 0} (poller : Ghosts P) where
   abbrev pub controls : Gv → ControlOperation → ℕ → Event → Result (Unit {0}) Errno → Gv → Type 0
-  controls before operation fd event answer after = poller.may_ctl before operation (pos fd) (packed event) answer after
+  controls before operation fd event answer after = poller.may_ctl before operation (pos fd) (entry_of_event event) answer after
 
   abbrev pub waits : Gv → ℤ → ℕ → Result (List Event) Errno → Gv → Type 0
   waits before ms capacity answer after = WaitsBy poller.may_wait before ms capacity answer after

@@ -7,7 +7,7 @@ use Rattle.dispatch_tables.specs.Ownership.{OwnerMap, owner_map_code}
 use Rattle.event_loop.specs.Registrations.{Registrations}
 use Rattle.event_loop.specs.DispatchOrder.{IsDispatchOrder}
 use Rattle.event_loop.specs.Registry.{without_owner}
-use Rattle.event_loop.specs.Exchange.{Exchanges, removes}
+use Rattle.event_loop.specs.Exchange.{Exchanges, has_removal}
 
 pub record RegistrationState : Type 0 where
   pub owners : OwnerMap
@@ -38,7 +38,7 @@ cancel_on fd ready = map (λ p. (p.0, p.1 || (fd == p.0.fd))) ready
 -- with a mark at each position whose descriptor the exchanges remove
 abbrev pub cancel_removed : Exchanges → List (Event × Bool) → List (Event × Bool)
 cancel_removed [] ready = ready
-cancel_removed (exchange ∷ exchanges) ready = map (λ p. (p.0, p.1 || removes p.0.fd (exchange ∷ exchanges))) ready
+cancel_removed (exchange ∷ exchanges) ready = map (λ p. (p.0, p.1 || has_removal p.0.fd (exchange ∷ exchanges))) ready
 
 -- a batch, before its first position
 abbrev pub all_pending : List Event → List (Event × Bool)

@@ -2,7 +2,7 @@
 
 ghost use Rattle.std.specs.Prelude.{◌≡◌, ◌≤ℤ◌, ◌<◌, ◌^◌, pos, unsigned_abs, IsTrue, ◌↔◌};
 ghost use Rattle.dispatch_tables.specs.Event.{event_of_entry};
-ghost use Rattle.event_loop.specs.PollerRelations.{packed};
+ghost use Rattle.event_loop.specs.PollerRelations.{entry_of_event};
 ghost use Rattle.vmm_sys.specs.EventSet.{bits_of};
 
 use crate::error::Error;
@@ -22,7 +22,7 @@ impl Model for Events {
     ghost use Rattle.std.proofs.Common.{ap};
     ghost use Rattle.vmm_sys.specs.EpollEvent.{word_of, set_of, event};
     ghost use Rattle.dispatch_tables.specs.Event.{Event, word_of_parts, word_of_parts-halves, event_of_entry};
-    ghost use Rattle.event_loop.specs.PollerRelations.{packed};
+    ghost use Rattle.event_loop.specs.PollerRelations.{entry_of_event};
 
     ghost Value = { Event };
 
@@ -30,7 +30,7 @@ impl Model for Events {
 
     ghost invariant = { λ e. word_of e.inner % 2 ^ 32 < 2 ^ 31 };
 
-    ghost inverse = { λ e. record { inner = packed e } };
+    ghost inverse = { λ e. record { inner = entry_of_event e } };
 
     ghost inverse_ok = { λ e h. ap (λ w. record { inner = event (set_of e.inner) w }) (word_of_parts-halves (word_of e.inner)) };
 }
@@ -120,7 +120,7 @@ impl Events {
 
     /// The event as a poller gets it: the set, and the packed word.
     pub fn epoll_event(&self) -> EpollEvent
-        ensures { result ≡ packed self.now }
+        ensures { result ≡ entry_of_event self.now }
     {
         self.inner
     }

@@ -3,7 +3,7 @@
 ghost use Rattle.std.specs.Prelude.{◌≡◌, ◌≤◌, ◌<◌, ◌^◌, length, pos, IfOk};
 ghost use Rattle.event_loop.specs.ReadyList.{report_of};
 ghost use Rattle.event_loop.specs.PollerRelations as boxed;
-ghost use Rattle.event_loop.specs.PollerRelations.{packed, WaitsBy};
+ghost use Rattle.event_loop.specs.PollerRelations.{entry_of_event, WaitsBy};
 
 use crate::events::Events;
 use vmm_sys::epoll::{ControlOperation, EpollEvent};
@@ -63,7 +63,7 @@ impl EventPoller for BoxedPoller {
 }
 
 impl<T: Poller> EventPoller for T {
-    ghost controls = { λ v op fd event r w. T.may_ctl (T.meaning v) op (pos fd) (packed event) r (T.meaning w) };
+    ghost controls = { λ v op fd event r w. T.may_ctl (T.meaning v) op (pos fd) (entry_of_event event) r (T.meaning w) };
 
     ghost waits = { λ v ms capacity r w. WaitsBy T.may_wait (T.meaning v) ms capacity r (T.meaning w) };
 

@@ -7,14 +7,14 @@ ghost use Rattle.event_loop.specs.RegistrationState.{all_pending};
 ghost use Rattle.event_loop.specs.LoopState.{HasStepped, IsJoin, IsLeave, new_loop, no_descriptor, with_next_id};
 ghost use Rattle.event_loop.specs.Subscribers.{TakesPosition, IsDispatched, IsBatch, IsNew, loop_state};
 
-use crate::epoll::{EpollWrapper, RegistrationState};
+use crate::epoll::EpollWrapper;
 use crate::error::{Error, Result};
 use crate::events::Events;
 use crate::ops::EventOps;
-use crate::parts::Subscribers;
 use crate::poller::{BoxedPoller, EventPoller};
+use crate::registration_state::RegistrationState;
 use crate::subscriber_ops::SubscriberOps;
-use crate::subscribers::{MutEventSubscriber, SubscriberId};
+use crate::subscribers::{MutEventSubscriber, SubscriberId, Subscribers, ids_of};
 use dispatch_tables::places::SubscriberPlaces;
 use std::alloc::Global;
 use vmm_sys::epoll::ControlOperation;
@@ -238,6 +238,10 @@ impl<S: MutEventSubscriber + Drop, P: EventPoller> SubscriberOps for Registry<S,
         SubscriberId {
             number: self.subscribers.next_id(),
         }
+    }
+
+    fn ids(&self, alloc: Global) -> Result<Vec<SubscriberId>> {
+        ids_of(&self.subscribers, alloc)
     }
 
     fn remove_subscriber(&mut self, id: SubscriberId) -> Result<S> {

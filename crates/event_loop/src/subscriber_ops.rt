@@ -2,6 +2,7 @@
 
 ghost use Rattle.std.specs.Prelude.{◌≡◌, IfErr, IfOk};
 ghost use Rattle.std.specs.Borrow.{sem, LendsSoOk};
+ghost use Rattle.std.specs.FinMap as map;
 ghost use Rattle.event_loop.specs.Registry.{LoopStep, HasId, LacksId, AreBelow};
 ghost use Rattle.event_loop.specs.Requests.{StandsFor, with_ops};
 ghost use Rattle.event_loop.specs.contracts.ops.EventOps.{the_row as ops_row};
@@ -11,6 +12,7 @@ use crate::error::{Error, Result};
 use crate::ops::EventOps;
 use crate::poller::EventPoller;
 use crate::subscribers::{MutEventSubscriber, SubscriberId};
+use std::alloc::Global;
 
 /// What is done to subscribers from outside a batch. A refused call changes nothing that a contract sees by `seen`: the subscribers
 /// by id, the next id, the registrations, the poller and the capacity.
@@ -35,6 +37,11 @@ pub trait SubscriberOps {
     fn next_id(&self) -> SubscriberId
         ensures next { result ≡ (seen self.now).registry.next }
         ensures below { AreBelow (seen self.now).registry.next (seen self.now).registry.values };
+
+    /// The ids of all subscribers, in ascending order. Not in event-manager.
+    fn ids(&self, alloc: Global) -> Result<Vec<SubscriberId>>
+        ensures ids { IfOk result (λ ids. ids.items ≡ map.keys (seen self.now).registry.values) }
+        ensures refusals { IfErr result (λ e. e ≡ Error.OutOfMemory) };
 
     /// Removes the subscriber and returns it; `InvalidId` where no subscriber has the id. The poller is asked for one Delete (its
     /// event has the empty set, data 0 and descriptor 0) for each of the subscriber's descriptors, in ascending order. Whatever it

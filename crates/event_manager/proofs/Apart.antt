@@ -9,12 +9,12 @@ use Rattle.std.proofs.lemmas.List.Elements.{All-nil, All-cons, All-head, All-tai
 use Rattle.vmm_sys.specs.declared.errno.Errno.{Errno}
 use Rattle.dispatch_tables.specs.declared.priority.Priority.TheVariants.{Lowest}
 use Rattle.dispatch_tables.proofs.Owning.{from_insert}
-use Rattle.event_loop.specs.Prelude.{Event, Answer, Registrations, Owns, added, event_of, PollerCall, Exchanges, Fits, by_manager, by_poller, by_agreement, ExchangesFit, registrations_after, requests_of, Begins, Serves, Controls, Waits, Registry, LoopStep, Joined, NotJoined, Left, Replaced, Requested, Refused, Steps, is_id, new_registry, May, Delivery, Nobody, To, exchanges_of, Position, IsDelivery, AreDispatched, is_removed, still_pending, events_of, with_pending, ManagerState, manager_state, JobRun, IsIteration, AreRun, LoopState, IsJoin, HasStepped, IsLoopIteration}
+use Rattle.event_loop.specs.Prelude.{Event, Answer, Registrations, Owns, priority_asked, event_of, PollerCall, Exchanges, Fits, by_manager, by_poller, by_agreement, ExchangesFit, registrations_after, requests_of, Begins, Serves, Controls, Waits, Registry, LoopStep, Joined, NotJoined, Left, Replaced, Requested, Refused, Steps, is_id, new_registry, May, Delivery, Nobody, To, exchanges_of, Position, IsDelivery, AreDispatched, is_removed, still_pending, events_of, with_pending, LoopContents, contents_of, JobRun, IsIteration, AreRun, LoopState, IsJoin, HasStepped, IsLoopIteration}
 use Rattle.event_loop.specs.declared.error.Error.{Error}
 use Rattle.event_loop.specs.declared.events.Request.{Request}
 use Rattle.event_loop.specs.declared.events.Request.TheVariants.{Add, AddWithPriority, Modify, Remove}
 use Rattle.event_manager.specs.History.{Turn, Made, Waited, IsTurn, IsHistory}
-use Rattle.event_manager.specs.Projection.{receiver_of, is_add, asks_to_add, adds, turn_exchanges, exchanges_in, IsApart, IsAsIfAlone}
+use Rattle.event_manager.specs.Projection.{receiver_of, is_add, asks_to_add, has_addition, turn_exchanges, exchanges_in, IsApart, IsAsIfAlone}
 use Rattle.event_manager.specs.Actions.{IsDoneTo}
 use Rattle.event_manager.specs.Wants.{AskWithin, AreDisjoint, NoneWants, WantApart, claimed_by, BeginsWithin, ServesWithin, IsWithin, StepIsWithin, TurnIsWithin, JobsAreWithin, GetsWithin, StaysWithin, AllAsIfAlone}
 use Rattle.event_manager.proofs.HeldIds.{from_remove}
@@ -27,7 +27,7 @@ use Rattle.dispatch_tables.proofs.Owning as owning
 
 -- what is asked
 module _ (may : ℕ → Type 0) where
-  one_within : (request : Request) (fd : ℕ) → IfSome (added request) (λ priority. may (event_of request).fd) → is_add fd request ≡ true → may fd
+  one_within : (request : Request) (fd : ℕ) → IfSome (priority_asked request) (λ priority. may (event_of request).fd) → is_add fd request ≡ true → may fd
   one_within (Add e) fd within h = subst may (eqb-true e.fd fd h) within
   one_within (AddWithPriority e priority) fd within h = subst may (eqb-true e.fd fd h) within
   one_within (Modify e) fd within h = absurd (true≢false (sym h))
@@ -40,9 +40,9 @@ module _ (may : ℕ → Type 0) where
     | inr p ↦ asked_within exchanges fd within.1 p
   ]
 
-  added_within : (exchanges : Exchanges) (fd : ℕ) → AskWithin may (requests_of exchanges) → adds fd exchanges ≡ true → may fd
+  added_within : (exchanges : Exchanges) (fd : ℕ) → AskWithin may (requests_of exchanges) → has_addition fd exchanges ≡ true → may fd
   added_within [] fd within h = absurd (true≢false (sym h))
-  added_within ((request, Ok entry) ∷ exchanges) fd within h = elim (or_cases (is_add fd request) (adds fd exchanges) h) [
+  added_within ((request, Ok entry) ∷ exchanges) fd within h = elim (or_cases (is_add fd request) (has_addition fd exchanges) h) [
     | inl p ↦ one_within request fd within.0 p
     | inr p ↦ added_within exchanges fd within.1 p
   ]
@@ -54,14 +54,14 @@ module _ (may : ℕ → Type 0) where
 
 ask_weaker : (may might : ℕ → Type 0) → ((fd : ℕ) → may fd → might fd) → (requests : List Request) → AskWithin may requests → AskWithin might requests
 ask_weaker may might weaker [] within = tt
-ask_weaker may might weaker (request ∷ requests) within = (IfSome_then (added request) within.0 (λ priority. weaker (event_of request).fd), ask_weaker may might weaker requests within.1)
+ask_weaker may might weaker (request ∷ requests) within = (IfSome_then (priority_asked request) within.0 (λ priority. weaker (event_of request).fd), ask_weaker may might weaker requests within.1)
 
 -- what is owned
 module _ (claims : ℕ → ℕ → Type 0) where
   abbrev AreClaimed : Registrations → Type 0
   AreClaimed registrations = (i fd : ℕ) → Owns i registrations fd → claims i fd
 
-  agreed_claimed : (i : ℕ) (registrations : Registrations) (request : Request) → IfSome (added request) (λ priority. claims i (event_of request).fd) → AreClaimed registrations → AreClaimed (registrations_after i request registrations)
+  agreed_claimed : (i : ℕ) (registrations : Registrations) (request : Request) → IfSome (priority_asked request) (λ priority. claims i (event_of request).fd) → AreClaimed registrations → AreClaimed (registrations_after i request registrations)
   agreed_claimed i registrations (Add e) new were j fd owns = elim (from_insert registrations.owners e.fd (record { id = i; priority = Lowest }) fd j owns) [
     | inl t ↦ subst (claims j) (sym t.0) (subst (λ k. claims k e.fd) t.1 new)
     | inr t ↦ were j fd t
@@ -73,7 +73,7 @@ module _ (claims : ℕ → ℕ → Type 0) where
   agreed_claimed i registrations (Modify e) new were j fd owns = were j fd owns
   agreed_claimed i registrations (Remove e) new were j fd owns = were j fd (owning.from_remove registrations.owners e.fd fd j owns)
 
-  one_claimed : (i : ℕ) (before : Registrations) (request : Request) (answer : Answer) (calls : List PollerCall) (after : Registrations) → Fits i before request answer calls after → IfSome (added request) (λ priority. claims i (event_of request).fd) → AreClaimed before → AreClaimed after
+  one_claimed : (i : ℕ) (before : Registrations) (request : Request) (answer : Answer) (calls : List PollerCall) (after : Registrations) → Fits i before request answer calls after → IfSome (priority_asked request) (λ priority. claims i (event_of request).fd) → AreClaimed before → AreClaimed after
   one_claimed i before request answer calls after (by_manager h a is) new were = subst AreClaimed (sym is) were
   one_claimed i before request answer calls after (by_poller n h a r is) new were = subst AreClaimed (sym is) were
   one_claimed i before request answer calls after (by_agreement h a r is) new were = subst AreClaimed (sym is) (agreed_claimed i before request new were)
@@ -231,14 +231,14 @@ module _ {V : Type 0} (wants : V → ℕ → Type 0) (claims : ℕ → ℕ → T
     step_within : (before : Registry V) (step : LoopStep V) (after : Registry V) → Steps begins before step after → StepIsWithin wants claims step → GetsWithin wants claims begins serves before after
     step_within before step after did new = record { history = Made step ∷ []; is_history = (after, did, refl); turns = All-cons (TurnIsWithin wants claims) (Made step) [] new (All-nil (TurnIsWithin wants claims)) }
 
-    jobs_within : {J R : Type 0} (may : May V J R) → JobsAreWithin wants claims may → (before : ManagerState V) (jobs : List (JobRun V J R)) (after : ManagerState V) → AreRun begins serves may before jobs after → TurnsAreWithin (flat_map (λ job_run. map Made job_run.steps) jobs)
+    jobs_within : {J R : Type 0} (may : May V J R) → JobsAreWithin wants claims may → (before : LoopContents V) (jobs : List (JobRun V J R)) (after : LoopContents V) → AreRun begins serves may before jobs after → TurnsAreWithin (flat_map (λ job_run. map Made job_run.steps) jobs)
     jobs_within may within before [] after is = All-nil (TurnIsWithin wants claims)
     jobs_within may within before (job_run ∷ jobs) after (mid, ticket, chosen, steps, more) =
         All-append (TurnIsWithin wants claims) (map Made job_run.steps) (flat_map (λ job_run. map Made job_run.steps) jobs)
         (All-map (TurnIsWithin wants claims) Made job_run.steps (within job_run.job job_run.steps job_run.reply chosen))
         (jobs_within may within (record { registry = mid; taken = before.taken + 1 }) jobs after more)
 
-    waited_within : {J R : Type 0} (may : May V J R) → JobsAreWithin wants claims may → (before : ManagerState V) (waited : Result (List Event) Errno) (positions : List (Position V)) (jobs : List (JobRun V J R)) (after : ManagerState V) → IsIteration begins serves may before waited positions jobs after
+    waited_within : {J R : Type 0} (may : May V J R) → JobsAreWithin wants claims may → (before : LoopContents V) (waited : Result (List Event) Errno) (positions : List (Position V)) (jobs : List (JobRun V J R)) (after : LoopContents V) → IsIteration begins serves may before waited positions jobs after
         → TurnsAreWithin (flat_map (λ job_run. map Made job_run.steps) jobs)
     waited_within may within before (Ok report) positions jobs after (mid, dispatch, none, ran) = jobs_within may within (record before { registry = mid }) jobs after ran
     waited_within may within before (Err errno) positions jobs after (no_positions, none, is) = rw none (All-nil (TurnIsWithin wants claims))
@@ -256,9 +256,9 @@ module _ {V : Type 0} (wants : V → ℕ → Type 0) (claims : ℕ → ℕ → T
         let it = did.iteration in
         record {
           history = Waited it.ms it.waited it.positions ∷ flat_map (λ job_run. map Made job_run.steps) it.jobs;
-          is_history = wait_history begins serves may (manager_state before) it.ms it.waited it.positions it.jobs (manager_state after) did.iterated;
+          is_history = wait_history begins serves may (contents_of before) it.ms it.waited it.positions it.jobs (contents_of after) did.iterated;
           turns = All-cons (TurnIsWithin wants claims) (Waited it.ms it.waited it.positions) (flat_map (λ job_run. map Made job_run.steps) it.jobs) tt
-              (waited_within may within (manager_state before) it.waited it.positions it.jobs (manager_state after) did.iterated);
+              (waited_within may within (contents_of before) it.waited it.positions it.jobs (contents_of after) did.iterated);
         }
 
     -- from a registry that is within what is claimed, each id is as if the others were not there

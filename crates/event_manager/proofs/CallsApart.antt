@@ -1,7 +1,7 @@
 -- A list of calls that was driven, taken apart: each call did what the single call promises.
 use Rattle.std.proofs.Common.{◌≡◌, ℕ, List, [], ◌∷◌, ◌++◌, refl, sym, ap, subst, ◌∙◌, map, Vec, Result, Ok, Err, Some, None}
 use Rattle.std.specs.declared.alloc.Global.{Global}
-use Rattle.event_loop.specs.Prelude.{PollerCall, Control, Wait, Controls, Waits, Leads, Answer, Begins, Serves, LoopStep, Joined, NotJoined, Left, Replaced, Requested, Refused, AreBelow, Registry, Steps, LacksId, May, ManagerState, run_answer, LoopState, HasStepped, IsJoin, IsLeave, IsLoopIteration, manager_state}
+use Rattle.event_loop.specs.Prelude.{PollerCall, Control, Wait, Controls, Waits, Leads, Answer, Begins, Serves, LoopStep, Joined, NotJoined, Left, Replaced, Requested, Refused, AreBelow, Registry, Steps, LacksId, May, LoopContents, run_answer, LoopState, HasStepped, IsJoin, IsLeave, IsLoopIteration, contents_of}
 use Rattle.event_loop.specs.declared.error.Error.{Error}
 use Rattle.event_loop.specs.declared.events.Request.{Request}
 use Rattle.event_loop.specs.declared.error.Error.TheVariants.{InvalidId}
@@ -93,12 +93,12 @@ module _ {S J R P : Type 0} {begins : Begins S} {serves : Serves S} {may : May S
       let are : others ≡ calls = cc are_calls in
       subst (λ rs. AreCalled begins serves may controls waits before c calls rs after) are_replies (subst (λ cs. AreCalled begins serves may controls waits before c cs told after) are (subst (λ x. AreCalled begins serves may controls waits before x others told after) is called))
 
-  entry_called : (before : LoopState S P) (entry : TraceEntry S J R) (trace : List (TraceEntry S J R)) (mid : ManagerState S) (after : LoopState S P) → AreBelow before.registry.next before.registry.values → Matches entry.effect entry.call entry.reply → HasEffect begins serves may (manager_state before) entry.effect mid → IsTrace begins serves may mid trace (manager_state after)
+  entry_called : (before : LoopState S P) (entry : TraceEntry S J R) (trace : List (TraceEntry S J R)) (mid : LoopContents S) (after : LoopState S P) → AreBelow before.registry.next before.registry.values → Matches entry.effect entry.call entry.reply → HasEffect begins serves may (contents_of before) entry.effect mid → IsTrace begins serves may mid trace (contents_of after)
       → Leads controls waits before.poller (calls_of_effect before.capacity entry.effect ++ calls_of_trace before.capacity trace) after.poller → after.capacity ≡ before.capacity → AreCalled begins serves may controls waits before entry.call (map (λ e. e.call) trace) (entry.reply ∷ map (λ e. e.reply) trace) after
   entry_called before entry trace mid after below matches had more led same =
       let apart = leads_apart controls waits before.poller (calls_of_effect before.capacity entry.effect) (calls_of_trace before.capacity trace) after.poller led in
       let between : LoopState S P = record { registry = mid.registry; taken = mid.taken; poller = apart.0; capacity = before.capacity } in
-      let below_mid = (trace_follows begins serves may (manager_state before) (entry ∷ []) mid (mid, matches, had, refl)).below below in
+      let below_mid = (trace_follows begins serves may (contents_of before) (entry ∷ []) mid (mid, matches, had, refl)).below below in
       record {
         reply = entry.reply;
         others = map (λ e. e.reply) trace;

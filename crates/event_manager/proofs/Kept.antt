@@ -9,7 +9,7 @@ use Rattle.std.proofs.lemmas.List.Elements.{All-nil, All-cons, All-head, All-tai
 use Rattle.std.proofs.lemmas.Result.{IfOk-weaker}
 use Rattle.vmm_sys.specs.declared.errno.Errno.{Errno}
 use Rattle.event_loop.specs.declared.error.Error.{Error}
-use Rattle.event_loop.specs.Prelude.{Event, Exchanges, Begins, Serves, Controls, Waits, Registry, LoopStep, Joined, NotJoined, Left, Replaced, Requested, Refused, HasId, AreBelow, new_registry, Steps, May, Delivery, Nobody, To, Position, with_pending, still_pending, events_of, is_removed, IsDelivery, AreDispatched, ManagerState, manager_state, JobRun, IsIteration, AreRun, AllSteps, LoopState, no_job, IsLoopIteration}
+use Rattle.event_loop.specs.Prelude.{Event, Exchanges, Begins, Serves, Controls, Waits, Registry, LoopStep, Joined, NotJoined, Left, Replaced, Requested, Refused, HasId, AreBelow, new_registry, Steps, May, Delivery, Nobody, To, Position, with_pending, still_pending, events_of, is_removed, IsDelivery, AreDispatched, LoopContents, contents_of, JobRun, IsIteration, AreRun, AllSteps, LoopState, no_job, IsLoopIteration}
 use Rattle.event_manager.specs.History.{Turn, Made, Waited, IsHistory}
 use Rattle.event_manager.specs.Guarantees.{AreGiven}
 use Rattle.event_manager.specs.Life.{LifeStep, Begun, Served, Changed, Ended, Lives, life_of_delivery, life_of}
@@ -68,7 +68,7 @@ module _ {V : Type 0} (goes : V → V → Type 0) where
     steps_stead first (Requested id exchanges calls ∷ steps) more last below go given rest = steps_stead first steps more last below (All-tail (StepGoesOn goes) (Requested id exchanges calls) steps go) given rest
     steps_stead first (Refused id ∷ steps) more last below go given rest = steps_stead first steps more last below (All-tail (StepGoesOn goes) (Refused id) steps go) given rest
 
-    jobs_stead : {J R : Type 0} (begins : Begins V) (serves : Serves V) (may : May V J R) → JobsGoOn goes may → (before : ManagerState V) (jobs : List (JobRun V J R)) (after : ManagerState V) → AreRun begins serves may before jobs after
+    jobs_stead : {J R : Type 0} (begins : Begins V) (serves : Serves V) (may : May V J R) → JobsGoOn goes may → (before : LoopContents V) (jobs : List (JobRun V J R)) (after : LoopContents V) → AreRun begins serves may before jobs after
         → (first last : ℕ) → i < first → AreGiven first (flat_map (λ job_run. map Made job_run.steps) jobs) last → IsStead (life_of i (flat_map (λ job_run. map Made job_run.steps) jobs))
     jobs_stead begins serves may go before [] after is first last below given = tt
     jobs_stead begins serves may go before (job_run ∷ jobs) after (mid, ticket, chosen, steps, more) first last below given =
@@ -101,16 +101,16 @@ module _ {V : Type 0} (begins : Begins V) (serves : Serves V) (goes : V → V �
   manager_goes_on {J} {R} may go controls waits before ms result after below did id v w has had =
       let it = did.iteration in
       let history : List (Turn V) = Waited it.ms it.waited it.positions ∷ flat_map (λ job_run. map Made job_run.steps) it.jobs in
-      let is : IsHistory begins serves before.registry history after.registry = wait_history begins serves may (manager_state before) it.ms it.waited it.positions it.jobs (manager_state after) did.iterated in
+      let is : IsHistory begins serves before.registry history after.registry = wait_history begins serves may (contents_of before) it.ms it.waited it.positions it.jobs (contents_of after) did.iterated in
       let given : AreGiven before.registry.next history after.registry.next = (history_follows begins serves before.registry history after.registry is).given in
       let stead = jobs_by it.waited did.iterated given in
       let lives = history_lives begins serves id before.registry history after.registry is in
       life_goes_on v (life_of id history) w (positions_stead goes id it.positions (life_of id (flat_map (λ job_run. map Made job_run.steps) it.jobs)) stead)
       (subst (λ held. Lives begins serves (Some v) (life_of id history) held) had (subst (λ held. Lives begins serves held (life_of id history) (get after.registry.values id)) has lives))
     where
-      jobs_by : (waited : Result (List Event) Errno) → IsIteration begins serves may (manager_state before) waited did.iteration.positions did.iteration.jobs (manager_state after)
+      jobs_by : (waited : Result (List Event) Errno) → IsIteration begins serves may (contents_of before) waited did.iteration.positions did.iteration.jobs (contents_of after)
           → AreGiven before.registry.next (flat_map (λ job_run. map Made job_run.steps) did.iteration.jobs) after.registry.next → IsStead goes (life_of id (flat_map (λ job_run. map Made job_run.steps) did.iteration.jobs))
-      jobs_by (Ok report) (mid, dispatch, none, ran) given = jobs_stead goes id begins serves may go (record (manager_state before) { registry = mid }) did.iteration.jobs (manager_state after) ran before.registry.next after.registry.next (below id v has) given
+      jobs_by (Ok report) (mid, dispatch, none, ran) given = jobs_stead goes id begins serves may go (record (contents_of before) { registry = mid }) did.iteration.jobs (contents_of after) ran before.registry.next after.registry.next (below id v has) given
       jobs_by (Err errno) (no_positions, no_jobs, is) given = rw no_jobs tt
 
   one_goes_on : (before : Registry V) (removed : Bool) (event : Event) (delivery : Delivery V) (after : Registry V) → IsDelivery serves before removed event delivery after → AllGoOn goes before after
@@ -131,7 +131,7 @@ module _ {V : Type 0} (begins : Begins V) (serves : Serves V) (goes : V → V �
       let others = all_go_on mid (earlier ++ position ∷ []) positions after more id first.0 first.1 in
       (others.0, others.1, both v first.0 others.0 first.2 others.2)
 
-  iteration_goes_on : (before : ManagerState V) (waited : Result (List Event) Errno) (positions : List (Position V)) (jobs : List (JobRun V ⊥ (Unit {0}))) (after : ManagerState V) → IsIteration begins serves no_job before waited positions jobs after → AllGoOn goes before.registry after.registry
+  iteration_goes_on : (before : LoopContents V) (waited : Result (List Event) Errno) (positions : List (Position V)) (jobs : List (JobRun V ⊥ (Unit {0}))) (after : LoopContents V) → IsIteration begins serves no_job before waited positions jobs after → AllGoOn goes before.registry after.registry
   iteration_goes_on before (Err errno) positions jobs after is id v has = (v, subst (λ m. HasId m.registry id v) (sym is.2) has, same v)
   iteration_goes_on before (Ok report) positions (job_run ∷ jobs) after is id v has = absurd job_run.job
   iteration_goes_on before (Ok report) positions [] after is id v has =
@@ -178,14 +178,14 @@ module _ {V : Type 0} (begins : Begins V) (serves : Serves V) (good : V → Type
       (delivery_good (with_pending (still_pending earlier (events_of positions)) before) (is_removed position.event.fd earlier) position.event position.delivery mid delivered all)
 
   module _ {J R : Type 0} (may : May V J R) (go : JobsGoOn (keeps good) may) where
-    jobs_good : (before : ManagerState V) (jobs : List (JobRun V J R)) (after : ManagerState V) → AreRun begins serves may before jobs after → all_good before.registry → all_good after.registry
-    jobs_good before [] after e all = subst (λ (s : ManagerState V). all_good s.registry) (sym e) all
+    jobs_good : (before : LoopContents V) (jobs : List (JobRun V J R)) (after : LoopContents V) → AreRun begins serves may before jobs after → all_good before.registry → all_good after.registry
+    jobs_good before [] after e all = subst (λ (s : LoopContents V). all_good s.registry) (sym e) all
     jobs_good before (job_run ∷ jobs) after (mid, ticket, chosen, steps, more) all = jobs_good (record { registry = mid; taken = before.taken + 1 }) jobs after more
         (steps_good before.registry job_run.steps mid (go job_run.job job_run.steps job_run.reply chosen) steps all)
 
-    iteration_good : (before : ManagerState V) (waited : Result (List Event) Errno) (positions : List (Position V)) (jobs : List (JobRun V J R)) (after : ManagerState V) → IsIteration begins serves may before waited positions jobs after → all_good before.registry → all_good after.registry
+    iteration_good : (before : LoopContents V) (waited : Result (List Event) Errno) (positions : List (Position V)) (jobs : List (JobRun V J R)) (after : LoopContents V) → IsIteration begins serves may before waited positions jobs after → all_good before.registry → all_good after.registry
     iteration_good before (Ok report) positions jobs after (mid, dispatch, none, ran) all = jobs_good (record before { registry = mid }) jobs after ran (positions_good before.registry [] positions mid dispatch.1 all)
-    iteration_good before (Err errno) positions jobs after (no_positions, no_jobs, e) all = subst (λ (s : ManagerState V). all_good s.registry) (sym e) all
+    iteration_good before (Err errno) positions jobs after (no_positions, no_jobs, e) all = subst (λ (s : LoopContents V). all_good s.registry) (sym e) all
 
     like_jobs_go_on : (step : LoopStep V) → IsLikeJobs may (Stepped step) → StepGoesOn (keeps good) step
     like_jobs_go_on (Joined value id exchanges calls held) like = tt
@@ -195,12 +195,12 @@ module _ {V : Type 0} (begins : Begins V) (serves : Serves V) (good : V → Type
     like_jobs_go_on (Requested id exchanges calls) like = tt
     like_jobs_go_on (Refused id) like = tt
 
-    effect_good : (before : ManagerState V) (effect : Effect V J R) (after : ManagerState V) → HasEffect begins serves may before effect after → IsLikeJobs may effect → all_good before.registry → all_good after.registry
+    effect_good : (before : LoopContents V) (effect : Effect V J R) (after : LoopContents V) → HasEffect begins serves may before effect after → IsLikeJobs may effect → all_good before.registry → all_good after.registry
     effect_good before (Stepped step) after (did, same) like all = step_good before.registry step after.registry (like_jobs_go_on step like) did all
     effect_good before (Iterated iteration) after did like all = iteration_good before iteration.waited iteration.positions iteration.jobs after did all
 
-    trace_good : (before : ManagerState V) (trace : List (TraceEntry V J R)) (after : ManagerState V) → IsTrace begins serves may before trace after → All (λ entry. IsLikeJobs may entry.effect) trace → all_good before.registry → all_good after.registry
-    trace_good before [] after e like all = subst (λ (s : ManagerState V). all_good s.registry) (sym e) all
+    trace_good : (before : LoopContents V) (trace : List (TraceEntry V J R)) (after : LoopContents V) → IsTrace begins serves may before trace after → All (λ entry. IsLikeJobs may entry.effect) trace → all_good before.registry → all_good after.registry
+    trace_good before [] after e like all = subst (λ (s : LoopContents V). all_good s.registry) (sym e) all
     trace_good before (entry ∷ trace) after (mid, matches, did, more) like all = trace_good mid trace after more (All-tail (λ (e : TraceEntry V J R). IsLikeJobs may e.effect) entry trace like)
         (effect_good before entry.effect mid did (All-head (λ (e : TraceEntry V J R). IsLikeJobs may e.effect) entry trace like) all)
 

@@ -1,6 +1,6 @@
 -- What is pending after a position.
 use Rattle.std.proofs.Common.{Ok, eq-eqb, ne_eqb, ◌==◌, ◌≡◌, ℕ, cond, Bool, true, false, not, ◌||◌, refl, sym, ◌∙◌, ap, List, [], ◌∷◌, ◌++◌, filter, Err, inl, inr}
-use Rattle.event_loop.specs.Prelude.{Event, Registrations, PollerCall, Answer, Exchanges, Fits, by_manager, by_poller, by_agreement, ExchangesFit, registrations_after, removes, is_removal, Serves, Registry, Position, Delivery, Nobody, To, is_removed, still_pending, with_pending, IsDelivery}
+use Rattle.event_loop.specs.Prelude.{Event, Registrations, PollerCall, Answer, Exchanges, Fits, by_manager, by_poller, by_agreement, ExchangesFit, registrations_after, has_removal, is_removal, Serves, Registry, Position, Delivery, Nobody, To, is_removed, still_pending, with_pending, IsDelivery}
 use Rattle.event_loop.specs.declared.events.Request.{Request}
 use Rattle.event_loop.specs.declared.events.Request.TheVariants.{Add, AddWithPriority, Modify, Remove}
 use Rattle.dispatch_tables.proofs.NumberTests.{fd_tells}
@@ -44,11 +44,11 @@ fits_pending i registrations request answer calls after (by_manager h a e) = let
 fits_pending i registrations request answer calls after (by_poller n h a r e) = unchanged registrations after request answer _ r e
 fits_pending i registrations request answer calls after (by_agreement h a r e) = ap (λ (b : Registrations). b.pending) e ∙ agreed_pending i registrations request ∙ ap (λ x. filter (λ ev. not (is_removal ev.fd request x)) registrations.pending) (sym r)
 
-exchanges_pending : (i : ℕ) (registrations : Registrations) (exchanges : Exchanges) (calls : List PollerCall) (after : Registrations) → ExchangesFit i registrations exchanges calls after → after.pending ≡ filter (λ e. not (removes e.fd exchanges)) registrations.pending
+exchanges_pending : (i : ℕ) (registrations : Registrations) (exchanges : Exchanges) (calls : List PollerCall) (after : Registrations) → ExchangesFit i registrations exchanges calls after → after.pending ≡ filter (λ e. not (has_removal e.fd exchanges)) registrations.pending
 exchanges_pending i registrations [] calls after h = ap (λ (b : Registrations). b.pending) h.1 ∙ sym (filter_all _ registrations.pending (λ x. refl))
 exchanges_pending i registrations (exchange ∷ exchanges) calls after (first, rest, mid, joined, fits, more) =
-    exchanges_pending i mid exchanges rest after more ∙ ap (filter (λ e. not (removes e.fd exchanges))) (fits_pending i registrations exchange.0 exchange.1 first mid fits)
-    ∙ filter_twice (λ e. removes e.fd exchanges) (λ e. is_removal e.fd exchange.0 exchange.1) registrations.pending
+    exchanges_pending i mid exchanges rest after more ∙ ap (filter (λ e. not (has_removal e.fd exchanges))) (fits_pending i registrations exchange.0 exchange.1 first mid fits)
+    ∙ filter_twice (λ e. has_removal e.fd exchanges) (λ e. is_removal e.fd exchange.0 exchange.1) registrations.pending
 
 ends : (a : Bool) → (a || false) ≡ a
 ends true = refl
@@ -61,5 +61,5 @@ pending_after {V} serves before earlier event later Nobody after (nobody, is) =
 pending_after {V} serves before earlier event later (To i exchanges calls held) after (value, registrations, for, serving, fits, is) =
     ap (λ (r : Registry V). r.registrations.pending) is
     ∙ exchanges_pending i (with_pending (still_pending earlier later) before).registrations exchanges calls registrations fits
-    ∙ filter_twice (λ e. removes e.fd exchanges) (λ e. is_removed e.fd earlier) later
+    ∙ filter_twice (λ e. has_removal e.fd exchanges) (λ e. is_removed e.fd earlier) later
     ∙ filter_alike _ _ later (λ e. ap not (sym (is_removed-push e.fd earlier (record { event = event; delivery = To i exchanges calls held }))))

@@ -2,12 +2,12 @@
 use Rattle.std.proofs.Common.{◌≡◌, ◌≢◌, ℕ, Bool, true, false, ◌||◌, ◌==◌, refl, sym, ◌∙◌, ap, subst, Some, inl, inr, nat_cmp, List, [], ◌∷◌, ◌++◌, cond, filter, All, IfSome, true≢false, if◌then◌else◌, eq-eqb, eqb-true}
 use Rattle.std.specs.FinMap.{FinMap, get}
 use Rattle.std.proofs.lemmas.Bool.Decides.{eqb_tells}
-use Rattle.event_loop.specs.Prelude.{Event, owner_of, PollerCall, Exchanges, removes, Serves, Registry, Delivery, Nobody, To, Position, exchanges_of, is_id, is_removed, still_pending, events_of, with_pending, IsFor, IsDelivery, AreDispatched}
-use Rattle.event_manager.specs.Projection.{owned_by, only_values, projected_registrations, receiver_of, asks_to_add, adds}
+use Rattle.event_loop.specs.Prelude.{Event, owner_of, PollerCall, Exchanges, has_removal, Serves, Registry, Delivery, Nobody, To, Position, exchanges_of, is_id, is_removed, still_pending, events_of, with_pending, IsFor, IsDelivery, AreDispatched}
+use Rattle.event_manager.specs.Projection.{owned_by, only_values, projected_registrations, receiver_of, asks_to_add, has_addition}
 use Rattle.std.proofs.lemmas.List.Elements.{All-nil, All-cons}
 use Rattle.dispatch_tables.proofs.DispatchOrders.{nil_cons, head_is, tail_is}
 use Rattle.event_manager.proofs.FiniteMaps.{only_values-insert}
-use Rattle.event_manager.proofs.ProjectedExchanges.{IsMine, own_exchanges, other_exchanges, owned_projected, owned_from_projected, projected_is_own, asked_first, asked_then, adds_first, adds_then}
+use Rattle.event_manager.proofs.ProjectedExchanges.{IsMine, own_exchanges, other_exchanges, owned_projected, owned_from_projected, projected_is_own, asked_first, asked_then, has_addition_first, has_addition_then}
 use Rattle.event_loop.proofs.ExchangeLemmas.{or_false, exchanges_keep_endpoint}
 use Rattle.event_loop.proofs.Positions.{is_removed-push}
 use Rattle.event_manager.proofs.ProjectedSteps.{projected_with, untouched_projected, has_projected, has_from_projected}
@@ -56,7 +56,7 @@ module _ {V : Type 0} (serves : Serves V) (i : ℕ) (mine : ℕ → Bool) (n : �
     fits : IsDelivery serves (projected_with i n pending before) removed e shown (projected_with i n left after)
     still : IsMine i mine after.registrations.owners
     next : after.next ≡ before.next
-    alike : (fd : ℕ) → mine fd ≡ true → removes fd (exchanges_of shown) ≡ removes fd (exchanges_of delivery)
+    alike : (fd : ℕ) → mine fd ≡ true → has_removal fd (exchanges_of shown) ≡ has_removal fd (exchanges_of delivery)
 
   abbrev Agree : List (Position V) → List (Position V) → Type 0
   Agree earlier removed = (fd : ℕ) → mine fd ≡ true → is_removed fd removed ≡ is_removed fd earlier
@@ -111,11 +111,11 @@ module _ {V : Type 0} (serves : Serves V) (i : ℕ) (mine : ℕ → Bool) (n : �
     same : (pending : List Event) → projected_with i n pending after ≡ projected_with i n pending before
     still : IsMine i mine after.registrations.owners
     next : after.next ≡ before.next
-    apart : (fd : ℕ) → mine fd ≡ true → removes fd (exchanges_of delivery) ≡ false
+    apart : (fd : ℕ) → mine fd ≡ true → has_removal fd (exchanges_of delivery) ≡ false
     nobody : only_delivery i delivery ≡ Nobody
 
   one_unseen : (before : Registry V) (gone : Bool) (e : Event) (delivery : Delivery V) (after : Registry V) → mine e.fd ≡ false → IsMine i mine before.registrations.owners
-      → ((fd : ℕ) (j : ℕ) → j ≢ i → adds fd (delivery_exchanges j delivery) ≡ true → mine fd ≡ false) → IsDelivery serves before gone e delivery after → Unseen before delivery after
+      → ((fd : ℕ) (j : ℕ) → j ≢ i → has_addition fd (delivery_exchanges j delivery) ≡ true → mine fd ≡ false) → IsDelivery serves before gone e delivery after → Unseen before delivery after
   one_unseen before gone e Nobody after there m foreign (nobody, is) = record {
     same = λ p. ap (projected_with i n p) is;
     still = subst (λ (r : Registry V). IsMine i mine r.registrations.owners) (sym is) m;
@@ -127,7 +127,7 @@ module _ {V : Type 0} (serves : Serves V) (i : ℕ) (mine : ℕ → Bool) (n : �
       elim (eqb_tells j i) [
         | inl p ↦ absurd (true≢false (sym (m.own e.fd (subst (λ k. owner_of before.registrations.owners e.fd ≡ Some k) p.1 for.0)) ∙ there))
         | inr p ↦
-            let t = other_exchanges i j mine before.registrations exchanges calls registrations p.1 m (λ fd a. foreign fd j p.1 (ap (λ b. adds fd (if b then exchanges else [])) (eq-eqb j j refl) ∙ a)) fits in
+            let t = other_exchanges i j mine before.registrations exchanges calls registrations p.1 m (λ fd a. foreign fd j p.1 (ap (λ b. has_addition fd (if b then exchanges else [])) (eq-eqb j j refl) ∙ a)) fits in
             record {
               same = λ q. untouched_projected i n q before after (isolated_delivery serves before gone e (To j exchanges calls held) after (value, registrations, for, serving, fits, is) i p.0)
                   (ap (λ (r : Registry V). r.registrations.endpoint) is ∙ exchanges_keep_endpoint j before.registrations exchanges calls registrations fits);
@@ -151,19 +151,19 @@ module _ {V : Type 0} (serves : Serves V) (i : ℕ) (mine : ℕ → Bool) (n : �
     pub still : IsMine i mine after.registrations.owners
     pub next : after.next ≡ before.next
 
-  agree_push : (earlier removed : List (Position V)) (d shown : Position V) → Agree earlier removed → ((fd : ℕ) → mine fd ≡ true → removes fd (exchanges_of shown.delivery) ≡ removes fd (exchanges_of d.delivery)) → Agree (earlier ++ d ∷ []) (removed ++ shown ∷ [])
+  agree_push : (earlier removed : List (Position V)) (d shown : Position V) → Agree earlier removed → ((fd : ℕ) → mine fd ≡ true → has_removal fd (exchanges_of shown.delivery) ≡ has_removal fd (exchanges_of d.delivery)) → Agree (earlier ++ d ∷ []) (removed ++ shown ∷ [])
   agree_push earlier removed d shown agree alike fd h =
       is_removed-push fd removed shown ∙ (λ k. agree fd h k || alike fd h k) ∙ sym (is_removed-push fd earlier d)
 
-  agree_skip : (earlier removed : List (Position V)) (d : Position V) → Agree earlier removed → ((fd : ℕ) → mine fd ≡ true → removes fd (exchanges_of d.delivery) ≡ false) → Agree (earlier ++ d ∷ []) removed
+  agree_skip : (earlier removed : List (Position V)) (d : Position V) → Agree earlier removed → ((fd : ℕ) → mine fd ≡ true → has_removal fd (exchanges_of d.delivery) ≡ false) → Agree (earlier ++ d ∷ []) removed
   agree_skip earlier removed d agree apart fd h =
       agree fd h ∙ sym (is_removed-push fd earlier d ∙ ap (λ b. is_removed fd earlier || b) (apart fd h) ∙ or_false _)
 
   agree_add : (earlier removed : List (Position V)) (shown : Position V) → Agree earlier removed → shown.delivery ≡ Nobody → Agree earlier (removed ++ shown ∷ [])
   agree_add earlier removed shown agree none fd h =
-      is_removed-push fd removed shown ∙ ap (λ o. is_removed fd removed || removes fd (exchanges_of o)) none ∙ or_false _ ∙ agree fd h
+      is_removed-push fd removed shown ∙ ap (λ o. is_removed fd removed || has_removal fd (exchanges_of o)) none ∙ or_false _ ∙ agree fd h
 
-  pub projected_dispatch : (pending : List Event) (before : Registry V) (earlier removed : List (Position V)) (real shown : List (Position V)) (after : Registry V) → Woven i mine real shown → IsMine i mine before.registrations.owners → IsClaimed (positions_exchanges i real) → ((fd : ℕ) (j : ℕ) → j ≢ i → adds fd (positions_exchanges j real) ≡ true → mine fd ≡ false) → Agree earlier removed → AreDispatched serves before earlier real after → DispatchProjected before pending removed shown after
+  pub projected_dispatch : (pending : List Event) (before : Registry V) (earlier removed : List (Position V)) (real shown : List (Position V)) (after : Registry V) → Woven i mine real shown → IsMine i mine before.registrations.owners → IsClaimed (positions_exchanges i real) → ((fd : ℕ) (j : ℕ) → j ≢ i → has_addition fd (positions_exchanges j real) ≡ true → mine fd ≡ false) → Agree earlier removed → AreDispatched serves before earlier real after → DispatchProjected before pending removed shown after
   projected_dispatch pending before earlier removed [] [] after ends m claimed foreign agree is = record {
     fits = ap (projected_with i n []) is;
     still = subst (λ (r : Registry V). IsMine i mine r.registrations.owners) (sym is) m;
@@ -174,15 +174,15 @@ module _ {V : Type 0} (serves : Serves V) (i : ℕ) (mine : ℕ → Bool) (n : �
       (λ fd t. claimed fd (asked_first fd (delivery_exchanges i d.delivery) (positions_exchanges i real) t)) (agree d.event.fd here) out in
       let rest = projected_dispatch one.left mid (earlier ++ d ∷ []) (removed ++ only_position i d ∷ []) real shown after w one.still
       (λ fd t. claimed fd (asked_then fd (delivery_exchanges i d.delivery) (positions_exchanges i real) t))
-      (λ fd j differ t. foreign fd j differ (adds_then fd (delivery_exchanges j d.delivery) (positions_exchanges j real) t))
+      (λ fd j differ t. foreign fd j differ (has_addition_then fd (delivery_exchanges j d.delivery) (positions_exchanges j real) t))
       (agree_push earlier removed d (only_position i d) agree one.alike) more
       in
       record { fits = (projected_with i n one.left mid, one.fits, rest.fits); still = rest.still; next = rest.next ∙ one.next }
   projected_dispatch pending before earlier removed (_ ∷ real) shown after (skipped d there nobody w) m claimed foreign agree (mid, out, more) =
-      let one = one_unseen (with_pending (still_pending earlier (events_of real)) before) _ d.event d.delivery mid there m (λ fd j differ t. foreign fd j differ (adds_first fd (delivery_exchanges j d.delivery) (positions_exchanges j real) t)) out in
+      let one = one_unseen (with_pending (still_pending earlier (events_of real)) before) _ d.event d.delivery mid there m (λ fd j differ t. foreign fd j differ (has_addition_first fd (delivery_exchanges j d.delivery) (positions_exchanges j real) t)) out in
       let rest = projected_dispatch pending mid (earlier ++ d ∷ []) removed real shown after w one.still
       (λ fd t. claimed fd (asked_then fd (delivery_exchanges i d.delivery) (positions_exchanges i real) t))
-      (λ fd j differ t. foreign fd j differ (adds_then fd (delivery_exchanges j d.delivery) (positions_exchanges j real) t))
+      (λ fd j differ t. foreign fd j differ (has_addition_then fd (delivery_exchanges j d.delivery) (positions_exchanges j real) t))
       (agree_skip earlier removed d agree one.apart) more
       in
       record { fits = subst (λ r. AreDispatched serves r removed shown (projected_with i n [] after)) (one.same pending) rest.fits; still = rest.still; next = rest.next ∙ one.next }
@@ -204,17 +204,17 @@ module _ {V : Type 0} (serves : Serves V) (i : ℕ) (mine : ℕ → Bool) (n : �
   Foreign [] = Unit {0}
   Foreign (d ∷ positions) = (mine d.event.fd ≡ false → only_delivery i d.delivery ≡ Nobody) × Foreign positions
 
-  pub foreign_positions : (before : Registry V) (earlier : List (Position V)) (real : List (Position V)) (after : Registry V) → IsMine i mine before.registrations.owners → IsClaimed (positions_exchanges i real) → ((fd : ℕ) (j : ℕ) → j ≢ i → adds fd (positions_exchanges j real) ≡ true → mine fd ≡ false) → AreDispatched serves before earlier real after → Foreign real
+  pub foreign_positions : (before : Registry V) (earlier : List (Position V)) (real : List (Position V)) (after : Registry V) → IsMine i mine before.registrations.owners → IsClaimed (positions_exchanges i real) → ((fd : ℕ) (j : ℕ) → j ≢ i → has_addition fd (positions_exchanges j real) ≡ true → mine fd ≡ false) → AreDispatched serves before earlier real after → Foreign real
   unfolding Foreign
   foreign_positions before earlier [] after m claimed foreign h = tt
   foreign_positions before earlier (d ∷ real) after m claimed foreign (mid, out, more) =
       let first : (b : Bool) → mine d.event.fd ≡ b → (mine d.event.fd ≡ false → only_delivery i d.delivery ≡ Nobody) × IsMine i mine mid.registrations.owners = elim [
         | true ↦ λ e. let one = one_same (with_pending (still_pending earlier (events_of real)) before) [] _ _ d.event d.delivery mid e m (λ fd t. claimed fd (asked_first fd (delivery_exchanges i d.delivery) (positions_exchanges i real) t)) refl out in ((λ f. absurd (true≢false (sym e ∙ f))), one.still)
-        | false ↦ λ e. let one = one_unseen (with_pending (still_pending earlier (events_of real)) before) _ d.event d.delivery mid e m (λ fd j differ t. foreign fd j differ (adds_first fd (delivery_exchanges j d.delivery) (positions_exchanges j real) t)) out in ((λ f. one.nobody), one.still)
+        | false ↦ λ e. let one = one_unseen (with_pending (still_pending earlier (events_of real)) before) _ d.event d.delivery mid e m (λ fd j differ t. foreign fd j differ (has_addition_first fd (delivery_exchanges j d.delivery) (positions_exchanges j real) t)) out in ((λ f. one.nobody), one.still)
       ]
       in
       let p = first (mine d.event.fd) refl in
-      (p.0, foreign_positions mid (earlier ++ d ∷ []) real after p.1 (λ fd t. claimed fd (asked_then fd (delivery_exchanges i d.delivery) (positions_exchanges i real) t)) (λ fd j differ t. foreign fd j differ (adds_then fd (delivery_exchanges j d.delivery) (positions_exchanges j real) t)) more)
+      (p.0, foreign_positions mid (earlier ++ d ∷ []) real after p.1 (λ fd t. claimed fd (asked_then fd (delivery_exchanges i d.delivery) (positions_exchanges i real) t)) (λ fd j differ t. foreign fd j differ (has_addition_then fd (delivery_exchanges j d.delivery) (positions_exchanges j real) t)) more)
 
   abbrev on_mine : List Event → List Event
   on_mine events = filter (λ e. mine e.fd) events

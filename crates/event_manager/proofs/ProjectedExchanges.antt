@@ -4,13 +4,13 @@ use Rattle.std.specs.FinMap.{get, insert, remove}
 use Rattle.std.proofs.lemmas.Bool.{or_left, or_right, or_from}
 use Rattle.std.proofs.lemmas.Bool.Decides.{nat_tests, eqb_tells}
 use Rattle.std.proofs.lemmas.List.Folds.{list_any-append}
-use Rattle.event_loop.specs.Prelude.{Event, Registrations, PollerCall, Answer, Exchanges, Fits, by_manager, by_poller, by_agreement, ExchangesFit, IsRefusedByManager, ReachesPoller, registrations_after, removes, is_removal, Ownership, OwnerMap, owner_of, is_id}
+use Rattle.event_loop.specs.Prelude.{Event, Registrations, PollerCall, Answer, Exchanges, Fits, by_manager, by_poller, by_agreement, ExchangesFit, IsRefusedByManager, ReachesPoller, registrations_after, has_removal, is_removal, Ownership, OwnerMap, owner_of, is_id}
 use Rattle.event_loop.specs.declared.events.Request.{Request}
 use Rattle.event_loop.specs.declared.events.Request.TheVariants.{Add, AddWithPriority, Modify, Remove}
 use Rattle.event_loop.specs.Exchange.{IsAdditionRefused}
 use Rattle.dispatch_tables.specs.declared.priority.Priority.{Priority}
 use Rattle.dispatch_tables.specs.declared.priority.Priority.TheVariants.{Lowest}
-use Rattle.event_manager.specs.Projection.{owned_by, projected_registrations, is_add, asks_to_add, adds}
+use Rattle.event_manager.specs.Projection.{owned_by, projected_registrations, is_add, asks_to_add, has_addition}
 use Rattle.dispatch_tables.proofs.NumberTests.{fd_tells}
 use Rattle.dispatch_tables.proofs.Owning.{from_insert, from_remove, owner_id}
 use Rattle.event_manager.proofs.FiniteMaps.{get-owned_by, owner_of-owned_by, owned_by-insert_own, owned_by-remove, entered}
@@ -221,9 +221,9 @@ own_exchanges i mine pending registrations (exchange ∷ exchanges) calls after 
 
 pub record OtherExchanges (i : ℕ) (mine : ℕ → Bool) (registrations : Registrations) (exchanges : Exchanges) (after : Registrations) : Type 0 where
   pub still : IsMine i mine after.owners
-  pub apart : (fd : ℕ) → mine fd ≡ true → removes fd exchanges ≡ false
+  pub apart : (fd : ℕ) → mine fd ≡ true → has_removal fd exchanges ≡ false
 
-pub other_exchanges : (i j : ℕ) (mine : ℕ → Bool) (registrations : Registrations) (exchanges : Exchanges) (calls : List PollerCall) (after : Registrations) → j ≢ i → IsMine i mine registrations.owners → ((fd : ℕ) → adds fd exchanges ≡ true → mine fd ≡ false) → ExchangesFit j registrations exchanges calls after → OtherExchanges i mine registrations exchanges after
+pub other_exchanges : (i j : ℕ) (mine : ℕ → Bool) (registrations : Registrations) (exchanges : Exchanges) (calls : List PollerCall) (after : Registrations) → j ≢ i → IsMine i mine registrations.owners → ((fd : ℕ) → has_addition fd exchanges ≡ true → mine fd ≡ false) → ExchangesFit j registrations exchanges calls after → OtherExchanges i mine registrations exchanges after
 other_exchanges i j mine registrations [] calls after differ m foreign h = record {
   still = subst (λ b. IsMine i mine b.owners) (sym h.1) m;
   apart = λ fd t. refl;
@@ -239,8 +239,8 @@ other_exchanges i j mine registrations (exchange ∷ exchanges) calls after diff
 asks_to_add-append : (fd : ℕ) (a b : Exchanges) → asks_to_add fd (a ++ b) ≡ (asks_to_add fd a || asks_to_add fd b)
 asks_to_add-append fd a b = list_any-append (λ (exchange : Request × Answer). is_add fd exchange.0) a b
 
-adds-append : (fd : ℕ) (a b : Exchanges) → adds fd (a ++ b) ≡ (adds fd a || adds fd b)
-adds-append fd a b = list_any-append (λ (exchange : Request × Answer). if is_ok exchange.1 then is_add fd exchange.0 else false) a b
+has_addition-append : (fd : ℕ) (a b : Exchanges) → has_addition fd (a ++ b) ≡ (has_addition fd a || has_addition fd b)
+has_addition-append fd a b = list_any-append (λ (exchange : Request × Answer). if is_ok exchange.1 then is_add fd exchange.0 else false) a b
 
 pub asked_first : (fd : ℕ) (a b : Exchanges) → asks_to_add fd a ≡ true → asks_to_add fd (a ++ b) ≡ true
 asked_first fd a b h = asks_to_add-append fd a b ∙ or_left _ _ h
@@ -248,8 +248,8 @@ asked_first fd a b h = asks_to_add-append fd a b ∙ or_left _ _ h
 pub asked_then : (fd : ℕ) (a b : Exchanges) → asks_to_add fd b ≡ true → asks_to_add fd (a ++ b) ≡ true
 asked_then fd a b h = asks_to_add-append fd a b ∙ or_right _ _ h
 
-pub adds_first : (fd : ℕ) (a b : Exchanges) → adds fd a ≡ true → adds fd (a ++ b) ≡ true
-adds_first fd a b h = adds-append fd a b ∙ or_left _ _ h
+pub has_addition_first : (fd : ℕ) (a b : Exchanges) → has_addition fd a ≡ true → has_addition fd (a ++ b) ≡ true
+has_addition_first fd a b h = has_addition-append fd a b ∙ or_left _ _ h
 
-pub adds_then : (fd : ℕ) (a b : Exchanges) → adds fd b ≡ true → adds fd (a ++ b) ≡ true
-adds_then fd a b h = adds-append fd a b ∙ or_right _ _ h
+pub has_addition_then : (fd : ℕ) (a b : Exchanges) → has_addition fd b ≡ true → has_addition fd (a ++ b) ≡ true
+has_addition_then fd a b h = has_addition-append fd a b ∙ or_right _ _ h

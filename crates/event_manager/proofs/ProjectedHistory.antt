@@ -5,9 +5,9 @@ use Rattle.std.proofs.lemmas.List.Elements.{All-nil, All-cons}
 use Rattle.std.specs.List.{flat_map}
 use Rattle.event_loop.specs.Prelude.{Event, Exchanges, Begins, Serves, Registry, Registrations, Owns, owner_of, class_in, IsDispatchOrder, is_id, id_of, Position, events_of, AreDispatched}
 use Rattle.event_manager.specs.History.{Turn, Made, Waited, IsTurn, IsHistory}
-use Rattle.event_manager.specs.Projection.{projected_registrations, next_for, projected_registry, asks_to_add, adds, seen, IsOnly, IsProjection, turn_exchanges, exchanges_in, NonInterference}
+use Rattle.event_manager.specs.Projection.{projected_registrations, next_for, projected_registry, asks_to_add, has_addition, seen, IsOnly, IsProjection, turn_exchanges, exchanges_in, NonInterference}
 use Rattle.vmm_sys.specs.declared.errno.Errno.{Errno}
-use Rattle.event_manager.proofs.ProjectedExchanges.{IsMine, same_at_mine, asked_first, asked_then, adds_first, adds_then}
+use Rattle.event_manager.proofs.ProjectedExchanges.{IsMine, same_at_mine, asked_first, asked_then, has_addition_first, has_addition_then}
 use Rattle.event_manager.proofs.ProjectedSteps.{projected_with, own_step, other_step}
 use Rattle.dispatch_tables.proofs.DispatchOrders.{by_class, ordered_by_class, one_order_of_mine}
 use Rattle.event_manager.proofs.ProjectedDispatch.{projected_dispatch, foreign_positions, weave, woven_projected, positions_exchanges}
@@ -30,7 +30,7 @@ module _ {V : Type 0} (begins : Begins V) (serves : Serves V) (i : ℕ) (mine : 
   IsClaimed exchanges = (fd : ℕ) → asks_to_add fd exchanges ≡ true → mine fd ≡ true
 
   abbrev Apart : (ℕ → Exchanges) → Type 0
-  Apart exchanges = (fd : ℕ) (j : ℕ) → j ≢ i → adds fd (exchanges j) ≡ true → mine fd ≡ false
+  Apart exchanges = (fd : ℕ) (j : ℕ) → j ≢ i → has_addition fd (exchanges j) ≡ true → mine fd ≡ false
 
   -- a turn that stays, as i sees it
   record Kept (before : Registry V) (turn : Turn V) (after : Registry V) : Type 0 where
@@ -92,8 +92,8 @@ module _ {V : Type 0} (begins : Begins V) (serves : Serves V) (i : ℕ) (mine : 
   history_projected before (turn ∷ history) after m claimed apart (mid, did, more) =
       let claimed1 : IsClaimed (turn_exchanges i turn) = λ fd t. claimed fd (asked_first fd (turn_exchanges i turn) (exchanges_in i history) t) in
       let claimed2 : IsClaimed (exchanges_in i history) = λ fd t. claimed fd (asked_then fd (turn_exchanges i turn) (exchanges_in i history) t) in
-      let apart1 : Apart (λ j. turn_exchanges j turn) = λ fd j differ t. apart fd j differ (adds_first fd (turn_exchanges j turn) (exchanges_in j history) t) in
-      let apart2 : Apart (λ j. exchanges_in j history) = λ fd j differ t. apart fd j differ (adds_then fd (turn_exchanges j turn) (exchanges_in j history) t) in
+      let apart1 : Apart (λ j. turn_exchanges j turn) = λ fd j differ t. apart fd j differ (has_addition_first fd (turn_exchanges j turn) (exchanges_in j history) t) in
+      let apart2 : Apart (λ j. exchanges_in j history) = λ fd j differ t. apart fd j differ (has_addition_then fd (turn_exchanges j turn) (exchanges_in j history) t) in
       elim (turn_projected before turn mid m claimed1 apart1 did) [
         | inl k ↦
             let rest = history_projected mid history after k.still claimed2 apart2 more in (

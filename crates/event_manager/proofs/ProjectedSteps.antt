@@ -4,7 +4,7 @@ use Rattle.std.specs.FinMap.{FinMap, get}
 use Rattle.std.proofs.lemmas.Bool.Decides.{nat_tests, eqb_tells}
 use Rattle.event_loop.specs.Prelude.{Event, OwnerMap, owner_of, Registrations, PollerCall, Exchanges, ExchangesFit, Begins, Registry, LoopStep, Joined, NotJoined, Left, Replaced, Requested, Refused, Steps, is_id, id_of, without_owner, ids_end}
 use Rattle.event_manager.specs.History.{Made}
-use Rattle.event_manager.specs.Projection.{only_values, projected_registrations, next_for, projected_registry, turn_exchanges, asks_to_add, adds}
+use Rattle.event_manager.specs.Projection.{only_values, projected_registrations, next_for, projected_registry, turn_exchanges, asks_to_add, has_addition}
 use Rattle.event_loop.proofs.WithoutOwner.{owner_of-without_owner}
 use Rattle.event_manager.proofs.FiniteMaps.{get_only, owned_by-without_owner, only_values-insert, only_values-remove, only_values-same}
 use Rattle.event_manager.specs.Guarantees.{IsUntouched}
@@ -160,14 +160,14 @@ module _ {V : Type 0} (begins : Begins V) where
     still = subst (λ (r : Registry V). IsMine i mine r.registrations.owners) (sym e) m;
   }
 
-  made : (j : ℕ) (exchanges : Exchanges) (fd : ℕ) → adds fd exchanges ≡ true → adds fd (if j == j then exchanges else []) ≡ true
-  made j exchanges fd t = ap (λ b. adds fd (if b then exchanges else [])) (eq-eqb j j refl) ∙ t
+  made : (j : ℕ) (exchanges : Exchanges) (fd : ℕ) → has_addition fd exchanges ≡ true → has_addition fd (if j == j then exchanges else []) ≡ true
+  made j exchanges fd t = ap (λ b. has_addition fd (if b then exchanges else [])) (eq-eqb j j refl) ∙ t
 
   pub other_step : (i : ℕ) (mine : ℕ → Bool) (before : Registry V) (step : LoopStep V) (after : Registry V) → is_id i (id_of step) ≡ false → IsMine i mine before.registrations.owners
-      → ((fd : ℕ) (j : ℕ) → j ≢ i → adds fd (turn_exchanges j (Made step)) ≡ true → mine fd ≡ false) → Steps begins before step after → OtherStep i mine before after
+      → ((fd : ℕ) (j : ℕ) → j ≢ i → has_addition fd (turn_exchanges j (Made step)) ≡ true → mine fd ≡ false) → Steps begins before step after → OtherStep i mine before after
   other_step i mine before step after named m foreign h = by_step step (isolated_step begins before step after h i named) named foreign h
     where
-      by_step : (step : LoopStep V) → IsUntouched i before after → is_id i (id_of step) ≡ false → ((fd : ℕ) (j : ℕ) → j ≢ i → adds fd (turn_exchanges j (Made step)) ≡ true → mine fd ≡ false) → Steps begins before step after → OtherStep i mine before after
+      by_step : (step : LoopStep V) → IsUntouched i before after → is_id i (id_of step) ≡ false → ((fd : ℕ) (j : ℕ) → j ≢ i → has_addition fd (turn_exchanges j (Made step)) ≡ true → mine fd ≡ false) → Steps begins before step after → OtherStep i mine before after
       by_step (Joined value id exchanges calls held) u named foreign (registrations, capacity, is, fits, beg, e) =
           let differ : id ≢ i = λ s. true≢false (sym (eq-eqb id i s) ∙ named) in
           let t = other_exchanges i id mine before.registrations exchanges calls registrations differ m (λ fd a. foreign fd id differ (made id exchanges fd a)) fits in

@@ -4,7 +4,7 @@ use Rattle.std.specs.FinMap.{FinMap, get, insert, remove, get-insert, get-remove
 use Rattle.std.specs.Cmp.{nat_cmp_total, nat_cmp_is}
 use Rattle.std.specs.Ordering.{eq_by_cmp}
 use Rattle.std.proofs.lemmas.Bool.Decides.{eqb_tells}
-use Rattle.event_loop.specs.Prelude.{Event, Registrations, Owns, IsFree, PollerCall, Answer, Exchanges, Fits, by_manager, by_poller, by_agreement, ExchangesFit, ReachesPoller, registrations_after, Begins, Serves, Registry, LoopStep, Joined, NotJoined, Left, Replaced, Requested, Refused, Steps, is_id, without_owner, HasId, LacksId, AreBelow, May, Delivery, Nobody, To, Position, with_pending, IsDelivery, AreDispatched, is_removed, still_pending, events_of, ManagerState, Ownership, OwnerMap, owner_of}
+use Rattle.event_loop.specs.Prelude.{Event, Registrations, Owns, IsFree, PollerCall, Answer, Exchanges, Fits, by_manager, by_poller, by_agreement, ExchangesFit, ReachesPoller, registrations_after, Begins, Serves, Registry, LoopStep, Joined, NotJoined, Left, Replaced, Requested, Refused, Steps, is_id, without_owner, HasId, LacksId, AreBelow, May, Delivery, Nobody, To, Position, with_pending, IsDelivery, AreDispatched, is_removed, still_pending, events_of, LoopContents, Ownership, OwnerMap, owner_of}
 use Rattle.event_loop.specs.declared.events.Request.{Request}
 use Rattle.event_loop.specs.declared.events.Request.TheVariants.{Add, AddWithPriority, Modify, Remove}
 use Rattle.event_manager.specs.Trace.{TraceEntry, IsTrace, new_state}
@@ -295,7 +295,7 @@ module _ {V : Type 0} (begins : Begins V) (serves : Serves V) where
   history_follows before (Made step ∷ history) after (mid, did, more) = follows_cons before step mid history after did (history_follows mid history after more)
   history_follows before (Waited ms waited positions ∷ history) after (mid, did, more) = follows_wait before ms waited positions mid history after did (history_follows mid history after more)
 
-pub trace_follows : {V J R : Type 0} (begins : Begins V) (serves : Serves V) (may : May V J R) (before : ManagerState V) (trace : List (TraceEntry V J R)) (after : ManagerState V) → IsTrace begins serves may before trace after → Follows begins serves before.registry (history_of trace) after.registry
+pub trace_follows : {V J R : Type 0} (begins : Begins V) (serves : Serves V) (may : May V J R) (before : LoopContents V) (trace : List (TraceEntry V J R)) (after : LoopContents V) → IsTrace begins serves may before trace after → Follows begins serves before.registry (history_of trace) after.registry
 trace_follows begins serves may before trace after h = history_follows begins serves before.registry (history_of trace) after.registry (trace_is_history begins serves may before trace after h)
 
 -- a new manager

@@ -3,7 +3,7 @@ use Rattle.std.proofs.Common.{◌≡◌, ℕ, ℤ, List, [], ◌∷◌, ◌++◌
 use Rattle.std.proofs.lemmas.List.{append-nil, map-append}
 use Rattle.std.proofs.lemmas.List.Concat.{flat_map-append}
 use Rattle.std.specs.declared.alloc.Global.{Global}
-use Rattle.event_loop.specs.Prelude.{Controls, Waits, Leads, Answer, Begins, Serves, LoopStep, AreBelow, May, ManagerState, LoopState, HasStepped, IsJoin, IsLeave, IsLoopIteration, manager_state}
+use Rattle.event_loop.specs.Prelude.{Controls, Waits, Leads, Answer, Begins, Serves, LoopStep, AreBelow, May, LoopContents, LoopState, HasStepped, IsJoin, IsLeave, IsLoopIteration, contents_of}
 use Rattle.event_loop.specs.declared.error.Error.{Error}
 use Rattle.event_loop.specs.declared.events.Request.{Request}
 use Rattle.event_manager.specs.Trace.{Effect, Stepped, Iterated, TraceEntry, Matches, IsTrace, calls_of_effect, calls_of_trace}
@@ -56,7 +56,7 @@ module _ {S J R P : Type 0} (begins : Begins S) (serves : Serves S) (may : May S
     pub trace : List (TraceEntry S J R)
     pub calls_are : map (λ entry. entry.call) trace ++ left ≡ calls
     pub replies_are : replies ≡ old ++ map (λ entry. entry.reply) trace
-    pub is_trace : IsTrace begins serves may (manager_state before) trace (manager_state now)
+    pub is_trace : IsTrace begins serves may (contents_of before) trace (contents_of now)
     pub led : Leads controls waits before.poller (calls_of_trace before.capacity trace) now.poller
     pub same_capacity : now.capacity ≡ before.capacity
 
@@ -72,12 +72,12 @@ module _ {S J R P : Type 0} (begins : Begins S) (serves : Serves S) (may : May S
         trace = so_far.trace ++ entry ∷ [];
         calls_are = ap (λ cs. cs ++ left) (map-append (λ (e : TraceEntry S J R). e.call) so_far.trace (entry ∷ [])) ∙ append_assoc (map (λ e. e.call) so_far.trace) (c ∷ []) left ∙ so_far.calls_are;
         replies_are = ap (λ rs. rs ++ r ∷ []) so_far.replies_are ∙ append_assoc old (map (λ e. e.reply) so_far.trace) (r ∷ []) ∙ ap (λ rs. old ++ rs) (sym (map-append (λ (e : TraceEntry S J R). e.reply) so_far.trace (entry ∷ [])));
-        is_trace = traces_join begins serves may (manager_state before) (manager_state now) (manager_state next) so_far.trace (entry ∷ []) so_far.is_trace (manager_state next, matches, did.had, refl);
+        is_trace = traces_join begins serves may (contents_of before) (contents_of now) (contents_of next) so_far.trace (entry ∷ []) so_far.is_trace (contents_of next, matches, did.had, refl);
         led = subst (λ xs. Leads controls waits before.poller xs next.poller) (sym (calls_more before.capacity so_far.trace entry)) (leads_join controls waits before.poller now.poller next.poller (calls_of_trace before.capacity so_far.trace) (calls_of_effect before.capacity effect) so_far.led led);
         same_capacity = did.same_capacity ∙ so_far.same_capacity;
       }
 
-  guaranteed : (before : ManagerState S) (trace : List (TraceEntry S J R)) (after : ManagerState S) → AreBelow before.registry.next before.registry.values → IsTrace begins serves may before trace after → IsGuaranteed begins serves may before trace after
+  guaranteed : (before : LoopContents S) (trace : List (TraceEntry S J R)) (after : LoopContents S) → AreBelow before.registry.next before.registry.values → IsTrace begins serves may before trace after → IsGuaranteed begins serves may before trace after
   guaranteed before trace after below is =
       let follows = trace_follows begins serves may before trace after is in
       record {
@@ -94,7 +94,7 @@ module _ {S J R P : Type 0} (begins : Begins S) (serves : Serves S) (may : May S
   -- a trace is driven
   pub driven_by : (before : LoopState S P) (trace : List (TraceEntry S J R)) (after : LoopState S P) → AreBelow before.registry.next before.registry.values → IsTraceOf begins serves may controls waits before (map (λ e. e.call) trace) (map (λ e. e.reply) trace) after trace
       → IsDriven begins serves may controls waits before (map (λ e. e.call) trace) (map (λ e. e.reply) trace) after
-  driven_by before trace after below of = record { trace = trace; is_trace_of = of; guaranteed = guaranteed (manager_state before) trace (manager_state after) below of.is_trace }
+  driven_by before trace after below of = record { trace = trace; is_trace_of = of; guaranteed = guaranteed (contents_of before) trace (contents_of after) below of.is_trace }
 
   pub all_traced : (before after : LoopState S P) (calls : List (Call S)) (old replies : List (Reply S)) → AreBelow before.registry.next before.registry.values → IsTracedSoFar before after calls [] old replies
       → (new : List (Reply S)) × (replies ≡ old ++ new) × IsDriven begins serves may controls waits before calls new after
@@ -116,7 +116,7 @@ module _ {S J R P : Type 0} (begins : Begins S) (serves : Serves S) (may : May S
       let one = first.is_trace_of in
       let two = second.is_trace_of in
       let led = subst (λ k. Leads controls waits between.poller (calls_of_trace k second.trace) after.poller) one.same_capacity two.led in
-      let is_trace = traces_join begins serves may (manager_state before) (manager_state between) (manager_state after) first.trace second.trace one.is_trace two.is_trace in
+      let is_trace = traces_join begins serves may (contents_of before) (contents_of between) (contents_of after) first.trace second.trace one.is_trace two.is_trace in
       record {
         trace = first.trace ++ second.trace;
         is_trace_of = record {
@@ -126,5 +126,5 @@ module _ {S J R P : Type 0} (begins : Begins S) (serves : Serves S) (may : May S
           led = subst (λ xs. Leads controls waits before.poller xs after.poller) (sym (flat_map-append (λ (e : TraceEntry S J R). calls_of_effect before.capacity e.effect) first.trace second.trace)) (leads_join controls waits before.poller between.poller after.poller (calls_of_trace before.capacity first.trace) (calls_of_trace before.capacity second.trace) one.led led);
           same_capacity = two.same_capacity ∙ one.same_capacity;
         };
-        guaranteed = guaranteed (manager_state before) (first.trace ++ second.trace) (manager_state after) first.guaranteed.below.0 is_trace;
+        guaranteed = guaranteed (contents_of before) (first.trace ++ second.trace) (contents_of after) first.guaranteed.below.0 is_trace;
       }

@@ -1,7 +1,7 @@
 -- What was removed is unknown: by the replies of a trace.
 use Rattle.std.proofs.Common.{◌≡◌, ℕ, List, [], ◌∷◌, ◌++◌, refl, sym, subst, ◌∙◌, map, Ok, Err}
 use Rattle.std.specs.List.{AllZip}
-use Rattle.event_loop.specs.Prelude.{Begins, Serves, Joined, NotJoined, Left, Replaced, Requested, Refused, May, ManagerState}
+use Rattle.event_loop.specs.Prelude.{Begins, Serves, Joined, NotJoined, Left, Replaced, Requested, Refused, May, LoopContents}
 use Rattle.event_manager.specs.Trace.{Effect, Stepped, Iterated, TraceEntry, Matches, IsTrace}
 use Rattle.event_manager.specs.Guarantees.{AreRefusedTo, RemovedStayGone, IsUnknown, RemovedStayUnknown}
 use Rattle.event_manager.specs.History.{Turn, Made, Waited, turns_of, history_of}
@@ -48,13 +48,13 @@ module _ {V J R : Type 0} where
   refused_behind (Iterated iteration) more id value m h = let s : ◌≡◌ {A = Call V} (call.Remove id) (call.Run iteration.ms) = m.0 in cc
 
 module _ {V J R : Type 0} (begins : Begins V) (serves : Serves V) (may : May V J R) where
-  unknown_in : (i : ℕ) (before : ManagerState V) (trace : List (TraceEntry V J R)) (after : ManagerState V) → IsTrace begins serves may before trace after → AreRefusedTo i (history_of trace) → AllZip (IsUnknown i) (map (λ e. e.call) trace) (map (λ e. e.reply) trace)
+  unknown_in : (i : ℕ) (before : LoopContents V) (trace : List (TraceEntry V J R)) (after : LoopContents V) → IsTrace begins serves may before trace after → AreRefusedTo i (history_of trace) → AllZip (IsUnknown i) (map (λ e. e.call) trace) (map (λ e. e.reply) trace)
   unknown_in i before [] after is h = tt
   unknown_in i before (entry ∷ trace) after (mid, matches, had, more) h =
       let k = refused_apart i (turns_of entry.effect) (history_of trace) h in
       (unknown_at i entry.effect entry.call entry.reply matches k.0, unknown_in i mid trace after more k.1)
 
-  pub removed_unknown : (before : ManagerState V) (trace : List (TraceEntry V J R)) (after : ManagerState V) → IsTrace begins serves may before trace after → RemovedStayGone (history_of trace) → RemovedStayUnknown (map (λ e. e.call) trace) (map (λ e. e.reply) trace)
+  pub removed_unknown : (before : LoopContents V) (trace : List (TraceEntry V J R)) (after : LoopContents V) → IsTrace begins serves may before trace after → RemovedStayGone (history_of trace) → RemovedStayUnknown (map (λ e. e.call) trace) (map (λ e. e.reply) trace)
   removed_unknown before [] after is h = refl
   removed_unknown before (entry ∷ trace) after (mid, matches, had, more) h = (
     λ id value asked answered. unknown_in id mid trace after more (refused_behind entry.effect (history_of trace) id value (rw (asked, answered) at matches) h),

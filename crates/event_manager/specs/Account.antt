@@ -8,9 +8,9 @@ use Rattle.event_manager.specs.declared.jobs.account.Step.TheVariants.{Send, Tak
 use Rattle.event_manager.specs.JobQueue.{QueueState, IsSend, after_take, after_close, most, tickets_and_jobs}
 
 -- after n accepted jobs, where the bell answers so
-abbrev pub rung : ℕ → Result (Unit {0}) Errno → Result ℕ Error
-rung n (Ok u) = Ok (n + 1)
-rung n (Err errno) = Err (EventFd errno)
+abbrev pub answer_of_bell : ℕ → Result (Unit {0}) Errno → Result ℕ Error
+answer_of_bell n (Ok u) = Ok (n + 1)
+answer_of_bell n (Err errno) = Err (EventFd errno)
 
 module _ {J : Type 0} where
   abbrev pub has_close : List (Step J) → Bool
@@ -33,12 +33,12 @@ module _ {J : Type 0} where
   open_part (Close ∷ steps) = []
 
   -- the jobs of the sends whose bell answers Ok
-  abbrev pub offered : List (Step J) → List J
-  offered [] = []
-  offered (Send job (Ok u) ∷ steps) = job ∷ offered steps
-  offered (Send job (Err errno) ∷ steps) = offered steps
-  offered (Take ∷ steps) = offered steps
-  offered (Close ∷ steps) = offered steps
+  abbrev pub jobs_offered : List (Step J) → List J
+  jobs_offered [] = []
+  jobs_offered (Send job (Ok u) ∷ steps) = job ∷ jobs_offered steps
+  jobs_offered (Send job (Err errno) ∷ steps) = jobs_offered steps
+  jobs_offered (Take ∷ steps) = jobs_offered steps
+  jobs_offered (Close ∷ steps) = jobs_offered steps
 
   -- all before the last take, and nothing where there is none
   abbrev pub before_last_take : List (Step J) → List (Step J)
@@ -46,20 +46,20 @@ module _ {J : Type 0} where
   before_last_take (step ∷ steps) = cond (has_take steps) (step ∷ before_last_take steps) []
 
   -- the n-th has ticket n
-  abbrev pub numbered : ℕ → List J → List (ℕ × J)
-  numbered n [] = []
-  numbered n (job ∷ jobs) = (n + 1, job) ∷ numbered (n + 1) jobs
+  abbrev pub with_tickets : ℕ → List J → List (ℕ × J)
+  with_tickets n [] = []
+  with_tickets n (job ∷ jobs) = (n + 1, job) ∷ with_tickets (n + 1) jobs
 
-  abbrev pub accepted : List (Step J) → List J
-  accepted steps = take most (offered (open_part steps))
+  abbrev pub jobs_accepted : List (Step J) → List J
+  jobs_accepted steps = take most (jobs_offered (open_part steps))
 
   -- what the takes hand out, put together
-  abbrev pub handed_out : List (Step J) → List (ℕ × J)
-  handed_out steps = numbered 0 (take most (offered (before_last_take (open_part steps))))
+  abbrev pub jobs_handed_out : List (Step J) → List (ℕ × J)
+  jobs_handed_out steps = with_tickets 0 (take most (jobs_offered (before_last_take (open_part steps))))
 
   -- what a send answers after these steps, where its bell answers so
   abbrev pub answer : List (Step J) → Result (Unit {0}) Errno → Result ℕ Error
-  answer before bell = cond (has_close before) (Err ChannelSend) (cond (ltb (length (accepted before)) most) (rung (length (accepted before)) bell) (Err TicketsUsedUp))
+  answer before bell = cond (has_close before) (Err ChannelSend) (cond (ltb (length (jobs_accepted before)) most) (answer_of_bell (length (jobs_accepted before)) bell) (Err TicketsUsedUp))
 
   -- what the sends of the second list answer after the steps of the first
   abbrev pub answers_after : List (Step J) → List (Step J) → List (Result ℕ Error)
@@ -75,7 +75,7 @@ module _ {J : Type 0} where
   abbrev pub IsReplayed : Step J → QueueState J (Unit {0}) → List (Result ℕ Error) → List (ℕ × J)
       → QueueState J (Unit {0}) → List (Result ℕ Error) → List (ℕ × J) → Type 0
   IsReplayed (Send job bell) queue answers handed queue_after answers_now handed_now =
-      (answer : Result ℕ Error) × IsSend (λ (rung : Result (Unit {0}) Errno). rung ≡ bell) queue job None answer queue_after × (answer ≡ Err OutOfMemory → ⊥)
+      (answer : Result ℕ Error) × IsSend (λ (answered : Result (Unit {0}) Errno). answered ≡ bell) queue job None answer queue_after × (answer ≡ Err OutOfMemory → ⊥)
       × (answers_now ≡ answers ++ (answer ∷ [])) × (handed_now ≡ handed)
   IsReplayed Take queue answers handed queue_after answers_now handed_now =
       (queue_after ≡ after_take queue) × (answers_now ≡ answers) × (handed_now ≡ handed ++ tickets_and_jobs queue.waiting)

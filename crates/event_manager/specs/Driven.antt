@@ -1,6 +1,6 @@
 -- What `drive` promises: the calls with their replies are a trace, and the guarantees hold of that trace.
 use Rattle.std.specs.Prelude.{◌≡◌, ℕ, Bool, false, List, map}
-use Rattle.event_loop.specs.Prelude.{Event, PollerCall, Controls, Waits, Leads, Begins, Serves, Registry, LoopStep, Steps, AreBelow, Left, is_id, id_of, May, Delivery, IsDelivery, ManagerState, LoopState, manager_state}
+use Rattle.event_loop.specs.Prelude.{Event, PollerCall, Controls, Waits, Leads, Begins, Serves, Registry, LoopStep, Steps, AreBelow, Left, is_id, id_of, May, Delivery, IsDelivery, LoopContents, LoopState, contents_of}
 use Rattle.event_manager.specs.Trace.{TraceEntry, IsTrace, calls_of_trace}
 use Rattle.event_manager.specs.History.{history_of}
 use Rattle.event_manager.specs.Projection.{NonInterference, receiver_of}
@@ -15,7 +15,7 @@ module _ {S J R : Type 0} (begins : Begins S) (serves : Serves S) (may : May S J
         (after : LoopState S P) (trace : List (TraceEntry S J R)) : Type 0 where
       pub calls_are : map (λ entry. entry.call) trace ≡ calls
       pub replies_are : map (λ entry. entry.reply) trace ≡ replies
-      pub is_trace : IsTrace begins serves may (manager_state before) trace (manager_state after)
+      pub is_trace : IsTrace begins serves may (contents_of before) trace (contents_of after)
       pub led : Leads controls waits before.poller (calls_of_trace before.capacity trace) after.poller
       pub same_capacity : after.capacity ≡ before.capacity
 
@@ -23,7 +23,7 @@ module _ {S J R : Type 0} (begins : Begins S) (serves : Serves S) (may : May S J
   -- next, before and after; what was removed is refused from then on; each owner is held, and the endpoint is never owned; a
   -- projection to an id that is apart is itself a history, up to the id's own part of the registry after. Of any step, and of any
   -- event's delivery: the other ids keep their value, descriptors and pending events; any leave frees exactly its descriptors.
-  pub record IsGuaranteed (before : ManagerState S) (trace : List (TraceEntry S J R)) (after : ManagerState S) : Type 0 where
+  pub record IsGuaranteed (before : LoopContents S) (trace : List (TraceEntry S J R)) (after : LoopContents S) : Type 0 where
     pub given : AreGiven before.registry.next (history_of trace) after.registry.next
     pub below : AreBelow before.registry.next before.registry.values × AreBelow after.registry.next after.registry.values
     pub removed : RemovedStayGone (history_of trace)
@@ -40,4 +40,4 @@ module _ {S J R : Type 0} (begins : Begins S) (serves : Serves S) (may : May S J
       (calls : List (Call S)) (replies : List (Reply S)) (after : LoopState S P) : Type 0 where
     pub trace : List (TraceEntry S J R)
     pub is_trace_of : IsTraceOf controls waits before calls replies after trace
-    pub guaranteed : IsGuaranteed (manager_state before) trace (manager_state after)
+    pub guaranteed : IsGuaranteed (contents_of before) trace (contents_of after)

@@ -3,7 +3,7 @@ use Rattle.std.specs.Prelude.{◌≡◌, ◌≢◌, ℕ, ◌+◌, nat_lt, ◌==�
 use Rattle.std.specs.List.{list_any, flat_map}
 use Rattle.std.specs.FinMap as finite
 use Rattle.std.specs.Ordering.{nat_cmp}
-use Rattle.event_loop.specs.Prelude.{Event, OwnerMap, owner_of, Registrations, Owns, Exchanges, event_of, added, Begins, Serves, Registry, Joined, Requested, is_id, id_of, Delivery, Nobody, To, exchanges_of}
+use Rattle.event_loop.specs.Prelude.{Event, OwnerMap, owner_of, Registrations, Owns, Exchanges, event_of, priority_asked, Begins, Serves, Registry, Joined, Requested, is_id, id_of, Delivery, Nobody, To, exchanges_of}
 use Rattle.event_loop.specs.declared.events.Request.{Request}
 use Rattle.event_manager.specs.History.{Turn, Made, Waited, IsHistory}
 
@@ -57,20 +57,20 @@ exchanges_in i history = flat_map (turn_exchanges i) history
 
 -- whether an Add of the descriptor is asked; whether one is agreed
 abbrev pub is_add : ℕ → Request → Bool
-is_add fd request = is_some (added request) && ((event_of request).fd == fd)
+is_add fd request = is_some (priority_asked request) && ((event_of request).fd == fd)
 
 abbrev pub asks_to_add : ℕ → Exchanges → Bool
 asks_to_add fd exchanges = list_any (λ exchange. is_add fd exchange.0) exchanges
 
-abbrev pub adds : ℕ → Exchanges → Bool
-adds fd exchanges = list_any (λ exchange. if is_ok exchange.1 then is_add fd exchange.0 else false) exchanges
+abbrev pub has_addition : ℕ → Exchanges → Bool
+has_addition fd exchanges = list_any (λ exchange. if is_ok exchange.1 then is_add fd exchange.0 else false) exchanges
 
 -- No other id owns at the start, or has in the history an agreed Add of, a descriptor
 -- that i asks to add in the history or owns at the start.
 abbrev pub IsApart : {V : Type 0} → ℕ → Registry V → List (Turn V) → Type 0
 IsApart i before history =
     (fd : ℕ) (j : ℕ) → j ≢ i → Owns i before.registrations fd ⊎ IsTrue (asks_to_add fd (exchanges_in i history))
-    → ¬ Owns j before.registrations fd × (adds fd (exchanges_in j history) ≡ false)
+    → ¬ Owns j before.registrations fd × (has_addition fd (exchanges_in j history) ≡ false)
 
 -- id i is as if the others were not there: a projection of the history to it is itself a history
 abbrev pub IsAsIfAlone : {V : Type 0} → Begins V → Serves V → ℕ → Registry V → List (Turn V) → Registry V → Type 0

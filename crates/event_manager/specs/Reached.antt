@@ -5,7 +5,7 @@ use Rattle.std.specs.FinMap as map
 use Rattle.std.specs.Coded.{Coded, code_by, coded×, coded_ℕ, coded_list}
 use Rattle.dispatch_tables.specs.Event.{Event, event_code}
 use Rattle.dispatch_tables.specs.Ownership.{OwnerMap, owner_map_code}
-use Rattle.event_loop.specs.Prelude.{Begins, Serves, Replaced, May, ManagerState, LoopState}
+use Rattle.event_loop.specs.Prelude.{Begins, Serves, Replaced, May, LoopContents, LoopState}
 use Rattle.event_manager.specs.Trace.{Effect, Stepped, TraceEntry, IsTrace, new_state}
 
 -- a call that puts another value in a subscriber's place does what a job may do
@@ -15,7 +15,7 @@ IsLikeJobs may effect = Unit {0}
 
 module _ {V J R : Type 0} (begins : Begins V) (serves : Serves V) (may : May V J R) where
   -- a trace leads to it from a new manager, and what its calls do to subscribers jobs may do too
-  pub record IsReached (state : ManagerState V) : Type 0 where
+  pub record IsReached (state : LoopContents V) : Type 0 where
     pub endpoint : ℕ
     pub trace : List (TraceEntry V J R)
     pub is_trace : IsTrace begins serves may (new_state endpoint) trace state
@@ -23,7 +23,7 @@ module _ {V J R : Type 0} (begins : Begins V) (serves : Serves V) (may : May V J
 
   -- these are the subscribers, and so many jobs were taken, of a manager that was reached so
   pub record HasEnded (subscribers : map.FinMap nat_cmp V) (taken : ℕ) : Type 0 where
-    pub state : ManagerState V
+    pub state : LoopContents V
     pub reached : IsReached state
     pub has : state.registry.values ≡ subscribers
     pub took : state.taken ≡ taken

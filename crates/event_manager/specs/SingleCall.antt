@@ -1,7 +1,7 @@
 -- What one call of a list did.
 use Rattle.std.specs.Prelude.{◌≡◌, ℕ, List, vec_len, Vec, Result, Ok, Err}
 use Rattle.std.specs.declared.alloc.Global.{Global}
-use Rattle.event_loop.specs.Prelude.{PollerCall, Controls, Waits, Leads, Exchanges, Answer, requests_of, answers_of, Begins, Serves, LoopStep, Requested, Replaced, Refused, May, LoopState, manager_state}
+use Rattle.event_loop.specs.Prelude.{PollerCall, Controls, Waits, Leads, Exchanges, Answer, requests_of, answers_of, Begins, Serves, LoopStep, Requested, Replaced, Refused, May, LoopState, contents_of}
 use Rattle.event_loop.specs.declared.error.Error.{Error}
 use Rattle.event_loop.specs.declared.events.Request.{Request}
 use Rattle.event_manager.specs.Trace.{Effect, HasEffect, calls_of_effect}
@@ -31,6 +31,6 @@ IsReplacement id value (Err error) step = (error ≡ InvalidId) × (step ≡ Ref
 -- a call had this effect
 pub record HasCalled {S J R P : Type 0} (begins : Begins S) (serves : Serves S) (may : May S J R) (controls : Controls P) (waits : Waits P)
     (before : LoopState S P) (effect : Effect S J R) (after : LoopState S P) : Type 0 where
-  pub had : HasEffect begins serves may (manager_state before) effect (manager_state after)
+  pub had : HasEffect begins serves may (contents_of before) effect (contents_of after)
   pub led : Leads controls waits before.poller (calls_of_effect before.capacity effect) after.poller
   pub same_capacity : after.capacity ≡ before.capacity

@@ -2,7 +2,7 @@
 use Rattle.std.specs.Prelude.{◌≡◌, ℕ, List, [], ◌∷◌, Ok, Err, Vec}
 use Rattle.std.specs.List.{flat_map}
 use Rattle.std.specs.declared.alloc.Global.{Global}
-use Rattle.event_loop.specs.Prelude.{PollerCall, Answer, requests_of, answers_of, Begins, Serves, LoopStep, Steps, Joined, NotJoined, Left, Replaced, Requested, Refused, calls_of, new_registry, May, ManagerState, Iteration, IsIteration, run_answer, calls_of_iteration}
+use Rattle.event_loop.specs.Prelude.{PollerCall, Answer, requests_of, answers_of, Begins, Serves, LoopStep, Steps, Joined, NotJoined, Left, Replaced, Requested, Refused, calls_of, new_registry, May, LoopContents, Iteration, IsIteration, run_answer, calls_of_iteration}
 use Rattle.event_loop.specs.declared.events.Request.{Request}
 use Rattle.event_loop.specs.declared.error.Error.TheVariants.{InvalidId}
 use Rattle.event_manager.specs.declared.calls.Call.{Call}
@@ -37,14 +37,14 @@ Matches (Stepped (Refused id)) c r = ⊥
 Matches (Iterated iteration) c r = (c ≡ call.Run iteration.ms) × (r ≡ reply.Ran (run_answer iteration.waited))
 
 module _ {V J R : Type 0} (begins : Begins V) (serves : Serves V) (may : May V J R) where
-  abbrev pub HasEffect : ManagerState V → Effect V J R → ManagerState V → Type 0
+  abbrev pub HasEffect : LoopContents V → Effect V J R → LoopContents V → Type 0
   HasEffect before (Stepped step) after = Steps begins before.registry step after.registry × (after.taken ≡ before.taken)
   HasEffect before (Iterated iteration) after = IsIteration begins serves may before iteration.waited iteration.positions iteration.jobs after
 
   -- each call from the state that the one before it left
-  abbrev pub IsTrace : ManagerState V → List (TraceEntry V J R) → ManagerState V → Type 0
+  abbrev pub IsTrace : LoopContents V → List (TraceEntry V J R) → LoopContents V → Type 0
   IsTrace before [] after = after ≡ before
-  IsTrace before (entry ∷ trace) after = (mid : ManagerState V) × Matches entry.effect entry.call entry.reply × HasEffect before entry.effect mid × IsTrace mid trace after
+  IsTrace before (entry ∷ trace) after = (mid : LoopContents V) × Matches entry.effect entry.call entry.reply × HasEffect before entry.effect mid × IsTrace mid trace after
 
 -- the poller calls of a trace, in order
 abbrev pub calls_of_effect : {V J R : Type 0} → ℕ → Effect V J R → List PollerCall
@@ -55,5 +55,5 @@ abbrev pub calls_of_trace : {V J R : Type 0} → ℕ → List (TraceEntry V J R)
 calls_of_trace capacity trace = flat_map (λ entry. calls_of_effect capacity entry.effect) trace
 
 -- a new manager, by its endpoint's descriptor
-abbrev pub new_state : {V : Type 0} → ℕ → ManagerState V
+abbrev pub new_state : {V : Type 0} → ℕ → LoopContents V
 new_state endpoint = record { registry = new_registry endpoint; taken = 0 }

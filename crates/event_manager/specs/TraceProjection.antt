@@ -1,15 +1,15 @@
 -- The projection of a trace in which no job ran: what its history leaves out, calls and replies, stays.
 use Rattle.std.specs.Prelude.{◌≡◌, ◌≢◌, ℕ, nat_lt, Bool, true, false, List, map, filter, All, Some, IfSome, IsTrue, ◌⊎◌, if◌then◌else◌}
 use Rattle.std.specs.List.{flat_map}
-use Rattle.event_loop.specs.Prelude.{Owns, Exchanges, Begins, Serves, May, ManagerState, is_id, id_of}
+use Rattle.event_loop.specs.Prelude.{Owns, Exchanges, Begins, Serves, May, LoopContents, is_id, id_of}
 use Rattle.event_manager.specs.Trace.{Effect, Stepped, Iterated, TraceEntry, IsTrace}
 use Rattle.event_manager.specs.History.{Made, Waited}
-use Rattle.event_manager.specs.Projection.{projected_registry, receiver_of, turn_exchanges, asks_to_add, adds}
+use Rattle.event_manager.specs.Projection.{projected_registry, receiver_of, turn_exchanges, asks_to_add, has_addition}
 
 -- whether the effect is i's: a step that names i, or the join that gave it; each iteration
-abbrev pub stays : {V J R : Type 0} → ℕ → Effect V J R → Bool
-stays i (Stepped step) = is_id i (id_of step)
-stays i (Iterated iteration) = true
+abbrev pub is_seen : {V J R : Type 0} → ℕ → Effect V J R → Bool
+is_seen i (Stepped step) = is_id i (id_of step)
+is_seen i (Iterated iteration) = true
 
 -- what i sees of an effect: of an iteration the positions that it got; of a trace: the effects that are its own, with their calls and replies
 abbrev pub projected_effect : {V J R : Type 0} → ℕ → Effect V J R → Effect V J R
@@ -17,7 +17,7 @@ projected_effect i (Stepped step) = Stepped step
 projected_effect i (Iterated iteration) = Iterated (record iteration { positions = filter (λ position. is_id i (receiver_of position.delivery)) iteration.positions })
 
 abbrev pub entries_seen : {V J R : Type 0} → ℕ → List (TraceEntry V J R) → List (TraceEntry V J R)
-entries_seen {V} {J} {R} i trace = map (λ (entry : TraceEntry V J R). record entry { effect = projected_effect i entry.effect }) (filter (λ entry. stays i entry.effect) trace)
+entries_seen {V} {J} {R} i trace = map (λ (entry : TraceEntry V J R). record entry { effect = projected_effect i entry.effect }) (filter (λ entry. is_seen i entry.effect) trace)
 
 -- nobody but i has part in the effect
 abbrev pub IsOnlyEffect : {V J R : Type 0} → ℕ → Effect V J R → Type 0
@@ -37,18 +37,18 @@ abbrev pub trace_exchanges : {V J R : Type 0} → ℕ → List (TraceEntry V J R
 trace_exchanges i trace = flat_map (λ entry. effect_exchanges i entry.effect) trace
 
 -- as `IsApart` of a history
-abbrev pub IsApartInTrace : {V J R : Type 0} → ℕ → ManagerState V → List (TraceEntry V J R) → Type 0
+abbrev pub IsApartInTrace : {V J R : Type 0} → ℕ → LoopContents V → List (TraceEntry V J R) → Type 0
 IsApartInTrace i before trace =
     (fd : ℕ) (j : ℕ) → j ≢ i → Owns i before.registry.registrations fd ⊎ IsTrue (asks_to_add fd (trace_exchanges i trace))
-    → ¬ Owns j before.registry.registrations fd × (adds fd (trace_exchanges j trace) ≡ false)
+    → ¬ Owns j before.registry.registrations fd × (has_addition fd (trace_exchanges j trace) ≡ false)
 
 -- the manager without the values and descriptors of other ids, and with this next id
-abbrev pub projected_state : {V : Type 0} → ℕ → ℕ → ManagerState V → ManagerState V
+abbrev pub projected_state : {V : Type 0} → ℕ → ℕ → LoopContents V → LoopContents V
 projected_state i next state = record { registry = record (projected_registry i state.registry) { next = next }; taken = state.taken }
 
 -- Of a trace in which no job ran, a projection to each i that is apart is itself a trace. Its next id is that of the trace where i
 -- has joined before, else i.
-abbrev pub TracesProject : {V J R : Type 0} → Begins V → Serves V → May V J R → ManagerState V → List (TraceEntry V J R) → ManagerState V → Type 0
+abbrev pub TracesProject : {V J R : Type 0} → Begins V → Serves V → May V J R → LoopContents V → List (TraceEntry V J R) → LoopContents V → Type 0
 TracesProject {V} {J} {R} begins serves may before trace after =
     (i : ℕ) → after.taken ≡ before.taken → IsApartInTrace i before trace
     → (next : ℕ) × (projected : List (TraceEntry V J R)) × IsTraceProjection i trace projected

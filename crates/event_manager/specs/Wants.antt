@@ -1,6 +1,6 @@
 -- Which descriptors subscribers want, and which id may have which: who knows that beforehand knows that nobody meets another.
 use Rattle.std.specs.Prelude.{◌≡◌, ℕ, Bool, IsTrue, List, [], ◌∷◌, All, IfSome, ◌⊎◌}
-use Rattle.event_loop.specs.Prelude.{Event, Owns, added, event_of, Exchanges, requests_of, Begins, Serves, Registry, HasId, LoopStep, Joined, Replaced, Requested, May}
+use Rattle.event_loop.specs.Prelude.{Event, Owns, priority_asked, event_of, Exchanges, requests_of, Begins, Serves, Registry, HasId, LoopStep, Joined, Replaced, Requested, May}
 use Rattle.event_loop.specs.declared.events.Request.{Request}
 use Rattle.event_manager.specs.History.{Turn, Made, Waited, IsHistory}
 use Rattle.event_manager.specs.Projection.{IsAsIfAlone}
@@ -12,7 +12,7 @@ by_test test a fd = IsTrue (test a fd)
 -- the requests ask to add only such descriptors
 abbrev pub AskWithin : (ℕ → Type 0) → List Request → Type 0
 AskWithin may [] = Unit {0}
-AskWithin may (request ∷ requests) = IfSome (added request) (λ priority. may (event_of request).fd) × AskWithin may requests
+AskWithin may (request ∷ requests) = IfSome (priority_asked request) (λ priority. may (event_of request).fd) × AskWithin may requests
 
 -- which id may have which descriptor: no two ids the same
 abbrev pub AreDisjoint : (ℕ → ℕ → Type 0) → Type 0

@@ -15,7 +15,7 @@ ghost use Rattle.event_loop.specs.Requests.{AreMadeThrough};
 ghost use Rattle.event_loop.specs.declared.ops.EventOps.{EventOps};
 ghost use Rattle.event_loop.specs.Registry.{Registry, LoopStep, Steps, Left, AreBelow, is_id, id_of};
 ghost use Rattle.event_loop.specs.Dispatch.{Position, Delivery, is_removed, still_pending, with_pending, IsDelivery};
-ghost use Rattle.event_loop.specs.Iteration.{ManagerState};
+ghost use Rattle.event_loop.specs.Iteration.{LoopContents};
 ghost use Rattle.event_manager.specs.Trace.{TraceEntry, IsTrace, new_state};
 ghost use Rattle.event_manager.specs.Projection.{NonInterference, IsApart, IsAsIfAlone, receiver_of};
 ghost use Rattle.event_manager.specs.Guarantees.{AreGiven, RemovedStayGone, RemovedStayUnknown, IsSound, IsUntouched, FreesExactly};
@@ -60,13 +60,13 @@ pub enum WakeStep<J> {
 /// success, a descriptor that the id owns at the start or asks to add) is itself a history, with the same steps for that id, the
 /// same waits, deliveries, exchanges and end value. A trace in which no job ran has one with its calls and replies.
 pub fn non_interference<S: MutEventSubscriber, J: Job<S>>()
-    ensures traces { (before : ManagerState S) (trace : List (TraceEntry S J J.Reply)) (after : ManagerState S) →
+    ensures traces { (before : LoopContents S) (trace : List (TraceEntry S J J.Reply)) (after : LoopContents S) →
         IsTrace S.begins S.serves J.may before trace after → IsHistory S.begins S.serves before.registry (history_of trace) after.registry }
     ensures joined { (before : Registry S) (history : List (Turn S)) (between : Registry S) (more : List (Turn S)) (after : Registry S) →
         IsHistory S.begins S.serves before history between → IsHistory S.begins S.serves between more after → IsHistory S.begins S.serves before (history ++ more) after }
     ensures projected { (before : Registry S) (history : List (Turn S)) (after : Registry S) →
         IsHistory S.begins S.serves before history after → NonInterference S.begins S.serves before history after }
-    ensures without_jobs { (before : ManagerState S) (trace : List (TraceEntry S J J.Reply)) (after : ManagerState S) →
+    ensures without_jobs { (before : LoopContents S) (trace : List (TraceEntry S J J.Reply)) (after : LoopContents S) →
         IsTrace S.begins S.serves J.may before trace after → TracesProject S.begins S.serves J.may before trace after }
 {}
 
@@ -93,22 +93,22 @@ pub fn lives_are_its_own<S: MutEventSubscriber>()
 /// The ids that joins give in a trace follow each other from the next id on, each once. If each held id is below the next, as in a
 /// new manager, that stays so, and each later call for an id that left is refused: by the replies alone, with `InvalidId`.
 pub fn ids_are_given_once<S: MutEventSubscriber, J: Job<S>>()
-    ensures given { (before : ManagerState S) (trace : List (TraceEntry S J J.Reply)) (after : ManagerState S) →
+    ensures given { (before : LoopContents S) (trace : List (TraceEntry S J J.Reply)) (after : LoopContents S) →
         IsTrace S.begins S.serves J.may before trace after → AreGiven before.registry.next (history_of trace) after.registry.next }
-    ensures removed { (before : ManagerState S) (trace : List (TraceEntry S J J.Reply)) (after : ManagerState S) →
+    ensures removed { (before : LoopContents S) (trace : List (TraceEntry S J J.Reply)) (after : LoopContents S) →
         IsTrace S.begins S.serves J.may before trace after → AreBelow before.registry.next before.registry.values → RemovedStayGone (history_of trace) }
-    ensures unknown { (before : ManagerState S) (trace : List (TraceEntry S J J.Reply)) (after : ManagerState S) →
+    ensures unknown { (before : LoopContents S) (trace : List (TraceEntry S J J.Reply)) (after : LoopContents S) →
         IsTrace S.begins S.serves J.may before trace after → AreBelow before.registry.next before.registry.values →
         RemovedStayUnknown (map (λ entry. entry.call) trace) (map (λ entry. entry.reply) trace) }
     ensures new { (endpoint : ℕ) → AreBelow 1 (new_state {V = S} endpoint).registry.values }
-    ensures below { (before : ManagerState S) (trace : List (TraceEntry S J J.Reply)) (after : ManagerState S) →
+    ensures below { (before : LoopContents S) (trace : List (TraceEntry S J J.Reply)) (after : LoopContents S) →
         IsTrace S.begins S.serves J.may before trace after → AreBelow before.registry.next before.registry.values → AreBelow after.registry.next after.registry.values }
 {}
 
 /// In every trace of a new manager all owners of descriptors are in the map of subscribers; nobody owns the endpoint's descriptor.
 pub fn owners_are_subscribers<S: MutEventSubscriber, J: Job<S>>()
     ensures new { (endpoint : ℕ) → IsSound (new_state {V = S} endpoint).registry }
-    ensures kept { (before : ManagerState S) (trace : List (TraceEntry S J J.Reply)) (after : ManagerState S) →
+    ensures kept { (before : LoopContents S) (trace : List (TraceEntry S J J.Reply)) (after : LoopContents S) →
         IsTrace S.begins S.serves J.may before trace after → IsSound before.registry → IsSound after.registry }
 {}
 

@@ -178,6 +178,10 @@ impl<S: MutEventSubscriber + Drop, J: Job<S>, N: NamedCounter, P: EventPoller> S
         self.registry.next_id()
     }
 
+    fn ids(&self, alloc: Global) -> Result<Vec<SubscriberId>> {
+        self.registry.ids(alloc)
+    }
+
     fn remove_subscriber(&mut self, id: SubscriberId) -> Result<S> {
         self.registry.remove_subscriber(id)
     }

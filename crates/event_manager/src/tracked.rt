@@ -1,8 +1,9 @@
 //! A manager that is known to come from a new one, by calls and jobs.
 
 ghost use Rattle.std.specs.Prelude.{◌≡◌, List, negsuc, IfErr, IfOk};
+ghost use Rattle.std.specs.FinMap as map;
 ghost use Rattle.event_loop.specs.Registry.{LoopStep, HasId, LacksId};
-ghost use Rattle.event_loop.specs.LoopState.{HasStepped, HaveStepped, IsJoin, IsLeave, IsLoopIteration, manager_state};
+ghost use Rattle.event_loop.specs.LoopState.{HasStepped, HaveStepped, IsJoin, IsLeave, IsLoopIteration, contents_of};
 ghost use Rattle.event_manager.specs.Manager.{endpoint_of, IsMade};
 ghost use Rattle.event_manager.specs.Actions.{IsDoneTo};
 ghost use Rattle.event_manager.specs.Reached.{IsReached, HasEnded};
@@ -30,7 +31,7 @@ pub struct TrackedManager<S: MutEventSubscriber, J: Job<S>, N: NamedCounter, P =
 }
 
 impl<S: MutEventSubscriber, J: Job<S>, N: NamedCounter, P> Model for TrackedManager<S, J, N, P> {
-    ghost use Rattle.event_loop.specs.LoopState.{LoopState, manager_state};
+    ghost use Rattle.event_loop.specs.LoopState.{LoopState, contents_of};
     ghost use Rattle.event_manager.specs.Manager.{state_of};
     ghost use Rattle.event_manager.specs.Reached.{loop_state_code, IsReached};
 
@@ -40,7 +41,7 @@ impl<S: MutEventSubscriber, J: Job<S>, N: NamedCounter, P> Model for TrackedMana
 
     ghost view = { λ t. state_of t.manager };
 
-    ghost invariant = { λ t. IsReached S.begins S.serves J.may (manager_state (state_of t.manager)) };
+    ghost invariant = { λ t. IsReached S.begins S.serves J.may (contents_of (state_of t.manager)) };
 }
 
 impl<S: MutEventSubscriber, J: Job<S>, N: NamedCounter, P: EventPoller> TrackedManager<S, J, N, P> {
@@ -72,7 +73,7 @@ impl<S: MutEventSubscriber, J: Job<S>, N: NamedCounter, P: EventPoller> TrackedM
 
     /// Does nothing: its contract is the history by which a new manager became this one.
     pub fn reveal_history(&self)
-        ensures { IsReached S.begins S.serves J.may (manager_state self.now) }
+        ensures { IsReached S.begins S.serves J.may (contents_of self.now) }
     {
         // Read, so that the check knows what holds of it.
         let _manager = &self.manager;
@@ -135,6 +136,14 @@ impl<S: MutEventSubscriber + Drop, J: Job<S>, N: NamedCounter, P: EventPoller> T
         ensures { (step : LoopStep S) × IsJoin subscriber result step × HasStepped S.begins P.controls P.waits self.old step self.new }
     {
         self.manager.add_subscriber(subscriber)
+    }
+
+    /// As [`SubscriberOps::ids`].
+    pub fn ids(&self, alloc: Global) -> Result<Vec<SubscriberId>>
+        ensures ids { IfOk result (λ ids. ids.items ≡ map.keys self.now.registry.values) }
+        ensures refusals { IfErr result (λ e. e ≡ Error.OutOfMemory) }
+    {
+        self.manager.ids(alloc)
     }
 
     /// As [`SubscriberOps::remove_subscriber`].

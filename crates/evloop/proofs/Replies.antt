@@ -6,7 +6,7 @@ use Rattle.event_manager.specs.declared.calls.Call.TheVariants.{Remove, Set, Ask
 use Rattle.event_manager.specs.declared.calls.Reply.{Reply}
 use Rattle.event_manager.specs.Error.TheVariants.{InvalidId}
 use Rattle.event_manager.specs.Driven.{IsDriven}
-use Rattle.event_manager.specs.Prelude.{ManagerState, run_answer, LoopState, manager_state, Controls, Waits, Joined, NotJoined, Left, Replaced, Requested, Refused, Begins, Serves, May}
+use Rattle.event_manager.specs.Prelude.{LoopContents, run_answer, LoopState, contents_of, Controls, Waits, Joined, NotJoined, Left, Replaced, Requested, Refused, Begins, Serves, May}
 use Rattle.event_manager.specs.Trace.{Effect, Stepped, Iterated, TraceEntry, Matches, IsTrace}
 use Rattle.evloop.specs.Replies.{IsReplyTo}
 
@@ -32,7 +32,7 @@ matching_reply (Stepped (Refused id)) call reply h = absurd h
 matching_reply (Iterated iteration) call reply h = is_of_call reply h.0 (run_answer iteration.waited, h.1)
 
 module _ {S J R : Type 0} (begins : Begins S) (serves : Serves S) (may : May S J R) where
-  reply_in_trace : (trace : List (TraceEntry S J R)) (call : Call S) (reply : Reply S) (before after : ManagerState S) → map (λ entry. entry.call) trace ≡ call ∷ [] → map (λ entry. entry.reply) trace ≡ reply ∷ [] → IsTrace begins serves may before trace after → IsReplyTo call reply
+  reply_in_trace : (trace : List (TraceEntry S J R)) (call : Call S) (reply : Reply S) (before after : LoopContents S) → map (λ entry. entry.call) trace ≡ call ∷ [] → map (λ entry. entry.reply) trace ≡ reply ∷ [] → IsTrace begins serves may before trace after → IsReplyTo call reply
   reply_in_trace [] call reply before after calls replies is = cc
   reply_in_trace (entry ∷ trace) call reply before after calls replies is =
       let same_call : entry.call ≡ call = cc in
@@ -43,7 +43,7 @@ module _ {S J R : Type 0} (begins : Begins S) (serves : Serves S) (may : May S J
     -- it is of the kind that the call has
     pub is_of_kind : (call : Call S) (reply : Reply S) (before after : LoopState S P) → IsDriven begins serves may controls waits before (call ∷ []) (reply ∷ []) after → IsReplyTo call reply
     is_of_kind call reply before after driven =
-        reply_in_trace driven.trace call reply (manager_state before) (manager_state after) driven.is_trace_of.calls_are driven.is_trace_of.replies_are driven.is_trace_of.is_trace
+        reply_in_trace driven.trace call reply (contents_of before) (contents_of after) driven.is_trace_of.calls_are driven.is_trace_of.replies_are driven.is_trace_of.is_trace
 
     module _ (before now : LoopState S P) (calls : List (Call S)) (call : Call S) (new : List (Reply S)) (alone : calls ≡ call ∷ []) (driven : IsDriven begins serves may controls waits before calls new now) where
       -- there is one

@@ -2,7 +2,7 @@
 
 use crate::calls::Host;
 use anyhow::{Result, ensure};
-use channels::{Receiver, Refusal, Sender, channel};
+use channels::{Receiver, SendError, Sender, channel};
 use event_manager::{
     EventLoop, EventOps, EventPoller, EventSet, Events, MutEventSubscriber, SubscriberId,
     SubscriberOps,
@@ -99,9 +99,9 @@ fn begin<R: Host>(rt: &R, alloc: Global) -> Result<Taking<R>> {
 }
 
 /// Sends so many messages.
-fn send<R: Wait + Clock>(sender: &Sender<u32>, count: u32, rt: &R) -> Result<(), Refusal> {
+fn send<R: Wait + Clock>(sender: &Sender<u32>, count: u32, rt: &R) -> Result<(), SendError<u32>> {
     for message in 0..count {
-        sender.send(message, rt).map_err(|refused| refused.why)?;
+        sender.send(message, rt)?;
     }
     Ok(())
 }

@@ -1,7 +1,9 @@
-//! How a manager is made: what its capacity may be, and what comes of it.
+//! How a loop and a manager are made, what their capacity may be, and what a loop holds at its end.
 
 use crate::expecting::{expect_ok, expect_same};
-use event_manager::{Error, EventLoop, EventPoller, Events, MAX_READY_EVENTS_CAPACITY};
+use event_manager::{
+    Error, EventLoop, EventPoller, Events, MAX_READY_EVENTS_CAPACITY, SubscriberOps,
+};
 use fixtures::counting::{Counting, counting_on};
 use fixtures::driving::replies_to;
 use fixtures::parts::{Idle, silent_parts};
@@ -55,6 +57,22 @@ fn a_loop_without_jobs_has_its_capacity(rt: HostRuntime) {
     let mut event_loop = expect_ok(&rt, made);
     expect_same(&rt, &event_loop.run(), &Ok(1));
     expect_same(&rt, &event_loop.run(), &Ok(1));
+}
+
+#[test]
+fn a_loop_lists_its_subscribers_and_so_do_its_parts(rt: HostRuntime) {
+    let script = expect_ok(&rt, script_of(rt.alloc(), &[]));
+    let mut event_loop = expect_ok(&rt, EventLoop::new(rt.alloc(), script));
+    let first = expect_ok(&rt, event_loop.add_subscriber(counting_on(1)));
+    let second = expect_ok(&rt, event_loop.add_subscriber(counting_on(2)));
+    let third = expect_ok(&rt, event_loop.add_subscriber(counting_on(3)));
+    drop(expect_ok(&rt, event_loop.remove_subscriber(second)));
+    let held = [first, third];
+    let ids = expect_ok(&rt, event_loop.ids(rt.alloc()));
+    expect_same(&rt, &ids.as_slice(), &held.as_slice());
+    let (subscribers, _poller) = event_loop.into_parts();
+    let ids = expect_ok(&rt, subscribers.ids(rt.alloc()));
+    expect_same(&rt, &ids.as_slice(), &held.as_slice());
 }
 
 /// Expects that a run of a manager without capacity is refused, over this poller, and that nobody is called.

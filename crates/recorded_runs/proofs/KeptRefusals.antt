@@ -6,7 +6,7 @@ use Rattle.std.specs.Cmp.{nat_cmp_total, nat_cmp_is}
 use Rattle.std.proofs.lemmas.Bool.Decides.{eqb_tells}
 use Rattle.std.proofs.lemmas.List.Elements.{Contains-append_cases}
 use Rattle.vmm_sys.specs.declared.errno.Errno.{Errno}
-use Rattle.event_loop.specs.Prelude.{Event, Exchanges, Answer, answers_of, Begins, Serves, Registry, Joined, NotJoined, Left, Replaced, Requested, Refused, HasId, AreBelow, Position, Delivery, Nobody, To, with_pending, is_removed, still_pending, IsDelivery, AreDispatched, events_of, exchanges_of, ManagerState, JobRun, IsIteration, no_job}
+use Rattle.event_loop.specs.Prelude.{Event, Exchanges, Answer, answers_of, Begins, Serves, Registry, Joined, NotJoined, Left, Replaced, Requested, Refused, HasId, AreBelow, Position, Delivery, Nobody, To, with_pending, is_removed, still_pending, IsDelivery, AreDispatched, events_of, exchanges_of, LoopContents, JobRun, IsIteration, no_job}
 use Rattle.event_manager.specs.Trace.{Effect, Stepped, Iterated, TraceEntry, Matches, HasEffect, IsTrace}
 use Rattle.recorded_runs.specs.Determinism.{HaveMemory, answers_of_positions, answers_of_jobs, answers_of_effect, answers_in}
 use Rattle.event_loop.specs.declared.error.Error.TheVariants.{OutOfMemory}
@@ -81,13 +81,13 @@ module _ {V : Type 0} (begins : Begins V) (serves : Serves V) (ids : ℕ → Typ
   dispatch_within before earlier (position ∷ later) after (mid, delivery, rest) within =
       dispatch_within mid (earlier ++ position ∷ []) later after rest (delivery_within (with_pending (still_pending earlier (events_of later)) before) (is_removed position.event.fd earlier) position.event position.delivery mid delivery within)
 
-  wait_within : (before : ManagerState V) (waited : Result (List Event) Errno) (positions : List (Position V)) (jobs : List (JobRun V ⊥ (Unit {0}))) (after : ManagerState V) → IsIteration begins serves no_job before waited positions jobs after → AreWithin before.registry → AreWithin after.registry
-  wait_within before (Err errno) positions jobs after (no_positions, no_jobs, is) within = subst (λ (s : ManagerState V). AreWithin s.registry) (sym is) within
+  wait_within : (before : LoopContents V) (waited : Result (List Event) Errno) (positions : List (Position V)) (jobs : List (JobRun V ⊥ (Unit {0}))) (after : LoopContents V) → IsIteration begins serves no_job before waited positions jobs after → AreWithin before.registry → AreWithin after.registry
+  wait_within before (Err errno) positions jobs after (no_positions, no_jobs, is) within = subst (λ (s : LoopContents V). AreWithin s.registry) (sym is) within
   wait_within before (Ok report) positions (job_run ∷ jobs) after is within = absurd job_run.job
   wait_within before (Ok report) positions [] after (mid, dispatch, idle, is) within =
-      subst (λ (s : ManagerState V). AreWithin s.registry) (sym is) (dispatch_within before.registry [] positions mid dispatch.1 within)
+      subst (λ (s : LoopContents V). AreWithin s.registry) (sym is) (dispatch_within before.registry [] positions mid dispatch.1 within)
 
-  effect_within : (before : ManagerState V) (effect : Effect V ⊥ (Unit {0})) (mid : ManagerState V) → HasEffect begins serves no_job before effect mid → IsCalmEffect ids effect → AreWithin before.registry → AreWithin mid.registry
+  effect_within : (before : LoopContents V) (effect : Effect V ⊥ (Unit {0})) (mid : LoopContents V) → HasEffect begins serves no_job before effect mid → IsCalmEffect ids effect → AreWithin before.registry → AreWithin mid.registry
   effect_within before (Stepped (Joined value id exchanges calls held)) mid (did, same) calm within = λ i v has.
       elim (from_insert i id before.registry.values v held (ap (λ g. get g.values i) (sym did.5) ∙ has)) [
         | inl joined ↦ subst ids (sym joined) calm
@@ -100,8 +100,8 @@ module _ {V : Type 0} (begins : Begins V) (serves : Serves V) (ids : ℕ → Typ
   abbrev pub AreCalm : List (TraceEntry V ⊥ (Unit {0})) → Type 0
   AreCalm trace = AllZip (IsCalm ids) (map (λ e. e.call) trace) (map (λ e. e.reply) trace)
 
-  pub trace_within : (before : ManagerState V) (trace : List (TraceEntry V ⊥ (Unit {0}))) (after : ManagerState V) → IsTrace begins serves no_job before trace after → AreCalm trace → AreWithin before.registry → AreWithin after.registry
-  trace_within before [] after is calm within = subst (λ (s : ManagerState V). AreWithin s.registry) (sym is) within
+  pub trace_within : (before : LoopContents V) (trace : List (TraceEntry V ⊥ (Unit {0}))) (after : LoopContents V) → IsTrace begins serves no_job before trace after → AreCalm trace → AreWithin before.registry → AreWithin after.registry
+  trace_within before [] after is calm within = subst (λ (s : LoopContents V). AreWithin s.registry) (sym is) within
   trace_within before (entry ∷ trace) after (mid, matches, had, more) (calm, calms) within =
       trace_within mid trace after more calms (effect_within before entry.effect mid had (calm_effect ids entry.effect entry.call entry.reply matches calm) within)
 
@@ -131,15 +131,15 @@ module _ {V : Type 0} (begins : Begins V) (serves : Serves V) (ids : ℕ → Typ
         let here = delivery_agrees (with_pending (still_pending earlier (events_of later)) before) (is_removed position.event.fd earlier) position.event position.delivery mid delivery behind.0 in
         (here.0, both_have (answers_of (exchanges_of position.delivery)) (answers_of_positions later) here.1 behind.1)
 
-    wait_agrees : (before : ManagerState V) (waited : Result (List Event) Errno) (positions : List (Position V)) (jobs : List (JobRun V ⊥ (Unit {0}))) (after : ManagerState V) → IsIteration begins serves no_job before waited positions jobs after → AllAgree after.registry
+    wait_agrees : (before : LoopContents V) (waited : Result (List Event) Errno) (positions : List (Position V)) (jobs : List (JobRun V ⊥ (Unit {0}))) (after : LoopContents V) → IsIteration begins serves no_job before waited positions jobs after → AllAgree after.registry
         → AllAgree before.registry × HaveMemory (answers_of_positions positions ++ answers_of_jobs jobs)
-    wait_agrees before (Err errno) positions jobs after (no_positions, no_jobs, is) all = (subst (λ (s : ManagerState V). AllAgree s.registry) is all, rw (no_positions, no_jobs) none_lacking)
+    wait_agrees before (Err errno) positions jobs after (no_positions, no_jobs, is) all = (subst (λ (s : LoopContents V). AllAgree s.registry) is all, rw (no_positions, no_jobs) none_lacking)
     wait_agrees before (Ok report) positions (job_run ∷ jobs) after is all = absurd job_run.job
     wait_agrees before (Ok report) positions [] after (mid, dispatch, idle, is) all =
-        let behind = dispatch_agrees before.registry [] positions mid dispatch.1 (subst (λ (s : ManagerState V). AllAgree s.registry) is all) in
+        let behind = dispatch_agrees before.registry [] positions mid dispatch.1 (subst (λ (s : LoopContents V). AllAgree s.registry) is all) in
         (behind.0, both_have (answers_of_positions positions) [] behind.1 none_lacking)
 
-    effect_agrees : (before : ManagerState V) (effect : Effect V ⊥ (Unit {0})) (mid : ManagerState V) → HasEffect begins serves no_job before effect mid → IsCalmEffect ids effect → AreBelow before.registry.next before.registry.values → AllAgree mid.registry
+    effect_agrees : (before : LoopContents V) (effect : Effect V ⊥ (Unit {0})) (mid : LoopContents V) → HasEffect begins serves no_job before effect mid → IsCalmEffect ids effect → AreBelow before.registry.next before.registry.values → AllAgree mid.registry
         → AllAgree before.registry × HaveMemory (answers_of_effect effect)
     effect_agrees before (Stepped (Joined value id exchanges calls held)) mid (did, same) calm below all =
         let here = all id held (ap (λ g. get g.values id) did.5 ∙ insert_same_value id before.registry.values held) in (
@@ -150,9 +150,9 @@ module _ {V : Type 0} (begins : Begins V) (serves : Serves V) (ids : ℕ → Typ
     effect_agrees before (Stepped step) mid did calm below all = absurd calm
     effect_agrees before (Iterated iteration) mid did calm below all = wait_agrees before iteration.waited iteration.positions iteration.jobs mid did all
 
-    pub trace_agrees : (before : ManagerState V) (trace : List (TraceEntry V ⊥ (Unit {0}))) (after : ManagerState V) → IsTrace begins serves no_job before trace after → AreCalm trace → AreBelow before.registry.next before.registry.values → AllAgree after.registry
+    pub trace_agrees : (before : LoopContents V) (trace : List (TraceEntry V ⊥ (Unit {0}))) (after : LoopContents V) → IsTrace begins serves no_job before trace after → AreCalm trace → AreBelow before.registry.next before.registry.values → AllAgree after.registry
         → AllAgree before.registry × HaveMemory (answers_in trace)
-    trace_agrees before [] after is calm below all = (subst (λ (s : ManagerState V). AllAgree s.registry) is all, none_lacking)
+    trace_agrees before [] after is calm below all = (subst (λ (s : LoopContents V). AllAgree s.registry) is all, none_lacking)
     trace_agrees before (entry ∷ trace) after (mid, matches, had, more) (calm, calms) below all =
         let below_mid = (trace_follows begins serves no_job before (entry ∷ []) mid (mid, matches, had, refl)).below below in
         let behind = trace_agrees mid trace after more calms below_mid all in

@@ -14,12 +14,12 @@ use Rattle.poller_records.specs.Replay as replay
 use Rattle.poller_records.specs.Replay.{Replay, Passes, divergence, replay_code}
 use Rattle.dispatch_tables.specs.Event.{event_of_entry}
 use Rattle.event_loop.specs.PollerCall.{PollerCall, Control, Wait, Controls, Waits, Leads}
-use Rattle.event_loop.specs.PollerRelations.{packed, WaitsBy}
+use Rattle.event_loop.specs.PollerRelations.{entry_of_event, WaitsBy}
 use Rattle.recorded_runs.proofs.SameExchanges.{AreSameCalls, eventless}
 
 -- a call's entries in a record
 abbrev IsEntered : PollerCall → List RecordEntry → Type 0
-IsEntered (Control operation fd event answer) entries = entries ≡ entries_of_ctl operation (pos fd) (packed event) answer
+IsEntered (Control operation fd event answer) entries = entries ≡ entries_of_ctl operation (pos fd) (entry_of_event event) answer
 IsEntered (Wait ms capacity (Ok events)) entries =
     (reports : List EpollEvent) × (map event_of_entry reports ≡ events) × (entries ≡ entries_of_wait ms capacity (Ok (length reports)) reports)
 IsEntered (Wait ms capacity (Err errno)) entries = entries ≡ entries_of_wait ms capacity (Err errno) []
@@ -40,7 +40,7 @@ module _ {P : Type 0} (meaning : P → Gv) (may_ctl : CtlRelation) (may_wait : W
 
   abbrev pub recording_controls : Controls (Recording P)
   recording_controls before operation fd event answer after =
-      recording.MayCtl may_ctl (code_of before) operation (pos fd) (packed event) answer (code_of after)
+      recording.MayCtl may_ctl (code_of before) operation (pos fd) (entry_of_event event) answer (code_of after)
 
   abbrev pub recording_waits : Waits (Recording P)
   recording_waits before ms capacity answer after = WaitsBy (recording.MayWait may_wait) (code_of before) ms capacity answer (code_of after)
@@ -78,7 +78,7 @@ module _ {P : Type 0} (meaning : P → Gv) (may_ctl : CtlRelation) (may_wait : W
 
 abbrev pub replay_controls : Controls Replay
 replay_controls before operation fd event answer after =
-    replay.MayCtl (replay_code.code before) operation (pos fd) (packed event) answer (replay_code.code after)
+    replay.MayCtl (replay_code.code before) operation (pos fd) (entry_of_event event) answer (replay_code.code after)
 
 abbrev pub replay_waits : Waits Replay
 replay_waits before ms capacity answer after = WaitsBy replay.MayWait (replay_code.code before) ms capacity answer (replay_code.code after)

@@ -2,7 +2,7 @@
 use Rattle.std.proofs.Common.{◌≡◌, ◌≢◌, ℕ, ℤ, refl, sym, ap, subst, ◌∙◌, List, [], ◌∷◌, ◌++◌, map, append_assoc, arith, Ok, Err}
 use Rattle.std.proofs.lemmas.List.{append_cancel_left, map-append}
 use Rattle.std.proofs.lemmas.List.Elements.{Contains-append_left, Contains-append_right}
-use Rattle.event_loop.specs.Prelude.{Event, PollerCall, Control, Wait, Registrations, IsFree, Exchanges, Answer, refused, requests_of, answers_of, call_for, IsRefusedByManager, ReachesPoller, Fits, by_manager, by_poller, by_agreement, ExchangesFit}
+use Rattle.event_loop.specs.Prelude.{Event, PollerCall, Control, Wait, Registrations, IsFree, Exchanges, Answer, epoll_error, requests_of, answers_of, call_for, IsRefusedByManager, ReachesPoller, Fits, by_manager, by_poller, by_agreement, ExchangesFit}
 use Rattle.event_loop.specs.declared.events.Request.{Request}
 use Rattle.event_loop.specs.declared.events.Request.TheVariants.{Add, AddWithPriority, Modify, Remove}
 use Rattle.event_loop.specs.Exchange.{IsAdditionRefused}
@@ -103,7 +103,7 @@ module _ (i : ℕ) (registrations : Registrations) where
   request_alike request a b calls made rest more after onto m n same (by_agreement h c r e) (by_manager k d f) = absurd (unasked request b (n, k) h)
   request_alike request a b calls made rest more after onto m n same (by_poller x h c r e) (by_poller y k d s f) =
       let one = same_number request x y rest more (with_same_front _ _ _ _ rest more c d same) in
-      (r ∙ ap refused one ∙ sym s, c ∙ ap (λ z. refusing request z ∷ []) one ∙ sym d, e ∙ sym f)
+      (r ∙ ap epoll_error one ∙ sym s, c ∙ ap (λ z. refusing request z ∷ []) one ∙ sym d, e ∙ sym f)
   request_alike request a b calls made rest more after onto m n same (by_poller x h c r e) (by_agreement k d s f) =
       absurd (not_agreed request x rest more (with_same_front _ _ _ _ rest more c d same))
   request_alike request a b calls made rest more after onto m n same (by_agreement h c r e) (by_poller y k d s f) =

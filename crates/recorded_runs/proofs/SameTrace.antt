@@ -2,7 +2,7 @@
 use Rattle.std.proofs.Common.{Bool, ◌≡◌, ℕ, ◌+◌, ℤ, refl, sym, ap, subst, ◌∙◌, Some, None, Option, List, [], ◌∷◌, ◌++◌, map, Ok, Err, Result}
 use Rattle.std.specs.List.{AllZip, flat_map}
 use Rattle.std.specs.FinMap.{insert}
-use Rattle.event_loop.specs.Prelude.{Event, PollerCall, Wait, Exchanges, answers_of, Begins, Serves, Registry, Joined, NotJoined, Left, Replaced, Requested, Refused, calls_of, May, Delivery, Nobody, To, Position, with_pending, IsDelivery, AreDispatched, events_of, exchanges_of, is_removed, still_pending, ManagerState, JobRun, AreRun, IsIteration, calls_of_delivery, calls_of_positions, calls_of_jobs, class_in}
+use Rattle.event_loop.specs.Prelude.{Event, PollerCall, Wait, Exchanges, answers_of, Begins, Serves, Registry, Joined, NotJoined, Left, Replaced, Requested, Refused, calls_of, May, Delivery, Nobody, To, Position, with_pending, IsDelivery, AreDispatched, events_of, exchanges_of, is_removed, still_pending, LoopContents, JobRun, AreRun, IsIteration, calls_of_delivery, calls_of_positions, calls_of_jobs, class_in}
 use Rattle.dispatch_tables.proofs.DispatchOrders.{head_is, tail_is, one_order}
 use Rattle.vmm_sys.specs.declared.errno.Errno.{Errno}
 use Rattle.event_manager.specs.Trace.{Effect, Stepped, Iterated, TraceEntry, Matches, HasEffect, IsTrace, calls_of_effect, calls_of_trace}
@@ -84,7 +84,7 @@ module _ {V J R : Type 0} (begins : Begins V) (serves : Serves V) (may : May V J
   jobs_of runs = map (λ job_run. job_run.job) runs
 
   module _ (functions : AreFunctions begins serves may) where
-    jobs_alike : (before : ManagerState V) (jobs others : List (JobRun V J R)) (rest more : List PollerCall) (after onto : ManagerState V)
+    jobs_alike : (before : LoopContents V) (jobs others : List (JobRun V J R)) (rest more : List PollerCall) (after onto : LoopContents V)
         → jobs_of jobs ≡ jobs_of others → HaveMemory (answers_of_jobs jobs) → HaveMemory (answers_of_jobs others)
         → AreSameCalls (calls_of_jobs jobs ++ rest) (calls_of_jobs others ++ more)
         → AreRun begins serves may before jobs after → AreRun begins serves may before others onto → (jobs ≡ others) × (after ≡ onto)
@@ -107,8 +107,8 @@ module _ {V J R : Type 0} (begins : Begins V) (serves : Serves V) (may : May V J
         let replies = alike.1 one.0 in
         ((λ j. record { ticket = tickets j; job = job j; steps = one.0 j; reply = replies j } ∷ all.0 j), all.1)
 
-    wait_alike : (before : ManagerState V) (waited : Result (List Event) Errno) (positions others : List (Position V)) (jobs runs : List (JobRun V J R))
-        (rest more : List PollerCall) (after onto : ManagerState V) → jobs_of jobs ≡ jobs_of runs
+    wait_alike : (before : LoopContents V) (waited : Result (List Event) Errno) (positions others : List (Position V)) (jobs runs : List (JobRun V J R))
+        (rest more : List PollerCall) (after onto : LoopContents V) → jobs_of jobs ≡ jobs_of runs
         → HaveMemory (answers_of_positions positions ++ answers_of_jobs jobs) → HaveMemory (answers_of_positions others ++ answers_of_jobs runs)
         → AreSameCalls ((calls_of_positions positions ++ calls_of_jobs jobs) ++ rest) ((calls_of_positions others ++ calls_of_jobs runs) ++ more)
         → IsIteration begins serves may before waited positions jobs after → IsIteration begins serves may before waited others runs onto
@@ -133,8 +133,8 @@ module _ {V J R : Type 0} (begins : Begins V) (serves : Serves V) (may : May V J
         → (ms ≡ time) × (waited ≡ answered) × AreSameCalls calls made
     same_wait ms time capacity waited answered calls made e = (cc, cc, cc)
 
-    effect_alike : (capacity : ℕ) (before : ManagerState V) (effect other : Effect V J R) (c d : Call V) (r q : Reply V) (rest more : List PollerCall)
-        (after onto : ManagerState V) → IsSameCall c d → Matches effect c r → Matches other d q → jobs_of_effect effect ≡ jobs_of_effect other
+    effect_alike : (capacity : ℕ) (before : LoopContents V) (effect other : Effect V J R) (c d : Call V) (r q : Reply V) (rest more : List PollerCall)
+        (after onto : LoopContents V) → IsSameCall c d → Matches effect c r → Matches other d q → jobs_of_effect effect ≡ jobs_of_effect other
         → HaveMemory (answers_of_effect effect) → HaveMemory (answers_of_effect other)
         → AreSameCalls (calls_of_effect capacity effect ++ rest) (calls_of_effect capacity other ++ more)
         → HasEffect begins serves may before effect after → HasEffect begins serves may before other onto → (effect ≡ other) × (after ≡ onto)
@@ -170,7 +170,7 @@ module _ {V J R : Type 0} (begins : Begins V) (serves : Serves V) (may : May V J
     reply_alike (Stepped (Refused id)) c d r q h m n = cc
     reply_alike (Iterated iteration) c d r q h m n = rw (m.1, n.1) refl
 
-    pub trace_alike : (capacity : ℕ) (before : ManagerState V) (trace replay : List (TraceEntry V J R)) (rest more : List PollerCall) (after replayed : ManagerState V)
+    pub trace_alike : (capacity : ℕ) (before : LoopContents V) (trace replay : List (TraceEntry V J R)) (rest more : List PollerCall) (after replayed : LoopContents V)
         → AllZip IsSameCall (map (λ entry. entry.call) trace) (map (λ entry. entry.call) replay) → jobs_in trace ≡ jobs_in replay
         → HaveMemory (answers_in trace) → HaveMemory (answers_in replay)
         → AreSameCalls (calls_of_trace capacity trace ++ rest) (calls_of_trace capacity replay ++ more)
@@ -197,7 +197,7 @@ module _ {V J R : Type 0} (begins : Begins V) (serves : Serves V) (may : May V J
           same_state = all.same_state;
         }
 
-    pub replay_is_the_run : (capacity : ℕ) (before : ManagerState V) (trace replay : List (TraceEntry V J R)) (after replayed : ManagerState V)
+    pub replay_is_the_run : (capacity : ℕ) (before : LoopContents V) (trace replay : List (TraceEntry V J R)) (after replayed : LoopContents V)
         → IsTrace begins serves may before trace after → IsTrace begins serves may before replay replayed
         → IsReplay capacity trace replay → IsTheRun trace replay after replayed
     replay_is_the_run capacity before trace replay after replayed h k is =

@@ -1,7 +1,7 @@
 -- A replay is the run: of subscribers and jobs that are functions, the calls, the jobs and the poller decide all that happens.
 use Rattle.std.specs.Prelude.{◌≡◌, ℕ, List, [], ◌∷◌, ◌++◌, ◌⊎◌, map, Contains, Ok, Err}
 use Rattle.std.specs.List.{AllZip, flat_map}
-use Rattle.event_loop.specs.Prelude.{Event, Exchanges, Answer, answers_of, Begins, Serves, LoopStep, Joined, NotJoined, Left, Replaced, Requested, Refused, May, Position, exchanges_of, ManagerState, JobRun}
+use Rattle.event_loop.specs.Prelude.{Event, Exchanges, Answer, answers_of, Begins, Serves, LoopStep, Joined, NotJoined, Left, Replaced, Requested, Refused, May, Position, exchanges_of, LoopContents, JobRun}
 use Rattle.event_loop.specs.declared.error.Error.TheVariants.{OutOfMemory}
 use Rattle.event_manager.specs.Trace.{Effect, Stepped, Iterated, TraceEntry, calls_of_trace}
 use Rattle.event_manager.specs.declared.calls.Call.{Call}
@@ -118,7 +118,7 @@ pub record IsReplay {V J R : Type 0} (capacity : ℕ) (trace replay : List (Trac
   pub memory_again : HaveMemory (answers_in replay)
 
 -- Each call does the same and, wherever its vector lies, is replied the same; and all ends in the same state.
-pub record IsTheRun {V J R : Type 0} (trace replay : List (TraceEntry V J R)) (after replayed : ManagerState V) : Type 0 where
+pub record IsTheRun {V J R : Type 0} (trace replay : List (TraceEntry V J R)) (after replayed : LoopContents V) : Type 0 where
   pub same_effects : map (λ entry. entry.effect) trace ≡ map (λ entry. entry.effect) replay
   pub same_replies : AllZip IsSameReply (map (λ entry. entry.reply) trace) (map (λ entry. entry.reply) replay)
   pub same_state : after ≡ replayed

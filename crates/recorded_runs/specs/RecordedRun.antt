@@ -1,7 +1,7 @@
 -- A manager over a recording poller, and again over a replay of what was recorded.
 use Rattle.std.specs.Prelude.{◌≡◌, true, List, ◌++◌, map}
 use Rattle.std.specs.List.{AllZip}
-use Rattle.event_loop.specs.LoopState.{LoopState, manager_state}
+use Rattle.event_loop.specs.LoopState.{LoopState, contents_of}
 use Rattle.poller_records.specs.Recording.{Recording}
 use Rattle.poller_records.specs.Replay.{Replay}
 use Rattle.event_manager.specs.Trace.{TraceEntry}
@@ -11,7 +11,7 @@ use Rattle.recorded_runs.specs.Determinism.{IsSameCall, HaveMemory, answers_in, 
 pub record BeginsAgain {S P : Type 0} (before after : LoopState S (Recording P)) (again : LoopState S Replay) : Type 0 where
   pub complete : after.poller.complete ≡ true
   pub ahead : after.poller.entries ≡ before.poller.entries ++ again.poller.ahead
-  pub same_state : manager_state again ≡ manager_state before
+  pub same_state : contents_of again ≡ contents_of before
   pub same_capacity : again.capacity ≡ before.capacity
 
 -- The same calls of the manager again, and the same jobs in each; neither time memory is lacking.

@@ -1,8 +1,8 @@
 //! Laws of runs made again, if subscribers and jobs are functions and no memory is refused. Each function here does nothing.
 
 ghost use Rattle.std.specs.Prelude.{◌≡◌, ℕ, false, List};
-ghost use Rattle.event_loop.specs.Iteration.{ManagerState};
-ghost use Rattle.event_loop.specs.LoopState.{LoopState, manager_state, no_job};
+ghost use Rattle.event_loop.specs.Iteration.{LoopContents};
+ghost use Rattle.event_loop.specs.LoopState.{LoopState, contents_of, no_job};
 ghost use Rattle.event_manager.specs.Driven.{IsTraceOf};
 ghost use Rattle.event_manager.specs.Trace.{TraceEntry, IsTrace};
 ghost use Rattle.event_manager.specs.declared.calls.Call.{Call};
@@ -20,7 +20,7 @@ use vmm_sys::poller::Poller;
 
 /// A replay is the run: from one state the same calls, with the same poller calls and jobs, do the same; vectors may lie elsewhere.
 pub fn a_replay_is_the_run<S: MutEventSubscriber, J: Job<S>>()
-    ensures { (capacity : ℕ) (before : ManagerState S) (trace replay : List (TraceEntry S J J.Reply)) (after replayed : ManagerState S) →
+    ensures { (capacity : ℕ) (before : LoopContents S) (trace replay : List (TraceEntry S J J.Reply)) (after replayed : LoopContents S) →
         AreFunctions S.begins S.serves J.may → IsTrace S.begins S.serves J.may before trace after →
         IsTrace S.begins S.serves J.may before replay replayed → IsReplay capacity trace replay → IsTheRun trace replay after replayed }
 {}
@@ -35,7 +35,7 @@ pub fn a_recorded_run_is_made_again<S: MutEventSubscriber, J: Job<S>, P: Poller>
         IsTraceOf S.begins S.serves J.may ⟦<ReplayPoller as EventPoller>⟧.controls ⟦<ReplayPoller as EventPoller>⟧.waits
         start calls_again replies_again end again →
         BeginsAgain before after start → end.poller.diverged ≡ false → IsMadeAgain trace again →
-        IsTheRun trace again (manager_state after) (manager_state end) }
+        IsTheRun trace again (contents_of after) (contents_of end) }
 {}
 
 /// As `a_recorded_run_is_made_again`, of a loop without jobs: each entry of a list is what one of its calls promises.
@@ -48,7 +48,7 @@ pub fn a_recorded_loop_is_made_again<S: MutEventSubscriber, P: Poller>()
         IsTraceOf S.begins S.serves no_job ⟦<ReplayPoller as EventPoller>⟧.controls ⟦<ReplayPoller as EventPoller>⟧.waits
         start calls_again replies_again end again →
         BeginsAgain before after start → end.poller.diverged ≡ false → IsMadeAgain trace again →
-        IsTheRun trace again (manager_state after) (manager_state end) }
+        IsTheRun trace again (contents_of after) (contents_of end) }
 {}
 
 /// `CounterSubscriber` and `NoJob` are functions: answers so far decide what they ask next, all answers their value or reply.

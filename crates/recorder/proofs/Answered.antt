@@ -7,7 +7,7 @@ use Rattle.std.specs.List.{AllZip}
 use Rattle.std.specs.FinMap.{get-empty}
 use Rattle.std.proofs.Math.ListN.{replicate}
 use Rattle.std.proofs.lemmas.List.Elements.{Contains-push_cases}
-use Rattle.event_manager.specs.Prelude.{Event, Controls, Waits, Exchanges, Answer, answers_of, HasId, new_registry, ManagerState, LoopState, new_loop, no_descriptor, manager_state}
+use Rattle.event_manager.specs.Prelude.{Event, Controls, Waits, Exchanges, Answer, answers_of, HasId, new_registry, LoopContents, LoopState, new_loop, no_descriptor, contents_of}
 use Rattle.event_manager.specs.Request.TheVariants.{Remove}
 use Rattle.event_manager.specs.Request.TheVariants as request
 use Rattle.recorded_runs.specs.Determinism.{HaveMemory, answers_in}
@@ -77,12 +77,12 @@ nobody endpoint id v has = let s : ◌≡◌ {A = Option Device} None (Some v) =
 
 module _ {P : Type 0} (controls : Controls P) (waits : Waits P) where
   pub had_memory : (poller : P) (devices : Device × Device) (told : Told) (after : LoopState Device P) → (run : IsRun controls waits (new_loop no_descriptor poller 256) devices told after) → HaveMemory (answers_in run.trace)
-  had_memory poller devices told after run = (trace_agrees device_begins device_serves ids IsAnswered begun served start run.trace (manager_state after) run.is_trace_of.is_trace calm (λ id v has. absurd (nobody no_descriptor id v has)) all).1 where
+  had_memory poller devices told after run = (trace_agrees device_begins device_serves ids IsAnswered begun served start run.trace (contents_of after) run.is_trace_of.is_trace calm (λ id v has. absurd (nobody no_descriptor id v has)) all).1 where
     ids : ℕ → Type 0
     ids i = (i ≡ run.queue) ⊎ (i ≡ run.console)
 
-    start : ManagerState Device
-    start = manager_state (new_loop {S = Device} {P = P} no_descriptor poller 256)
+    start : LoopContents Device
+    start = contents_of (new_loop {S = Device} {P = P} no_descriptor poller 256)
 
     counts : List (Reply Device)
     counts = map (λ count. Ran (Ok count)) told.events
@@ -97,7 +97,7 @@ module _ {P : Type 0} (controls : Controls P) (waits : Waits P) where
         (inl refl, (inr refl, subst (λ n. AllZip (IsCalm ids) (replicate n (Run (pos 0))) counts) five (runs_are_calm ids counts)))
 
     within : AreWithin device_begins device_serves ids after.registry
-    within = trace_within device_begins device_serves ids start run.trace (manager_state after) run.is_trace_of.is_trace calm (λ i v has. absurd (nobody no_descriptor i v has))
+    within = trace_within device_begins device_serves ids start run.trace (contents_of after) run.is_trace_of.is_trace calm (λ i v has. absurd (nobody no_descriptor i v has))
 
     all : AllAgree device_begins device_serves ids IsAnswered begun served after.registry
     all i v has = elim (within i v has) [

@@ -6,7 +6,7 @@ use Rattle.poller_records.specs.Replay.{Replay, start_of, divergence_index}
 use Rattle.poller_records.specs.declared.record.RecordEntry.{RecordEntry}
 use Rattle.poller_records.specs.Held.{IsEntry}
 use Rattle.poller_records.specs.Lines.{text_of}
-use Rattle.event_manager.specs.Prelude.{Controls, Waits, Registry, HasId, ManagerState, LoopState, new_loop, no_descriptor, no_job, manager_state}
+use Rattle.event_manager.specs.Prelude.{Controls, Waits, Registry, HasId, LoopContents, LoopState, new_loop, no_descriptor, no_job, contents_of}
 use Rattle.event_manager.specs.Trace.{TraceEntry}
 use Rattle.event_manager.specs.Driven.{IsTraceOf}
 use Rattle.recorded_runs.specs.Determinism.{AreFunctions, IsSameReply, IsTheRun}
@@ -88,12 +88,12 @@ module _ {P : Type 0} (controls : Controls (Recording P)) (waits : Waits (Record
         (start end : LoopState Device Replay) (calls_again : List (Call Device)) (replies_again : List (Reply Device)) (again : List (TraceEntry Device ⊥ (Unit {0})))
         → AreFunctions device_begins device_serves no_job → IsTraceOf device_begins device_serves no_job controls waits before calls replies after trace
         → IsTraceOf device_begins device_serves no_job replay_controls replay_waits start calls_again replies_again end again
-        → BeginsAgain before after start → end.poller.diverged ≡ false → IsMadeAgain trace again → IsTheRun trace again (manager_state after) (manager_state end)
+        → BeginsAgain before after start → end.poller.diverged ≡ false → IsMadeAgain trace again → IsTheRun trace again (contents_of after) (contents_of end)
 
     same_run : (devices : Device × Device) (told told_again : Told) (text : List ℕ) (recorded : IsRecorded controls waits devices told text true) (entries : List RecordEntry) (end : LoopState Device Replay)
         → RecordedLoopLaw → AreFunctions device_begins device_serves no_job → recorded.after.poller.entries ≡ entries
         → (again : IsRun replay_controls replay_waits (new_loop no_descriptor (start_of entries) 256) devices told_again end) → end.poller.diverged ≡ false
-        → IsTheRun recorded.run.trace again.trace (manager_state recorded.after) (manager_state end)
+        → IsTheRun recorded.run.trace again.trace (contents_of recorded.after) (contents_of end)
     same_run devices told told_again text recorded entries end law functions same again agreed =
         let run = recorded.run in
         law (new_loop no_descriptor (recording recorded.poller recorded.most) 256) recorded.after (calls_of devices 5) (replies_of run.queue run.console told.events) run.trace
@@ -111,7 +111,7 @@ module _ {P : Type 0} (controls : Controls (Recording P)) (waits : Waits (Record
         let run = recorded.run in
         let is = same_run devices told told_again text recorded entries end law functions same again agreed in
         let replies = rw (run.is_trace_of.replies_are, again.is_trace_of.replies_are) at is.same_replies in
-        let registries : recorded.after.registry ≡ end.registry = ap (λ (s : ManagerState Device). s.registry) is.same_state in
+        let registries : recorded.after.registry ≡ end.registry = ap (λ (s : LoopContents Device). s.registry) is.same_state in
         let queue = same_held end.registry run.queue again.queue told.queue told_again.queue (same_id run.queue again.queue replies.0)
         (subst (λ (r : Registry Device). HasId r run.queue told.queue) registries run.queue_is) again.queue_is in
         let console = same_held end.registry run.console again.console told.console told_again.console (same_id run.console again.console replies.1.0)

@@ -1,5 +1,6 @@
 //! Subscribers that join, and their requests.
 
+use crate::again;
 use crate::descriptors::open_counter;
 use crate::expecting::{Host, Looping, expect_ok, expect_same};
 use crate::making::{OnTable, open_table, over_table};
@@ -43,6 +44,8 @@ impl<R: Looping> WithManager for Joining<'_, R> {
     fn run<N: NamedCounter, P: EventPoller>(self, manager: &mut Manager<N, P>) -> Result<()> {
         let rt = self.rt;
         let [first, last] = join_all(rt, self.alloc, manager);
+        let ids = again!(rt, "SubscriberOps::ids", manager.ids(self.alloc));
+        expect_same(rt, "SubscriberOps::ids", &ids.last(), &Some(&last));
         for more in 1..=COUNT {
             ask(rt, manager, first, wanted(COUNT + more), None);
         }

@@ -114,6 +114,8 @@ impl<R: Looping> LoopWithSenders<Stoppable, ActionOn<Change>, Caller, R> for Cal
             is_stopped: false,
         });
         let id = expect_ok(rt, joined);
+        let ids = expect_ok(rt, manager.ids(alloc));
+        expect_same(rt, &ids.as_slice(), &[id].as_slice());
         self.id = Some(id);
         Ok(expect_ok(rt, Vec::from_array(alloc, [Caller(id)])))
     }

@@ -51,7 +51,7 @@ fn say<R: Wait + Clock>(
 ) -> Result<(), Fault> {
     for word in client {
         let word = String::from_str(alloc, word)?;
-        sender.send(word, rt).map_err(|refused| refused.why)?;
+        sender.send(word, rt)?;
     }
     Ok(())
 }
@@ -62,10 +62,7 @@ impl<R: Wait + Clock + Copy + Drop> Lane<R> {
     fn connect(&self, client: Client, alloc: Global, rt: &R) -> Result<(), Fault> {
         let (sender, receiver) = channel(EventFd::new(&self.epoll, 0, rt)?, alloc)?;
         let sender = Closing::new(sender, *rt);
-        self.connections
-            .end
-            .send(receiver, rt)
-            .map_err(|refused| refused.why)?;
+        self.connections.end.send(receiver, rt)?;
         say(client, &sender.end, alloc, rt)
     }
 }

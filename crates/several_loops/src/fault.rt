@@ -1,6 +1,6 @@
 //! Why the program ends with a failure.
 
-use channels::Refusal;
+use channels::{Refusal, SendError};
 use std::alloc::{AllocError, AllocFailed};
 use std::io;
 use thiserror::Error;
@@ -19,7 +19,7 @@ pub enum Fault {
 
     /// A message was refused.
     #[error(transparent)]
-    Message(#[from] Refusal),
+    Message(Refusal),
 
     /// What came of it could not be written.
     #[error("cannot write: {0}")]
@@ -35,6 +35,12 @@ impl From<AllocError> for Fault {
 impl<T: Drop> From<AllocFailed<T>> for Fault {
     fn from(refused: AllocFailed<T>) -> Fault {
         Fault::Loop(refused.into())
+    }
+}
+
+impl<M: Drop> From<SendError<M>> for Fault {
+    fn from(refused: SendError<M>) -> Fault {
+        Fault::Message(refused.why)
     }
 }
 

@@ -64,10 +64,7 @@ fn serve<R: Threads + Wait + Clock + Copy + Send + Sync + Drop>(
     }
     drop(to_report);
     for client in CLIENTS {
-        to_acceptor
-            .end
-            .send(client, rt)
-            .map_err(|refused| refused.why)?;
+        to_acceptor.end.send(client, rt)?;
     }
     drop(to_acceptor);
     let acceptor = Acceptor {

@@ -124,7 +124,7 @@ impl<P: EventPoller + Drop, R: Wait + Clock + Copy + Drop> ThreadLoop<R> for Wor
         } = self;
         let reports = Closing::new(reports, *rt);
         let report = serve(number, poller, connections, alloc, rt)?;
-        reports.end.send(report, rt).map_err(|refused| refused.why)?;
+        reports.end.send(report, rt)?;
         Ok(())
     }
 }

@@ -1,7 +1,7 @@
 //! Sends, takes and closes, replayed on a new queue.
 
 ghost use Rattle.std.specs.Prelude.{◌≡◌, ◌++◌, [], IfOk, IfErr};
-ghost use Rattle.event_manager.specs.Account.{answers_to_sends, handed_out, IsReplayed};
+ghost use Rattle.event_manager.specs.Account.{answers_to_sends, jobs_handed_out, IsReplayed};
 ghost use Rattle.event_manager.specs.JobQueue.{tickets_and_jobs};
 ghost use Rattle.event_loop.specs.declared.error.Error.TheVariants.{OutOfMemory};
 
@@ -133,7 +133,7 @@ pub fn replay<J: Drop, R: Wait + Clock>(
     steps: Vec<Step<J>>,
 ) -> Result<Outcome<J>>
     ensures answers { IfOk result (λ o. o.answers.items ≡ answers_to_sends steps.items) }
-    ensures taken { IfOk result (λ o. o.taken.items ≡ handed_out steps.items) }
+    ensures taken { IfOk result (λ o. o.taken.items ≡ jobs_handed_out steps.items) }
     ensures err { IfErr result (λ e. e ≡ OutOfMemory) }
 {
     let mut queue = JobQueue::new(alloc);

@@ -34,7 +34,7 @@ pub struct CounterSubscriberWithData {
 }
 
 impl CounterSubscriberWithData {
-    ghost use Rattle.event_loop.specs.DataCounterSubscribers.{event_fds_of, first_data_of, is_toggled, counts_of, with_toggle, observed_with_data, wanted, renewal, renewed, counted, data_row};
+    ghost use Rattle.event_loop.specs.DataCounterSubscribers.{event_fds_of, first_data_of, is_toggled, counts_of, with_toggle, observed_with_data, events_wanted, renewal, with_renewal, with_event_counted, data_row};
 
     /// A subscriber that has counted nothing; `alloc` is for `get_all_counter_values`.
     pub fn new(alloc: Global, event_fds: [EventFd; 3], first_data: u32) -> Self
@@ -111,7 +111,7 @@ impl CounterSubscriberWithData {
     }
 
     fn wanted(&self) -> [Events; 3]
-        ensures { result ≡ wanted self.now }
+        ensures { result ≡ events_wanted self.now }
     {
         [
             self.first.input(self.first_data),
@@ -122,7 +122,7 @@ impl CounterSubscriberWithData {
 
     fn renew<P: EventPoller>(&mut self, ops: &mut EventOps<P>)
         ensures { (exchanges : Exchanges) × (calls : List PollerCall) × (requests_of exchanges ≡ renewal self.old)
-            × (self.new ≡ renewed exchanges self.old) × AreMadeThrough P.controls P.waits ops.old ops.new exchanges calls }
+            × (self.new ≡ with_renewal exchanges self.old) × AreMadeThrough P.controls P.waits ops.old ops.new exchanges calls }
     {
         if !self.toggle_registry {
             return;
@@ -141,7 +141,7 @@ impl CounterSubscriberWithData {
     }
 
     fn count(&mut self, data: u32)
-        ensures { self.new ≡ counted «data» self.old }
+        ensures { self.new ≡ with_event_counted «data» self.old }
     {
         if data == self.first_data {
             self.first.count();

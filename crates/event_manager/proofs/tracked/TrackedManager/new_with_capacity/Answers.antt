@@ -1,5 +1,5 @@
 use Rattle.std.proofs.Common.{sym, subst}
-use Rattle.event_loop.specs.Prelude.{LoopState, manager_state}
+use Rattle.event_loop.specs.Prelude.{LoopState, contents_of}
 use Rattle.event_manager.specs.Reached.{IsReached}
 use Rattle.event_manager.proofs.ReachedStates.{new_is_reached}
 use Rattle.event_manager.proofs.tracked.TrackedManager.new_with_capacity.Goals as goal
@@ -8,5 +8,5 @@ use Rattle.event_manager.proofs.tracked.TrackedManager.new_with_capacity.Goals a
 pub invariant_of-result : goal.invariant_of-result
 invariant_of-result g c =
     let made = rw c.in-Ok.is at c.new_with_capacity.ensures in
-    subst (λ (s : LoopState g.row.S.Denot g.row.P.Denot). IsReached g.S.MutEventSubscriber.begins g.S.MutEventSubscriber.serves g.J.Job.may (manager_state s)) (sym made.3)
+    subst (λ (s : LoopState g.row.S.Denot g.row.P.Denot). IsReached g.S.MutEventSubscriber.begins g.S.MutEventSubscriber.serves g.J.Job.may (contents_of s)) (sym made.3)
     (new_is_reached g.S.MutEventSubscriber.begins g.S.MutEventSubscriber.serves g.J.Job.may _)

@@ -1,0 +1,10 @@
+use Rattle.std.proofs.Common.{[], ◌∷◌, refl}
+use Rattle.channels.specs.Steps.{QueueWithCounter}
+use Rattle.channels.specs.declared.laws.QueueStep.TheVariants.{Ring}
+use Rattle.channel_tests.proofs.queue_with_counter.QueueWithCounter.ring.Goals as goal
+
+pub invariant_of-self : goal.invariant_of-self
+invariant_of-self g c =
+    let before : QueueWithCounter g.row.M.Denot = record { messages = c.self.inside.messages; value = c.self.inside.count } in
+    let after : QueueWithCounter g.row.M.Denot = record { messages = c.self.inside.messages; value = c.raise.new.self } in
+    c.no_wake_up_is_lost.ensures.kept before (Ring ∷ []) after (after, (c.raise.result, c.raise.ensures, refl), refl) c.self.invariant
