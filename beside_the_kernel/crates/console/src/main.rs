@@ -1,11 +1,15 @@
 //! Counts what comes in on standard input, until its end.
 #![tactic(auto)]
 
+#[cfg(test)]
+mod tests;
+
 use anyhow::Result;
 use event_loop::{
     EventLoop, EventOps, EventPoller, EventSet, Events, MutEventSubscriber, SubscriberOps,
 };
 use linux::epoll::Epoll;
+use std::alloc::Global;
 use vmm_sys::epoll::{AsRawFd, Fd};
 
 /// For how many runs the console goes on at most.
@@ -44,11 +48,12 @@ impl MutEventSubscriber for Console {
     }
 }
 
-fn main(rt: HostRuntime) -> Result<()> {
-    let epoll = Epoll::new(rt.alloc(), 16)?;
-    let mut event_loop = EventLoop::new(rt.alloc(), epoll)?;
+/// How many bytes come in, until the end.
+fn count_bytes(alloc: Global, input: Fd) -> Result<u64> {
+    let epoll = Epoll::new(alloc, 16)?;
+    let mut event_loop = EventLoop::new(alloc, epoll)?;
     let id = event_loop.add_subscriber(Console {
-        input: Fd::of(&rt.stdin())?,
+        input,
         bytes: 0,
         is_over: false,
     })?;
@@ -58,6 +63,10 @@ fn main(rt: HostRuntime) -> Result<()> {
         }
         event_loop.run()?;
     }
-    let bytes = event_loop.subscriber(id)?.bytes;
+    Ok(event_loop.subscriber(id)?.bytes)
+}
+
+fn main(rt: HostRuntime) -> Result<()> {
+    let bytes = count_bytes(rt.alloc(), Fd::of(&rt.stdin())?)?;
     Ok(println!(rt; "{bytes} bytes")?)
 }

@@ -1,5 +1,7 @@
-//! Tests of a manager that the kernel's eventfd wakes.
+//! Tests over the kernel's epoll and eventfd.
 #![tactic(auto)]
 
+#[cfg(test)]
+mod descriptors;
 #[cfg(test)]
 mod woken;
