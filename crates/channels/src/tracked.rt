@@ -70,7 +70,8 @@ impl<M: Drop, C: Counter + Drop> TrackedSender<M, C> {
     }
 }
 
-/// A [`Receiver`] of which contracts see what it has returned. The list is no part of the program that runs.
+/// A [`Receiver`] of which contracts see what it has returned, with the receiver's descriptor. The list is no part of the program
+/// that runs.
 #[derive(Drop)]
 pub struct TrackedReceiver<M, C = EventFd> {
     receiver: Receiver<M, C>,

@@ -15,7 +15,7 @@ use crate::shared::Shared;
 use crate::vcpu::{BlockDriver, Vcpu};
 use crate::vmm::Vmm;
 use event_manager::{
-    Either, Error, EventPoller, Locked, LoopWithSenders, NamedCounter, Result, Sender, Senders,
+    Either, Error, EventPoller, Locked, LoopWithSenders, NamedCounter, Result, JobSender, Senders,
     SubscriberId, Subscribers, TrackedManager,
 };
 use std::alloc::Global;
@@ -33,7 +33,7 @@ pub enum Thread<'a, Q: RingName, R> {
     Vcpu(Vcpu<'a, Q, R>),
 }
 
-impl<Q: RingName, R: Wait + Clock + Print + Copy + Drop> Sender<
+impl<Q: RingName, R: Wait + Clock + Print + Copy + Drop> JobSender<
     Device<Q, R>,
     ApiRequest<Q, R>,
     std::result::Result<(), Fault>,

@@ -1,9 +1,8 @@
 -- An event: a descriptor, its data and a set of kinds.
-use Rattle.std.specs.Prelude.{◌≡◌, ℕ, ◌+◌, ◌*◌, ◌/◌, ◌%◌, ◌^◌, refl}
+use Rattle.std.specs.Prelude.{ℕ, refl}
 use Rattle.std.specs.Coded.{Coded, code_by, coded×, coded_ℕ}
-use Rattle.std.proofs.Common.{arith}
 use Rattle.vmm_sys.specs.declared.entries.EpollEvent.{EpollEvent}
-use Rattle.vmm_sys.specs.EpollEvent.{word_of, set_of}
+use Rattle.vmm_sys.specs.EpollEvent.{high_half, low_half, set_of}
 use Rattle.vmm_sys.specs.EventSet.{bits_of}
 
 -- The descriptor is the low half of an entry's word: numbers from 2^31 on are the
@@ -17,14 +16,6 @@ pub record Event : Type 0 where
 abbrev pub event_code : Coded Event
 event_code = code_by (ℕ × (ℕ × ℕ)) (coded× coded_ℕ (coded× coded_ℕ coded_ℕ)) (λ e. (e.fd, (e.payload, e.set))) (λ p. record { fd = p.0; payload = p.1.0; set = p.1.1 }) (λ _. refl)
 
--- the word of an event: the data in the high half, the descriptor in the low one
-abbrev pub word_of_parts : ℕ → ℕ → ℕ
-word_of_parts payload fd = payload * 2 ^ 32 + fd
-
--- the halves of a word give the word
-pub word_of_parts-halves : (word : ℕ) → word_of_parts (word / 2 ^ 32) (word % 2 ^ 32) ≡ word
-word_of_parts-halves word = omega arith
-
 -- the event that a reported entry stands for: descriptor in the low half of the word, data in the high half
 abbrev pub event_of_entry : EpollEvent → Event
-event_of_entry e = record { fd = word_of e % 2 ^ 32; payload = word_of e / 2 ^ 32; set = bits_of (set_of e) }
+event_of_entry e = record { fd = low_half e; payload = high_half e; set = bits_of (set_of e) }

@@ -7,7 +7,6 @@ ghost use Rattle.dispatch_tables.specs.Ownership.{class_in};
 ghost use Rattle.dispatch_tables.specs.Classes.{numbered, classed_by, entries_of_class, AreAllLowest};
 ghost use Rattle.dispatch_tables.specs.ClassOrder.{IsOrdered};
 
-use crate::descriptor::fd_of;
 use crate::owners::Owners;
 use crate::priority::Priority;
 use vmm_sys::epoll::EpollEvent;
@@ -54,7 +53,7 @@ fn classify(
     let mut raised = false;
     for at in 0..count {
         let entry = buffer[at];
-        let class = owners.class(fd_of(&entry));
+        let class = owners.class(entry.low_half());
         if class.is_raised() {
             raised = true;
         }

@@ -4,7 +4,6 @@
 #![tactic(auto)]
 
 pub mod cancelled;
-pub mod descriptor;
 pub mod dispatch_order;
 pub mod owners;
 pub mod places;

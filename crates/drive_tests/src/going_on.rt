@@ -9,7 +9,7 @@ ghost use Rattle.drive_tests.specs.Meters.{no_less, has_gone_on};
 
 use event_manager::{
     Action, ActionOn, Counter, Ended, EventLoop, EventManager, EventOps, EventPoller, Events,
-    LoopWithSenders, MutEventSubscriber, NamedCounter, Result, Sender, SubscriberOps, with_senders,
+    LoopWithSenders, MutEventSubscriber, NamedCounter, Result, JobSender, SubscriberOps, with_senders,
 };
 use std::alloc::Global;
 use std::sync::Wait;
@@ -95,7 +95,7 @@ where
     P: EventPoller + Drop,
     C: Counter + Send + Sync + Drop,
     B: LoopWithSenders<Meter, ActionOn<Advance>, Q, R>,
-    Q: Sender<Meter, ActionOn<Advance>, T, R> + Send + Drop,
+    Q: JobSender<Meter, ActionOn<Advance>, T, R> + Send + Drop,
     T: Send + Drop,
     R: Threads + Wait + Clock + Sync,
     ensures { IfOk result (λ ended. AllHeld has_gone_on ended.subscribers) }

@@ -3,7 +3,7 @@
 use crate::expecting::{expect_ok, expect_same};
 use crate::going_on::{Advance, Meter, run_meters};
 use event_manager::{
-    ActionOn, EventPoller, Events, LoopWithSenders, NamedCounter, RemoteEndpoint, Result, Sender,
+    ActionOn, EventPoller, Events, LoopWithSenders, NamedCounter, RemoteEndpoint, Result, JobSender,
     SubscriberId, TrackedManager,
 };
 use fixtures::asking::wanted;
@@ -17,7 +17,7 @@ use std::time::Clock;
 #[derive(Drop)]
 struct Advancing(SubscriberId);
 
-impl<R: Wait + Clock + Abort> Sender<Meter, ActionOn<Advance>, (), R> for Advancing {
+impl<R: Wait + Clock + Abort> JobSender<Meter, ActionOn<Advance>, (), R> for Advancing {
     fn send<N: NamedCounter>(self, endpoint: &RemoteEndpoint<Meter, ActionOn<Advance>, N>, rt: &R) {
         for by in [2, 3] {
             let advance = ActionOn {

@@ -1,13 +1,11 @@
 -- Lists of exchanges, put together.
-use Rattle.std.proofs.Common.{◌≡◌, ℕ, List, [], ◌∷◌, ◌++◌, refl, sym, ap, subst, ◌∙◌, append_assoc, inl, inr, arith, Ok, Err, Bool, true, false, ◌||◌, ◌==◌, not, cond, map, filter}
+use Rattle.std.proofs.Common.{◌≡◌, ℕ, List, [], ◌∷◌, ◌++◌, refl, sym, ap, subst, ◌∙◌, append_assoc, arith, Ok, Bool, true, false, ◌||◌, ◌==◌, not, cond, map, filter}
 use Rattle.std.proofs.lemmas.List.{append-nil}
 use Rattle.std.proofs.lemmas.List.Folds.{list_any-append}
 use Rattle.std.proofs.lemmas.Bool.Decides.{nat_tests}
-use Rattle.event_loop.specs.Prelude.{Event, PollerCall, Control, Wait, Exchanges, ExchangesFit, Fits, Answer, by_manager, by_poller, by_agreement, has_removal, is_removal, Registrations, Controls, Waits, Leads, AreMade, AreMadeThrough}
-use Rattle.event_loop.specs.declared.error.Error.{Error}
+use Rattle.event_loop.specs.Prelude.{Event, PollerCall, Control, Wait, Exchanges, ExchangesFit, Fits, Answer, by_manager, without_memory, by_poller, by_agreement, has_removal, is_removal, Registrations, Controls, Waits, Leads, AreMade, AreMadeThrough}
 use Rattle.event_loop.specs.declared.events.Request.{Request}
 use Rattle.event_loop.specs.declared.events.Request.TheVariants.{Add, AddWithPriority, Modify, Remove}
-use Rattle.event_loop.specs.Exchange.{IsVacant, IsAdditionRefused}
 use Rattle.event_loop.specs.RegistrationState.{RegistrationState, not_cancelled, registrations_of, cancel_on, cancel_removed}
 use Rattle.dispatch_tables.specs.declared.priority.Priority.TheVariants.{Lowest}
 use Rattle.event_loop.specs.declared.epoll.EpollWrapper.{EpollWrapper}
@@ -88,15 +86,12 @@ module _ {P : Type 0} {controls : Controls P} {waits : Waits P} where
       one_made_through same_id (subst (λ r. Fits b.id (registrations_of b.epoll.registrations) request answer calls (registrations_of r)) (sym same) fit)
       (ap (λ (r : RegistrationState). r.ready) same ∙ cancel_removed_other request answer none b.epoll.registrations.ready) led (ap (λ (r : RegistrationState). r.capacity) same)
 
-pub refused_by_manager : (registrations : Registrations) (e : Event) (x : Error) → IsVacant registrations e (Err x) → IsAdditionRefused registrations e (Err x)
-refused_by_manager registrations e x (inl h) = inl (h.0, ap Err h.1)
-refused_by_manager registrations e x (inr h) = inr (inl (h.0, h.1, ap Err h.2))
-
 -- an addition at the lowest priority is one without a priority
 lowest_fits : (i : ℕ) (b : Registrations) (e : Event) (answer : Answer) (calls : List PollerCall) (a : Registrations) → Fits i b (AddWithPriority e Lowest) answer calls a → Fits i b (Add e) answer calls a
-lowest_fits i b e answer calls a (by_manager why none same) = by_manager why none same
-lowest_fits i b e answer calls a (by_poller n reaches one is same) = by_poller n reaches one is same
-lowest_fits i b e answer calls a (by_agreement reaches one is same) = by_agreement reaches one is same
+lowest_fits i b e answer calls a (by_manager error why none is same) = by_manager error why none is same
+lowest_fits i b e answer calls a (without_memory adds agreed none is same) = without_memory adds agreed none is same
+lowest_fits i b e answer calls a (by_poller n agreed one is same) = by_poller n agreed one is same
+lowest_fits i b e answer calls a (by_agreement agreed one is same) = by_agreement agreed one is same
 
 pub lowest_made : {P : Type 0} {controls : Controls P} {waits : Waits P} (before after : EventOps P) (e : Event) (answer : Answer) (calls : List PollerCall)
     → AreMadeThrough controls waits before after ((AddWithPriority e Lowest, answer) ∷ []) calls → AreMadeThrough controls waits before after ((Add e, answer) ∷ []) calls
@@ -143,30 +138,26 @@ abbrev nothing_pending : Registrations → Registrations
 nothing_pending registrations = record registrations { pending = [] }
 
 idle_fit : (i : ℕ) (b : Registrations) (request : Request) (answer : Answer) (calls : List PollerCall) (a : Registrations) → Fits i b request answer calls a → Fits i (nothing_pending b) request answer calls (nothing_pending a)
-idle_fit i b (Add e) answer calls a (by_manager why none same) = by_manager why none (ap nothing_pending same)
-idle_fit i b (AddWithPriority e priority) answer calls a (by_manager why none same) = by_manager why none (ap nothing_pending same)
-idle_fit i b (Modify e) answer calls a (by_manager why none same) = by_manager why none (ap nothing_pending same)
-idle_fit i b (Remove e) answer calls a (by_manager why none same) = by_manager why none (ap nothing_pending same)
-idle_fit i b (Add e) answer calls a (by_poller n reaches one is same) = by_poller n reaches one is (ap nothing_pending same)
-idle_fit i b (AddWithPriority e priority) answer calls a (by_poller n reaches one is same) = by_poller n reaches one is (ap nothing_pending same)
-idle_fit i b (Modify e) answer calls a (by_poller n reaches one is same) = by_poller n reaches one is (ap nothing_pending same)
-idle_fit i b (Remove e) answer calls a (by_poller n reaches one is same) = by_poller n reaches one is (ap nothing_pending same)
-idle_fit i b (Add e) answer calls a (by_agreement reaches one is same) = by_agreement reaches one is (ap nothing_pending same)
-idle_fit i b (AddWithPriority e priority) answer calls a (by_agreement reaches one is same) = by_agreement reaches one is (ap nothing_pending same)
-idle_fit i b (Modify e) answer calls a (by_agreement reaches one is same) = by_agreement reaches one is (ap nothing_pending same)
-idle_fit i b (Remove e) answer calls a (by_agreement reaches one is same) = by_agreement reaches one is (ap nothing_pending same)
+idle_fit i b request answer calls a (by_manager error why none is same) = by_manager error why none is (ap nothing_pending same)
+idle_fit i b request answer calls a (without_memory adds agreed none is same) = without_memory adds agreed none is (ap nothing_pending same)
+idle_fit i b request answer calls a (by_poller n agreed one is same) = by_poller n agreed one is (ap nothing_pending same)
+idle_fit i b (Add e) answer calls a (by_agreement agreed one is same) = by_agreement agreed one is (ap nothing_pending same)
+idle_fit i b (AddWithPriority e priority) answer calls a (by_agreement agreed one is same) = by_agreement agreed one is (ap nothing_pending same)
+idle_fit i b (Modify e) answer calls a (by_agreement agreed one is same) = by_agreement agreed one is (ap nothing_pending same)
+idle_fit i b (Remove e) answer calls a (by_agreement agreed one is same) = by_agreement agreed one is (ap nothing_pending same)
 
 pub idle_fits : (i : ℕ) (b : Registrations) (exchanges : Exchanges) (calls : List PollerCall) (a : Registrations) → ExchangesFit i b exchanges calls a → ExchangesFit i (nothing_pending b) exchanges calls (nothing_pending a)
 idle_fits i b [] calls a h = (h.0, ap nothing_pending h.1)
 idle_fits i b (exchange ∷ exchanges) calls a h = (h.0, h.1, nothing_pending h.2, h.3, idle_fit i b exchange.0 exchange.1 h.0 h.2 h.4, idle_fits i h.2 exchanges h.1 a h.5)
 
 fit_keeps_endpoint : (i : ℕ) (b : Registrations) (request : Request) (answer : Answer) (calls : List PollerCall) (a : Registrations) → Fits i b request answer calls a → a.endpoint ≡ b.endpoint
-fit_keeps_endpoint i b request answer calls a (by_manager why none same) = ap (λ (r : Registrations). r.endpoint) same
-fit_keeps_endpoint i b request answer calls a (by_poller n reaches one is same) = ap (λ (r : Registrations). r.endpoint) same
-fit_keeps_endpoint i b (Add e) answer calls a (by_agreement reaches one is same) = ap (λ (r : Registrations). r.endpoint) same
-fit_keeps_endpoint i b (AddWithPriority e priority) answer calls a (by_agreement reaches one is same) = ap (λ (r : Registrations). r.endpoint) same
-fit_keeps_endpoint i b (Modify e) answer calls a (by_agreement reaches one is same) = ap (λ (r : Registrations). r.endpoint) same
-fit_keeps_endpoint i b (Remove e) answer calls a (by_agreement reaches one is same) = ap (λ (r : Registrations). r.endpoint) same
+fit_keeps_endpoint i b request answer calls a (by_manager error why none is same) = ap (λ (r : Registrations). r.endpoint) same
+fit_keeps_endpoint i b request answer calls a (without_memory adds agreed none is same) = ap (λ (r : Registrations). r.endpoint) same
+fit_keeps_endpoint i b request answer calls a (by_poller n agreed one is same) = ap (λ (r : Registrations). r.endpoint) same
+fit_keeps_endpoint i b (Add e) answer calls a (by_agreement agreed one is same) = ap (λ (r : Registrations). r.endpoint) same
+fit_keeps_endpoint i b (AddWithPriority e priority) answer calls a (by_agreement agreed one is same) = ap (λ (r : Registrations). r.endpoint) same
+fit_keeps_endpoint i b (Modify e) answer calls a (by_agreement agreed one is same) = ap (λ (r : Registrations). r.endpoint) same
+fit_keeps_endpoint i b (Remove e) answer calls a (by_agreement agreed one is same) = ap (λ (r : Registrations). r.endpoint) same
 
 pub exchanges_keep_endpoint : (i : ℕ) (b : Registrations) (exchanges : Exchanges) (calls : List PollerCall) (a : Registrations) → ExchangesFit i b exchanges calls a → a.endpoint ≡ b.endpoint
 exchanges_keep_endpoint i b [] calls a h = ap (λ (r : Registrations). r.endpoint) h.1

@@ -4,6 +4,7 @@ pub mod OwnersBelow
 pub mod DispatchSoFar
 pub mod ExchangeLemmas
 pub mod Positions
+pub mod Refusals
 pub mod Releasing
 pub mod RequestsSoFar
 pub mod StepExchangeLemmas

@@ -3,7 +3,7 @@ use Rattle.std.specs.Prelude.{◌≡◌, ℕ, ◌<◌, ◌^◌, cond, IsSome}
 use Rattle.std.specs.FinMap.{get}
 use Rattle.dispatch_tables.specs.Ownership.{OwnerMap, owner_of}
 use Rattle.dispatch_tables.specs.Owners.{AreCounted}
-use Rattle.event_loop.specs.Registry.{is_id}
+use Rattle.event_loop.specs.Registrations.{is_id}
 use Rattle.dispatch_tables.specs.WatchLists.{times_watched, AreDistinct}
 use Rattle.dispatch_tables.specs.declared.watch_lists.WatchLists.{WatchLists}
 

@@ -1,11 +1,12 @@
 -- Requests of a subscriber, their answers, and what they do to the registrations.
-use Rattle.std.specs.Prelude.{◌≡◌, ℕ, ◌+◌, ◌==◌, ℤ, Bool, false, not, List, [], ◌∷◌, ◌++◌, map, filter, ◌⊎◌, Option, Some, None, unwrap_or, MatchOption, Result, Ok, Err, pos}
+use Rattle.std.specs.Prelude.{◌≡◌, ℕ, ◌+◌, ◌==◌, ℤ, Bool, false, not, List, [], ◌∷◌, ◌++◌, map, filter, Option, Some, None, unwrap_or, is_some, IsSome, if◌then◌else◌, Result, Ok, Err, pos}
 use Rattle.std.specs.List.{list_any}
 use Rattle.std.specs.Result.{result_and}
 use Rattle.std.specs.FinMap as finite
 use Rattle.dispatch_tables.specs.Event.{Event}
 use Rattle.event_loop.specs.PollerCall.{PollerCall, Control}
-use Rattle.event_loop.specs.Registrations.{Registrations, Owns, IsFree}
+use Rattle.event_loop.specs.Registrations.{Registrations, is_id}
+use Rattle.dispatch_tables.specs.Ownership.{owner_of}
 use Rattle.dispatch_tables.specs.declared.priority.Priority.{Priority}
 use Rattle.dispatch_tables.specs.declared.priority.Priority.TheVariants.{Lowest}
 use Rattle.vmm_sys.specs.declared.errno.Errno.{Errno}
@@ -46,31 +47,19 @@ operation_of request = operation.Add
 abbrev pub call_for : Request → Result (Unit {0}) Errno → PollerCall
 call_for request answer = Control (operation_of request) (event_of request).fd (event_of request) answer
 
--- whether the descriptor of an event may be added, as far as the registrations say
-abbrev pub IsVacant : Registrations → Event → Answer → Type 0
-IsVacant registrations e (Ok entry) = IsFree registrations e.fd × ¬ (e.fd ≡ registrations.endpoint)
-IsVacant registrations e (Err error) =
-    (¬ IsFree registrations e.fd × (error ≡ FdAlreadyRegistered))
-    ⊎ (IsFree registrations e.fd × (e.fd ≡ registrations.endpoint) × (error ≡ Epoll (record { 0 = pos 17 })))
+-- the first reason to refuse an addition without asking the poller: someone owns the descriptor; it is the endpoint's
+abbrev pub addition_refusal : Registrations → ℕ → Option Error
+addition_refusal registrations fd =
+    if is_some (finite.get registrations.owners fd) then Some FdAlreadyRegistered
+    else if fd == registrations.endpoint then Some (Epoll (record { 0 = pos 17 }))
+    else None
 
--- what an addition is answered without the poller being asked: a descriptor that someone owns, the
--- endpoint's, or no memory, in this order
-abbrev pub IsAdditionRefused : Registrations → Event → Answer → Type 0
-IsAdditionRefused registrations e answer =
-    (¬ IsFree registrations e.fd × (answer ≡ Err FdAlreadyRegistered))
-    ⊎ (IsFree registrations e.fd × (e.fd ≡ registrations.endpoint) × (answer ≡ epoll_error (pos 17)))
-    ⊎ (IsFree registrations e.fd × ¬ (e.fd ≡ registrations.endpoint) × (answer ≡ Err OutOfMemory))
-
--- what id i is answered without the poller being asked: as said of an addition; a descriptor that is not its own
-abbrev pub IsRefusedByManager : ℕ → Registrations → Request → Answer → Type 0
-IsRefusedByManager i registrations request answer =
-    MatchOption (priority_asked request) (¬ Owns i registrations (event_of request).fd × (answer ≡ epoll_error (pos 2))) (λ priority. IsAdditionRefused registrations (event_of request) answer)
-
--- whether the request reaches the poller
-abbrev pub ReachesPoller : ℕ → Registrations → Request → Type 0
-ReachesPoller i registrations request =
-    MatchOption (priority_asked request) (Owns i registrations (event_of request).fd)
-    (λ priority. IsFree registrations (event_of request).fd × ¬ ((event_of request).fd ≡ registrations.endpoint))
+-- the first reason to refuse id i a request without asking the poller: as said of an addition; else i isn't the owner
+abbrev pub refusal_of : ℕ → Registrations → Request → Option Error
+refusal_of i registrations request =
+    if is_some (priority_asked request) then addition_refusal registrations (event_of request).fd
+    else if is_id i (owner_of registrations.owners (event_of request).fd) then None
+    else Some (Epoll (record { 0 = pos 2 }))
 
 -- the registrations once the poller agreed: id i owns what it added; what it removed is free, and its events are pending no more
 abbrev pub registrations_after : ℕ → Request → Registrations → Registrations
@@ -82,10 +71,14 @@ registrations_after i request registrations =
 
 -- From these registrations, id i may get this answer to the request after these poller calls, and leave the registrations after.
 pub data Fits (i : ℕ) (registrations : Registrations) (request : Request) (answer : Answer) (calls : List PollerCall) (after : Registrations) : Type 0 where
-  by_manager : IsRefusedByManager i registrations request answer → calls ≡ [] → after ≡ registrations → Fits i registrations request answer calls after
-  by_poller : (number : ℤ) → ReachesPoller i registrations request → calls ≡ call_for request (Err (record { 0 = number })) ∷ [] → answer ≡ epoll_error number
+  by_manager : (error : Error) → refusal_of i registrations request ≡ Some error → calls ≡ [] → answer ≡ Err error
       → after ≡ registrations → Fits i registrations request answer calls after
-  by_agreement : ReachesPoller i registrations request → calls ≡ call_for request (Ok tt) ∷ [] → answer ≡ Ok tt
+  without_memory : IsSome (priority_asked request) → refusal_of i registrations request ≡ None → calls ≡ []
+      → answer ≡ Err OutOfMemory → after ≡ registrations → Fits i registrations request answer calls after
+  by_poller : (number : ℤ) → refusal_of i registrations request ≡ None
+      → calls ≡ call_for request (Err (record { 0 = number })) ∷ [] → answer ≡ epoll_error number
+      → after ≡ registrations → Fits i registrations request answer calls after
+  by_agreement : refusal_of i registrations request ≡ None → calls ≡ call_for request (Ok tt) ∷ [] → answer ≡ Ok tt
       → after ≡ registrations_after i request registrations → Fits i registrations request answer calls after
 
 -- a list of requests with their answers

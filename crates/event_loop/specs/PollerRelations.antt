@@ -5,13 +5,13 @@ use Rattle.vmm_sys.specs.declared.entries.EpollEvent.{EpollEvent}
 use Rattle.vmm_sys.specs.declared.errno.Errno.{Errno}
 use Rattle.vmm_sys.specs.declared.entries.ControlOperation.{ControlOperation}
 use Rattle.vmm_sys.specs.declared.poller.Poller.{Ghosts}
-use Rattle.dispatch_tables.specs.Event.{Event, word_of_parts, event_of_entry}
-use Rattle.vmm_sys.specs.EpollEvent.{event}
+use Rattle.dispatch_tables.specs.Event.{Event, event_of_entry}
+use Rattle.vmm_sys.specs.EpollEvent.{event, word_of_halves}
 use Rattle.vmm_sys.specs.EventSet.{with_bits}
 
 -- an event as it is packed for a poller
 abbrev pub entry_of_event : Event → EpollEvent
-entry_of_event e = event (with_bits e.set) (word_of_parts e.payload e.fd)
+entry_of_event e = event (with_bits e.set) (word_of_halves e.payload e.fd)
 
 -- What a wait may give by a poller's relation between its states: a report, or a refusal.
 abbrev pub WaitsBy : (Gv → ℤ → ℕ → Result ℕ Errno → List EpollEvent → Gv → Type 0) → Gv → ℤ → ℕ → Result (List Event) Errno → Gv → Type 0

@@ -1,10 +1,10 @@
 -- Subscribers by id, and the steps: a join, a leave, another value, a list of requests.
-use Rattle.std.specs.Prelude.{◌≡◌, ℕ, ◌+◌, ◌-◌, ◌^◌, ◌<◌, ◌==◌, Bool, false, not, List, [], ◌⊎◌, ◌↔◌, Option, Some, None, Result, Contains, AllPairs}
+use Rattle.std.specs.Prelude.{◌≡◌, ℕ, ◌+◌, ◌-◌, ◌^◌, ◌<◌, not, List, [], ◌⊎◌, ◌↔◌, Option, Some, None, Result, Contains, AllPairs}
 use Rattle.std.specs.List.{AllZip}
 use Rattle.std.specs.FinMap as map
 use Rattle.std.specs.Ordering.{nat_cmp}
 use Rattle.dispatch_tables.specs.Ownership.{OwnerMap, owner_of}
-use Rattle.event_loop.specs.Registrations.{Registrations, Owns}
+use Rattle.event_loop.specs.Registrations.{Registrations, Owns, is_id}
 use Rattle.event_loop.specs.PollerCall.{PollerCall, Control}
 use Rattle.event_loop.specs.Exchange.{Exchanges, ExchangesFit, Begins}
 use Rattle.vmm_sys.specs.declared.errno.Errno.{Errno}
@@ -30,11 +30,6 @@ pub data LoopStep (V : Type 0) : Type 0 where
 -- may: which steps, with their answers, a job may take in a manager, and which reply it then gives
 abbrev pub May : Type 0 → Type 0 → Type 0 → Type 1
 May V J R = J → List (LoopStep V) → R → Type 0
-
--- is the owner id i?
-abbrev pub is_id : ℕ → Option ℕ → Bool
-is_id i None = false
-is_id i (Some j) = j == i
 
 -- the owners without id i
 abbrev pub without_owner : ℕ → OwnerMap → OwnerMap

@@ -3,11 +3,12 @@
 ghost use Rattle.std.specs.Prelude.{◌≡◌, ◌≤◌, ◌<◌, ◌+◌, ◌^◌, length, take, vec_capacity, OnOk, IfErr, IfSome, IsTrue, ◌↔◌, All};
 ghost use Rattle.std.specs.Prelude as prelude;
 ghost use Rattle.std.specs.FinMap as map;
+ghost use Rattle.std.specs.Result.{result_err};
 ghost use Rattle.dispatch_tables.specs.ClassOrder.{IsOrdered};
 ghost use Rattle.dispatch_tables.specs.Event.{event_of_entry};
 ghost use Rattle.dispatch_tables.specs.Ownership.{class_in};
 ghost use Rattle.dispatch_tables.specs.Owners.{IsOwnerAt, AreCounted};
-ghost use Rattle.event_loop.specs.Exchange.{IsVacant};
+ghost use Rattle.event_loop.specs.Exchange.{addition_refusal};
 ghost use Rattle.event_loop.specs.RegistrationParts.{between_batches};
 ghost use Rattle.event_loop.specs.Registrations.{Owns, IsFree};
 ghost use Rattle.event_loop.specs.Registry.{AreOwnedBy, without_owner};
@@ -15,7 +16,6 @@ ghost use Rattle.event_loop.specs.Releasing.{AreWithout};
 
 use crate::error::{Error, Result};
 use crate::events::Events;
-use dispatch_tables::descriptor::fd_of;
 use dispatch_tables::dispatch_order::{ClassedEntry, order_by_class};
 use dispatch_tables::owners::{Owner, Owners};
 use dispatch_tables::priority::Priority;
@@ -107,7 +107,7 @@ impl DescriptorOwners {
     }
 
     pub(crate) fn check_vacant(&self, events: Events) -> Result<()>
-        ensures { IsVacant (between_batches self.now) events result }
+        ensures { result_err result ≡ addition_refusal (between_batches self.now) events.fd }
     {
         let fd = events.number();
         if self.owners.get(fd).is_some() {
@@ -205,7 +205,7 @@ impl DescriptorOwners {
         ensures value { IsOwnerAt self.now.owners (event_of_entry entry.now).fd result }
         ensures is_descriptor { IfSome result (λ _. (event_of_entry entry.now).fd < 2 ^ 31) }
     {
-        self.owners.get(fd_of(entry))
+        self.owners.get(entry.low_half())
     }
 
     pub(crate) fn order(

@@ -18,21 +18,21 @@ pub struct Events {
 }
 
 impl Model for Events {
-    ghost use Rattle.std.specs.Prelude.{◌<◌, ◌^◌, ◌%◌};
+    ghost use Rattle.std.specs.Prelude.{◌<◌, ◌^◌};
     ghost use Rattle.std.proofs.Common.{ap};
-    ghost use Rattle.vmm_sys.specs.EpollEvent.{word_of, set_of, event};
-    ghost use Rattle.dispatch_tables.specs.Event.{Event, word_of_parts, word_of_parts-halves, event_of_entry};
+    ghost use Rattle.vmm_sys.specs.EpollEvent.{word_of, low_half, set_of, event, word_of_halves-whole};
+    ghost use Rattle.dispatch_tables.specs.Event.{Event, event_of_entry};
     ghost use Rattle.event_loop.specs.PollerRelations.{entry_of_event};
 
     ghost Value = { Event };
 
     ghost view = { λ e. event_of_entry e.inner };
 
-    ghost invariant = { λ e. word_of e.inner % 2 ^ 32 < 2 ^ 31 };
+    ghost invariant = { λ e. low_half e.inner < 2 ^ 31 };
 
     ghost inverse = { λ e. record { inner = entry_of_event e } };
 
-    ghost inverse_ok = { λ e h. ap (λ w. record { inner = event (set_of e.inner) w }) (word_of_parts-halves (word_of e.inner)) };
+    ghost inverse_ok = { λ e h. ap (λ w. record { inner = event (set_of e.inner) w }) (word_of_halves-whole (word_of e.inner)) };
 }
 
 impl Events {
@@ -72,7 +72,7 @@ impl Events {
         ensures { result ≡ record { fd = unsigned_abs fd; payload = «data»; set = bits_of events } }
     {
         Events {
-            inner: EpollEvent::new(events, (data as u64) << 32 | fd as u64),
+            inner: EpollEvent::packed(events, fd as u32, data),
         }
     }
 
@@ -101,14 +101,14 @@ impl Events {
         ensures value { result ≡ self.now.fd }
         ensures is_descriptor { result < 2 ^ 31 }
     {
-        (self.inner.data() % 4294967296) as u32
+        self.inner.low_half()
     }
 
     /// The data.
     pub fn data(&self) -> u32
         ensures { result ≡ self.now.payload }
     {
-        (self.inner.data() >> 32) as u32
+        self.inner.high_half()
     }
 
     /// The set.

@@ -11,7 +11,6 @@ use crate::descriptor_owners::DescriptorOwners;
 use crate::events::Events;
 use crate::poller::EventPoller;
 use dispatch_tables::cancelled::{cancelled_at, enter};
-use dispatch_tables::descriptor::fd_of;
 use dispatch_tables::dispatch_order::ClassedEntry;
 use std::alloc::{AllocError, Global};
 use std::marker::Model;
@@ -101,7 +100,7 @@ impl ReadyList {
     {
         if self.at < self.count {
             let entry = self.buffer[self.at];
-            let fd = fd_of(&entry);
+            let fd = entry.low_half();
             let ready_entry = ReadyEntry {
                 entry,
                 cancelled: cancelled_at(&self.cancelled, fd).0,

@@ -2,11 +2,12 @@
 
 ghost use Rattle.std.specs.Prelude.{◌≡◌, ◌<◌, ◌^◌, List, [], ◌∷◌, OnOk, IfErr, IfOk, IfSome, Result, Bool, IsTrue, ◌↔◌, ◌==◌, MatchOption, All};
 ghost use Rattle.std.specs.FinMap as map;
+ghost use Rattle.std.specs.Result.{result_err};
 ghost use Rattle.dispatch_tables.specs.Event.{Event, event_of_entry};
 ghost use Rattle.event_loop.specs.PollerCall.{Wait, Leads};
 ghost use Rattle.event_loop.specs.Registrations.{Owns, IsFree};
 ghost use Rattle.event_loop.specs.Registry.{AreOwnedBy};
-ghost use Rattle.event_loop.specs.Exchange.{IsVacant};
+ghost use Rattle.event_loop.specs.Exchange.{addition_refusal};
 ghost use Rattle.dispatch_tables.specs.Owners.{IsOwnerAt};
 ghost use Rattle.event_loop.specs.RegistrationState.{registrations_of, cancel_on, left_in, HasWaited};
 ghost use Rattle.vmm_sys.specs.declared.errno.Errno.{Errno};
@@ -62,7 +63,7 @@ impl RegistrationState {
     }
 
     pub(crate) fn check_vacant(&self, events: Events) -> Result<()>
-        ensures { IsVacant (registrations_of self.now) events result }
+        ensures { result_err result ≡ addition_refusal (registrations_of self.now) events.fd }
     {
         self.owners.check_vacant(events)
     }

@@ -9,7 +9,7 @@ use Rattle.std.proofs.lemmas.List.Elements.{All-nil, All-cons, All-head, All-tai
 use Rattle.vmm_sys.specs.declared.errno.Errno.{Errno}
 use Rattle.dispatch_tables.specs.declared.priority.Priority.TheVariants.{Lowest}
 use Rattle.dispatch_tables.proofs.Owning.{from_insert}
-use Rattle.event_loop.specs.Prelude.{Event, Answer, Registrations, Owns, priority_asked, event_of, PollerCall, Exchanges, Fits, by_manager, by_poller, by_agreement, ExchangesFit, registrations_after, requests_of, Begins, Serves, Controls, Waits, Registry, LoopStep, Joined, NotJoined, Left, Replaced, Requested, Refused, Steps, is_id, new_registry, May, Delivery, Nobody, To, exchanges_of, Position, IsDelivery, AreDispatched, is_removed, still_pending, events_of, with_pending, LoopContents, contents_of, JobRun, IsIteration, AreRun, LoopState, IsJoin, HasStepped, IsLoopIteration}
+use Rattle.event_loop.specs.Prelude.{Event, Answer, Registrations, Owns, priority_asked, event_of, PollerCall, Exchanges, Fits, by_manager, without_memory, by_poller, by_agreement, ExchangesFit, registrations_after, requests_of, Begins, Serves, Controls, Waits, Registry, LoopStep, Joined, NotJoined, Left, Replaced, Requested, Refused, Steps, is_id, new_registry, May, Delivery, Nobody, To, exchanges_of, Position, IsDelivery, AreDispatched, is_removed, still_pending, events_of, with_pending, LoopContents, contents_of, JobRun, IsIteration, AreRun, LoopState, IsJoin, HasStepped, IsLoopIteration}
 use Rattle.event_loop.specs.declared.error.Error.{Error}
 use Rattle.event_loop.specs.declared.events.Request.{Request}
 use Rattle.event_loop.specs.declared.events.Request.TheVariants.{Add, AddWithPriority, Modify, Remove}
@@ -74,7 +74,8 @@ module _ (claims : ℕ → ℕ → Type 0) where
   agreed_claimed i registrations (Remove e) new were j fd owns = were j fd (owning.from_remove registrations.owners e.fd fd j owns)
 
   one_claimed : (i : ℕ) (before : Registrations) (request : Request) (answer : Answer) (calls : List PollerCall) (after : Registrations) → Fits i before request answer calls after → IfSome (priority_asked request) (λ priority. claims i (event_of request).fd) → AreClaimed before → AreClaimed after
-  one_claimed i before request answer calls after (by_manager h a is) new were = subst AreClaimed (sym is) were
+  one_claimed i before request answer calls after (by_manager error h a r is) new were = subst AreClaimed (sym is) were
+  one_claimed i before request answer calls after (without_memory adds h a r is) new were = subst AreClaimed (sym is) were
   one_claimed i before request answer calls after (by_poller n h a r is) new were = subst AreClaimed (sym is) were
   one_claimed i before request answer calls after (by_agreement h a r is) new were = subst AreClaimed (sym is) (agreed_claimed i before request new were)
 

@@ -1,8 +1,9 @@
 -- Maps with only one id's entries.
-use Rattle.std.proofs.Common.{◌≡◌, ◌≢◌, ℕ, ◌==◌, cond, Bool, true, false, not, refl, sym, ◌∙◌, ap, Some, None, Option, nat_cmp, eq-eqb, eqb-true, ne_eqb}
+use Rattle.std.proofs.Common.{◌≡◌, ◌≢◌, ℕ, ◌==◌, cond, Bool, true, false, not, refl, sym, ◌∙◌, ap, Some, None, Option, nat_cmp, eq-eqb, eqb-true, ne_eqb, arith}
 use Rattle.std.specs.Ordering.{eq_by_cmp}
 use Rattle.std.specs.FinMap.{FinMap, get, insert, remove, same_map, get-insert, get-remove, get-retain_keys, nat_cmp-IsAntisymmetric}
 use Rattle.std.specs.Cmp.{nat_cmp_total}
+use Rattle.std.proofs.lemmas.Bool.Decides.{nat_tests}
 use Rattle.event_loop.specs.Prelude.{Ownership, OwnerMap, owner_of, is_id, without_owner, Event, Registrations}
 use Rattle.dispatch_tables.proofs.NumberTests.{nat_tied}
 use Rattle.dispatch_tables.proofs.Owning.{owner_id-cond, owner_id}
@@ -38,6 +39,14 @@ get-owned_by i owners fd = get-retain_keys owners _ fd (λ x e. ap (λ y. is_id 
 
 pub owner_of-owned_by : (i : ℕ) (owners : OwnerMap) (fd : ℕ) → owner_of (owned_by i owners) fd ≡ cond (is_id i (owner_of owners fd)) (owner_of owners fd) None
 owner_of-owned_by i owners fd = ap owner_id (get-owned_by i owners fd) ∙ owner_id-cond (is_id i (owner_of owners fd)) (get owners fd) None
+
+-- whose a descriptor is tells that map too
+own_test : (i : ℕ) (o : Option ℕ) → is_id i (cond (is_id i o) o None) ≡ is_id i o
+own_test i None = refl
+own_test i (Some k) = grind (arith, nat_tests)
+
+pub is_id-owned_by : (i : ℕ) (owners : OwnerMap) (fd : ℕ) → is_id i (owner_of (owned_by i owners) fd) ≡ is_id i (owner_of owners fd)
+is_id-owned_by i owners fd = ap (is_id i) (owner_of-owned_by i owners fd) ∙ own_test i (owner_of owners fd)
 
 pub get_only : {V : Type 0} (i : ℕ) (values : FinMap nat_cmp V) (j : ℕ) → get (only_values i values) j ≡ cond (j == i) (get values j) None
 get_only i values j = get-retain_keys values _ j (λ x e. ap (λ y. y == i) (sym (nat_cmp-IsAntisymmetric j x e)))

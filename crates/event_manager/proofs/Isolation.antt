@@ -1,10 +1,10 @@
 -- What one id does leaves the others as they were; exchanges join; leaving frees exactly its own.
-use Rattle.std.proofs.Common.{◌≡◌, ◌≢◌, ℕ, ◌==◌, cond, Bool, true, false, not, refl, sym, ◌∙◌, ap, subst, Some, None, Option, inl, inr, nat_cmp, List, [], ◌∷◌, filter, true≢false, if◌then◌else◌, eq-eqb, arith}
+use Rattle.std.proofs.Common.{◌≡◌, ◌≢◌, ℕ, ◌==◌, cond, Bool, true, false, not, refl, sym, ◌∙◌, ap, subst, Some, None, Option, inl, inr, nat_cmp, List, [], ◌∷◌, filter, true≢false, if◌then◌else◌, eq-eqb}
 use Rattle.std.specs.FinMap.{FinMap, get, insert, remove, get-insert, get-remove}
 use Rattle.std.specs.Ordering.{eq_by_cmp}
 use Rattle.std.specs.Cmp.{nat_cmp_total}
-use Rattle.std.proofs.lemmas.Bool.Decides.{eqb_tells, nat_tests}
-use Rattle.event_loop.specs.Prelude.{Event, Registrations, IsFree, Ownership, OwnerMap, owner_of, PollerCall, Answer, Exchanges, Fits, by_manager, by_poller, by_agreement, ExchangesFit, ReachesPoller, registrations_after, Begins, Serves, Registry, LoopStep, Joined, NotJoined, Left, Replaced, Requested, Refused, Steps, is_id, id_of, without_owner, Delivery, Nobody, To, IsDelivery}
+use Rattle.std.proofs.lemmas.Bool.Decides.{eqb_tells}
+use Rattle.event_loop.specs.Prelude.{Event, Registrations, IsFree, Ownership, owner_of, PollerCall, Answer, Exchanges, Fits, by_manager, without_memory, by_poller, by_agreement, ExchangesFit, refusal_of, registrations_after, Begins, Serves, Registry, LoopStep, Joined, NotJoined, Left, Replaced, Requested, Refused, Steps, is_id, id_of, without_owner, Delivery, Nobody, To, IsDelivery}
 use Rattle.event_loop.specs.declared.events.Request.{Request}
 use Rattle.event_loop.specs.declared.events.Request.TheVariants.{Add, AddWithPriority, Modify, Remove}
 use Rattle.dispatch_tables.specs.declared.priority.Priority.{Priority}
@@ -13,9 +13,10 @@ use Rattle.event_manager.specs.Projection.{receiver_of, owned_by}
 use Rattle.event_manager.specs.Guarantees.{pending_of, IsUntouched, FreesExactly}
 use Rattle.dispatch_tables.proofs.NumberTests.{fd_tells, nat_tied}
 use Rattle.event_loop.proofs.WithoutOwner.{get-without_owner}
-use Rattle.event_manager.proofs.FiniteMaps.{owner_of-owned_by, owned_by-insert_other, owned_by-remove_other, owned_by-disowned_other, entered}
+use Rattle.event_manager.proofs.FiniteMaps.{is_id-owned_by, owned_by-insert_other, owned_by-remove_other, owned_by-disowned_other, entered}
 use Rattle.dispatch_tables.proofs.Owning.{owner_id}
 use Rattle.event_loop.proofs.ExchangeLemmas.{not_on}
+use Rattle.event_loop.proofs.Refusals.{is_vacant, is_own}
 
 -- leaving
 frees_answer : (i : ℕ) (o : Option Ownership) → cond (not (is_id i (owner_id o))) o None ≡ (if is_id i (owner_id o) then None else o)
@@ -34,15 +35,9 @@ pub record IsKept (j : ℕ) (before after : Registrations) : Type 0 where
   pub same : owned_by j after.owners ≡ owned_by j before.owners
   pub same_pending : pending_of j after ≡ pending_of j before
 
-own_test : (j : ℕ) (o : Option ℕ) → is_id j (cond (is_id j o) o None) ≡ is_id j o
-own_test j None = refl
-own_test j (Some k) = grind (arith, nat_tests)
-
 -- whether a descriptor is j's is told by the map of j's descriptors
 same_tests : (j : ℕ) (before after : Registrations) → owned_by j after.owners ≡ owned_by j before.owners → (fd : ℕ) → is_id j (owner_of after.owners fd) ≡ is_id j (owner_of before.owners fd)
-same_tests j before after same fd =
-    let told : (owners : OwnerMap) → is_id j (owner_of (owned_by j owners) fd) ≡ is_id j (owner_of owners fd) = λ owners. ap (is_id j) (owner_of-owned_by j owners fd) ∙ own_test j (owner_of owners fd) in
-    sym (told after.owners) ∙ ap (λ owners. is_id j (owner_of owners fd)) same ∙ told before.owners
+same_tests j before after same fd = sym (is_id-owned_by j after.owners fd) ∙ ap (λ owners. is_id j (owner_of owners fd)) same ∙ is_id-owned_by j before.owners fd
 
 pub kept_refl : (j : ℕ) (registrations : Registrations) → IsKept j registrations registrations
 kept_refl j registrations = record { same = refl; same_pending = refl }
@@ -67,20 +62,22 @@ kept_entered i j registrations e priority differ free =
     let s = owned_by-insert_other j registrations.owners e.fd (record { id = i; priority = priority }) (λ is. differ (sym is)) free in
     record { same = s; same_pending = filter_same _ _ registrations.pending (λ x. same_tests j registrations (entered i e priority registrations) s x.fd) }
 
-kept_after : (i j : ℕ) (registrations : Registrations) (request : Request) → j ≢ i → ReachesPoller i registrations request → IsKept j registrations (registrations_after i request registrations)
-kept_after i j registrations (Add e) differ h = kept_entered i j registrations e Lowest differ h.0
-kept_after i j registrations (AddWithPriority e priority) differ h = kept_entered i j registrations e priority differ h.0
+kept_after : (i j : ℕ) (registrations : Registrations) (request : Request) → j ≢ i → refusal_of i registrations request ≡ None → IsKept j registrations (registrations_after i request registrations)
+kept_after i j registrations (Add e) differ h = kept_entered i j registrations e Lowest differ (is_vacant registrations e.fd h).0
+kept_after i j registrations (AddWithPriority e priority) differ h = kept_entered i j registrations e priority differ (is_vacant registrations e.fd h).0
 kept_after i j registrations (Modify e) differ h = kept_refl j registrations
 kept_after i j registrations (Remove e) differ h =
-    let s = owned_by-remove_other j registrations.owners e.fd i (λ is. differ (sym is)) h in
+    let own = is_own i registrations e h in
+    let s = owned_by-remove_other j registrations.owners e.fd i (λ is. differ (sym is)) own in
     record {
       same = s;
       same_pending = filter_same _ _ (not_on e.fd registrations.pending) (λ x. same_tests j registrations (registrations_after i (Remove e) registrations) s x.fd)
-          ∙ filter_not_on (λ x. is_id j (owner_of registrations.owners x.fd)) e.fd registrations.pending (λ x t. ap (λ q. is_id j (owner_of registrations.owners q)) t ∙ ap (is_id j) h ∙ elim (eqb_tells i j) [ inl p ↦ absurd (differ (sym p.1)) | inr p ↦ p.0 ]);
+          ∙ filter_not_on (λ x. is_id j (owner_of registrations.owners x.fd)) e.fd registrations.pending (λ x t. ap (λ q. is_id j (owner_of registrations.owners q)) t ∙ ap (is_id j) own ∙ elim (eqb_tells i j) [ inl p ↦ absurd (differ (sym p.1)) | inr p ↦ p.0 ]);
     }
 
 kept_fits : (i j : ℕ) (registrations : Registrations) (request : Request) (answer : Answer) (calls : List PollerCall) (after : Registrations) → j ≢ i → Fits i registrations request answer calls after → IsKept j registrations after
-kept_fits i j registrations request answer calls after differ (by_manager h a e) = subst (IsKept j registrations) (sym e) (kept_refl j registrations)
+kept_fits i j registrations request answer calls after differ (by_manager error h a r e) = subst (IsKept j registrations) (sym e) (kept_refl j registrations)
+kept_fits i j registrations request answer calls after differ (without_memory adds h a r e) = subst (IsKept j registrations) (sym e) (kept_refl j registrations)
 kept_fits i j registrations request answer calls after differ (by_poller n h a r e) = subst (IsKept j registrations) (sym e) (kept_refl j registrations)
 kept_fits i j registrations request answer calls after differ (by_agreement h a r e) = subst (IsKept j registrations) (sym e) (kept_after i j registrations request differ h)
 

@@ -1,6 +1,7 @@
 -- What each service of a subscriber keeps, a run of a loop keeps: for contracts of one's own, whose relation between values is a
 -- parameter here. It is reflexive and transitive, and each service has it.
-use Rattle.std.proofs.Common.{◌≡◌, ◌<◌, ℕ, ◌+◌, ℤ, Bool, sym, ◌∙◌, ap, subst, arith, inl, inr, Some, None, Option, map, List, [], ◌∷◌, ◌++◌, append_assoc, Ok, Err, Result, lt_irrefl, All, IfOk}
+use Rattle.std.proofs.Common.{◌≡◌, ◌<◌, ℕ, ◌+◌, ℤ, Bool, sym, ◌∙◌, ap, subst, arith, inl, inr, Some, None, Option, map, List, [], ◌∷◌, ◌++◌, append_assoc, Ok, Err, Result, lt_irrefl, All, IfOk, true, false}
+use Rattle.std.specs.Prelude.{MatchBool, MatchOption}
 use Rattle.std.specs.FinMap.{FinMap, get, insert, get-empty}
 use Rattle.std.specs.Ordering.{nat_cmp}
 use Rattle.std.specs.List.{flat_map}
@@ -213,3 +214,13 @@ module _ {V : Type 0} (begins : Begins V) (serves : Serves V) (good : V → Type
     -- of what a run on threads answers
     pub run_good : {X E : Type 0} (result : Result X E) (subscribers : X → FinMap nat_cmp V) (taken : X → ℕ) → IfOk result (λ ended. HasEnded begins serves may (subscribers ended) (taken ended)) → IfOk result (λ ended. AllHeld good (subscribers ended))
     run_good result subscribers taken = IfOk-weaker result _ _ (λ ended has. ended_good (subscribers ended) (taken ended) has)
+
+-- of a service whose relation goes by cases: what holds in each of them holds
+pub by_either : (test : Bool) (First Second Goal : Type 0) → MatchBool test First Second → (First → Goal) → (Second → Goal) → Goal
+by_either true First Second Goal fact first second = first fact
+by_either false First Second Goal fact first second = second fact
+
+pub by_option : {A : Type 0} (option : Option A) (Nothing Goal : Type 0) (Something : A → Type 0)
+    → MatchOption option Nothing Something → (Nothing → Goal) → ((value : A) → Something value → Goal) → Goal
+by_option None Nothing Goal Something fact nothing something = nothing fact
+by_option (Some value) Nothing Goal Something fact nothing something = something value fact

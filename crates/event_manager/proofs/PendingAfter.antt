@@ -1,10 +1,10 @@
 -- What is pending after a position.
 use Rattle.std.proofs.Common.{Ok, eq-eqb, ne_eqb, ◌==◌, ◌≡◌, ℕ, cond, Bool, true, false, not, ◌||◌, refl, sym, ◌∙◌, ap, List, [], ◌∷◌, ◌++◌, filter, Err, inl, inr}
-use Rattle.event_loop.specs.Prelude.{Event, Registrations, PollerCall, Answer, Exchanges, Fits, by_manager, by_poller, by_agreement, ExchangesFit, registrations_after, has_removal, is_removal, Serves, Registry, Position, Delivery, Nobody, To, is_removed, still_pending, with_pending, IsDelivery}
+use Rattle.event_loop.specs.Prelude.{Event, Registrations, PollerCall, Answer, Exchanges, Fits, by_manager, without_memory, by_poller, by_agreement, ExchangesFit, registrations_after, has_removal, is_removal, Serves, Registry, Position, Delivery, Nobody, To, is_removed, still_pending, with_pending, IsDelivery}
 use Rattle.event_loop.specs.declared.events.Request.{Request}
 use Rattle.event_loop.specs.declared.events.Request.TheVariants.{Add, AddWithPriority, Modify, Remove}
 use Rattle.dispatch_tables.proofs.NumberTests.{fd_tells}
-use Rattle.event_manager.proofs.ProjectedExchanges.{no_removal, unasked_is_error}
+use Rattle.event_manager.proofs.ProjectedExchanges.{no_removal}
 use Rattle.event_loop.proofs.Positions.{is_removed-push}
 
 -- filters
@@ -40,7 +40,8 @@ agreed_pending i registrations (Modify e) = sym (filter_all _ registrations.pend
 agreed_pending i registrations (Remove e) = filter_alike _ _ registrations.pending (λ x. ap not (eq_swapped x.fd e.fd))
 
 fits_pending : (i : ℕ) (registrations : Registrations) (request : Request) (answer : Answer) (calls : List PollerCall) (after : Registrations) → Fits i registrations request answer calls after → after.pending ≡ filter (λ e. not (is_removal e.fd request answer)) registrations.pending
-fits_pending i registrations request answer calls after (by_manager h a e) = let err = unasked_is_error i registrations request answer h in unchanged registrations after request answer err.0 err.1 e
+fits_pending i registrations request answer calls after (by_manager error h a r e) = unchanged registrations after request answer error r e
+fits_pending i registrations request answer calls after (without_memory adds h a r e) = unchanged registrations after request answer _ r e
 fits_pending i registrations request answer calls after (by_poller n h a r e) = unchanged registrations after request answer _ r e
 fits_pending i registrations request answer calls after (by_agreement h a r e) = ap (λ (b : Registrations). b.pending) e ∙ agreed_pending i registrations request ∙ ap (λ x. filter (λ ev. not (is_removal ev.fd request x)) registrations.pending) (sym r)
 

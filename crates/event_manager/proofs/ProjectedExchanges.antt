@@ -4,17 +4,17 @@ use Rattle.std.specs.FinMap.{get, insert, remove}
 use Rattle.std.proofs.lemmas.Bool.{or_left, or_right, or_from}
 use Rattle.std.proofs.lemmas.Bool.Decides.{nat_tests, eqb_tells}
 use Rattle.std.proofs.lemmas.List.Folds.{list_any-append}
-use Rattle.event_loop.specs.Prelude.{Event, Registrations, PollerCall, Answer, Exchanges, Fits, by_manager, by_poller, by_agreement, ExchangesFit, IsRefusedByManager, ReachesPoller, registrations_after, has_removal, is_removal, Ownership, OwnerMap, owner_of, is_id}
+use Rattle.event_loop.specs.Prelude.{Event, Registrations, PollerCall, Answer, Exchanges, Fits, by_manager, without_memory, by_poller, by_agreement, ExchangesFit, refusal_of, registrations_after, has_removal, is_removal, Ownership, OwnerMap, owner_of, is_id}
 use Rattle.event_loop.specs.declared.events.Request.{Request}
 use Rattle.event_loop.specs.declared.events.Request.TheVariants.{Add, AddWithPriority, Modify, Remove}
-use Rattle.event_loop.specs.Exchange.{IsAdditionRefused}
 use Rattle.dispatch_tables.specs.declared.priority.Priority.{Priority}
 use Rattle.dispatch_tables.specs.declared.priority.Priority.TheVariants.{Lowest}
 use Rattle.event_manager.specs.Projection.{owned_by, projected_registrations, is_add, asks_to_add, has_addition}
 use Rattle.dispatch_tables.proofs.NumberTests.{fd_tells}
 use Rattle.dispatch_tables.proofs.Owning.{from_insert, from_remove, owner_id}
-use Rattle.event_manager.proofs.FiniteMaps.{get-owned_by, owner_of-owned_by, owned_by-insert_own, owned_by-remove, entered}
+use Rattle.event_manager.proofs.FiniteMaps.{get-owned_by, owner_of-owned_by, is_id-owned_by, owned_by-insert_own, owned_by-remove, entered}
 use Rattle.event_loop.proofs.ExchangeLemmas.{not_on}
+use Rattle.event_loop.proofs.Refusals.{is_vacant, is_own}
 
 pub int_eq_same : (fd : ℕ) → (fd == fd) ≡ true
 int_eq_same fd = eq-eqb fd fd refl
@@ -70,25 +70,12 @@ pub record OwnFits (i : ℕ) (mine : ℕ → Bool) (pending : List Event) (regis
   pub fits : Fits i (projected_registrations i pending registrations) request answer calls (projected_registrations i left after)
   pub still : IsMine i mine after.owners
 
-own_addition : (i : ℕ) (mine : ℕ → Bool) (pending : List Event) (registrations : Registrations) (e : Event) (answer : Answer) → IsMine i mine registrations.owners → mine e.fd ≡ true → IsAdditionRefused registrations e answer → IsAdditionRefused (projected_registrations i pending registrations) e answer
-own_addition i mine pending registrations e answer m claimed h =
-    let same = same_at_mine i mine registrations.owners e.fd m claimed in
-    elim h [
-      | inl t ↦ inl ((λ is_free. t.0 (sym same ∙ is_free)), t.1)
-      | inr t ↦ inr (elim t [ inl u ↦ inl (same ∙ u.0, u.1, u.2) | inr u ↦ inr (same ∙ u.0, u.1, u.2) ])
-    ]
-
-own_unasked : (i : ℕ) (mine : ℕ → Bool) (pending : List Event) (registrations : Registrations) (request : Request) (answer : Answer) → IsMine i mine registrations.owners → ((fd : ℕ) → is_add fd request ≡ true → mine fd ≡ true) → IsRefusedByManager i registrations request answer → IsRefusedByManager i (projected_registrations i pending registrations) request answer
-own_unasked i mine pending registrations (Add e) answer m claimed h = own_addition i mine pending registrations e answer m (claimed e.fd (int_eq_same e.fd)) h
-own_unasked i mine pending registrations (AddWithPriority e priority) answer m claimed h = own_addition i mine pending registrations e answer m (claimed e.fd (int_eq_same e.fd)) h
-own_unasked i mine pending registrations (Modify e) answer m claimed h = ((λ own. h.0 (owned_from_projected i registrations.owners e.fd own)), h.1)
-own_unasked i mine pending registrations (Remove e) answer m claimed h = ((λ own. h.0 (owned_from_projected i registrations.owners e.fd own)), h.1)
-
-own_asked : (i : ℕ) (mine : ℕ → Bool) (pending : List Event) (registrations : Registrations) (request : Request) → IsMine i mine registrations.owners → ((fd : ℕ) → is_add fd request ≡ true → mine fd ≡ true) → ReachesPoller i registrations request → ReachesPoller i (projected_registrations i pending registrations) request
-own_asked i mine pending registrations (Add e) m claimed h = (same_at_mine i mine registrations.owners e.fd m (claimed e.fd (int_eq_same e.fd)) ∙ h.0, h.1)
-own_asked i mine pending registrations (AddWithPriority e priority) m claimed h = (same_at_mine i mine registrations.owners e.fd m (claimed e.fd (int_eq_same e.fd)) ∙ h.0, h.1)
-own_asked i mine pending registrations (Modify e) m claimed h = owned_projected i registrations.owners e.fd h
-own_asked i mine pending registrations (Remove e) m claimed h = owned_projected i registrations.owners e.fd h
+-- the projection refuses i's requests as before
+own_refusal : (i : ℕ) (mine : ℕ → Bool) (pending : List Event) (registrations : Registrations) (request : Request) → IsMine i mine registrations.owners → ((fd : ℕ) → is_add fd request ≡ true → mine fd ≡ true) → refusal_of i (projected_registrations i pending registrations) request ≡ refusal_of i registrations request
+own_refusal i mine pending registrations (Add e) m claimed = rw (same_at_mine i mine registrations.owners e.fd m (claimed e.fd (int_eq_same e.fd))) refl
+own_refusal i mine pending registrations (AddWithPriority e priority) m claimed = rw (same_at_mine i mine registrations.owners e.fd m (claimed e.fd (int_eq_same e.fd))) refl
+own_refusal i mine pending registrations (Modify e) m claimed = rw (is_id-owned_by i registrations.owners e.fd) refl
+own_refusal i mine pending registrations (Remove e) m claimed = rw (is_id-owned_by i registrations.owners e.fd) refl
 
 abbrev left_after : Request → List Event → List Event
 left_after (Add e) pending = pending
@@ -120,23 +107,23 @@ own_still i mine registrations (AddWithPriority e priority) m claimed = own_stil
 own_still i mine registrations (Modify e) m claimed = m
 own_still i mine registrations (Remove e) m claimed = mine-remove i mine registrations.owners e.fd m
 
+own_unchanged : (i : ℕ) (mine : ℕ → Bool) (pending : List Event) (registrations : Registrations) (request : Request) (answer : Answer) (calls : List PollerCall) (after : Registrations) → IsMine i mine registrations.owners → after ≡ registrations
+    → (projected_registrations i pending after ≡ projected_registrations i pending registrations → Fits i (projected_registrations i pending registrations) request answer calls (projected_registrations i pending after)) → OwnFits i mine pending registrations request answer calls after
+own_unchanged i mine pending registrations request answer calls after m e fits = record {
+  left = pending;
+  none = λ z. z;
+  fits = fits (ap (projected_registrations i pending) e);
+  still = subst (λ b. IsMine i mine b.owners) (sym e) m;
+}
+
 pub own_fits : (i : ℕ) (mine : ℕ → Bool) (pending : List Event) (registrations : Registrations) (request : Request) (answer : Answer) (calls : List PollerCall) (after : Registrations) → IsMine i mine registrations.owners → ((fd : ℕ) → is_add fd request ≡ true → mine fd ≡ true) → Fits i registrations request answer calls after → OwnFits i mine pending registrations request answer calls after
-own_fits i mine pending registrations request answer calls after m claimed (by_manager h a e) = record {
-  left = pending;
-  none = λ z. z;
-  fits = by_manager (own_unasked i mine pending registrations request answer m claimed h) a (ap (projected_registrations i pending) e);
-  still = subst (λ b. IsMine i mine b.owners) (sym e) m;
-}
-own_fits i mine pending registrations request answer calls after m claimed (by_poller number h a r e) = record {
-  left = pending;
-  none = λ z. z;
-  fits = by_poller number (own_asked i mine pending registrations request m claimed h) a r (ap (projected_registrations i pending) e);
-  still = subst (λ b. IsMine i mine b.owners) (sym e) m;
-}
+own_fits i mine pending registrations request answer calls after m claimed (by_manager error h a r e) = own_unchanged i mine pending registrations request answer calls after m e (by_manager error (own_refusal i mine pending registrations request m claimed ∙ h) a r)
+own_fits i mine pending registrations request answer calls after m claimed (without_memory adds h a r e) = own_unchanged i mine pending registrations request answer calls after m e (without_memory adds (own_refusal i mine pending registrations request m claimed ∙ h) a r)
+own_fits i mine pending registrations request answer calls after m claimed (by_poller number h a r e) = own_unchanged i mine pending registrations request answer calls after m e (by_poller number (own_refusal i mine pending registrations request m claimed ∙ h) a r)
 own_fits i mine pending registrations request answer calls after m claimed (by_agreement h a r e) = record {
   left = left_after request pending;
   none = left_none request pending;
-  fits = by_agreement (own_asked i mine pending registrations request m claimed h) a r (ap (projected_registrations i (left_after request pending)) e ∙ own_after i pending registrations request);
+  fits = by_agreement (own_refusal i mine pending registrations request m claimed ∙ h) a r (ap (projected_registrations i (left_after request pending)) e ∙ own_after i pending registrations request);
   still = subst (λ b. IsMine i mine b.owners) (sym e) (own_still i mine registrations request m claimed);
 }
 
@@ -151,18 +138,6 @@ no_removal fd (AddWithPriority e priority) answer error r = refl
 no_removal fd (Modify e) answer error r = refl
 no_removal fd (Remove e) answer error r = rw r refl
 
-addition_is_error : (registrations : Registrations) (e : Event) (answer : Answer) → IsAdditionRefused registrations e answer → (error : _) × (answer ≡ Err error)
-addition_is_error registrations e answer h = elim h [
-  | inl t ↦ (_, t.1)
-  | inr t ↦ elim t [ inl u ↦ (_, u.2) | inr u ↦ (_, u.2) ]
-]
-
-pub unasked_is_error : (i : ℕ) (registrations : Registrations) (request : Request) (answer : Answer) → IsRefusedByManager i registrations request answer → (error : _) × (answer ≡ Err error)
-unasked_is_error i registrations (Add e) answer h = addition_is_error registrations e answer h
-unasked_is_error i registrations (AddWithPriority e priority) answer h = addition_is_error registrations e answer h
-unasked_is_error i registrations (Modify e) answer h = (_, h.1)
-unasked_is_error i registrations (Remove e) answer h = (_, h.1)
-
 other_unchanged : (i : ℕ) (mine : ℕ → Bool) (registrations : Registrations) (request : Request) (answer : Answer) (after : Registrations) → IsMine i mine registrations.owners → (error : _) → answer ≡ Err error → after ≡ registrations → OtherFits i mine registrations request answer after
 other_unchanged i mine registrations request answer after m error r e = record {
   still = subst (λ b. IsMine i mine b.owners) (sym e) m;
@@ -175,20 +150,21 @@ other_entered i j mine registrations e priority request differ m foreign free no
   apart = λ fd t. none fd;
 }
 
-other_agreed : (i j : ℕ) (mine : ℕ → Bool) (registrations : Registrations) (request : Request) → j ≢ i → IsMine i mine registrations.owners → ((fd : ℕ) → is_add fd request ≡ true → mine fd ≡ false) → ReachesPoller j registrations request → OtherFits i mine registrations request (Ok tt) (registrations_after j request registrations)
-other_agreed i j mine registrations (Add e) differ m foreign h = other_entered i j mine registrations e Lowest (Add e) differ m (foreign e.fd (int_eq_same e.fd)) h.0 (λ fd. refl)
-other_agreed i j mine registrations (AddWithPriority e priority) differ m foreign h = other_entered i j mine registrations e priority (AddWithPriority e priority) differ m (foreign e.fd (int_eq_same e.fd)) h.0 (λ fd. refl)
+other_agreed : (i j : ℕ) (mine : ℕ → Bool) (registrations : Registrations) (request : Request) → j ≢ i → IsMine i mine registrations.owners → ((fd : ℕ) → is_add fd request ≡ true → mine fd ≡ false) → refusal_of j registrations request ≡ None → OtherFits i mine registrations request (Ok tt) (registrations_after j request registrations)
+other_agreed i j mine registrations (Add e) differ m foreign h = other_entered i j mine registrations e Lowest (Add e) differ m (foreign e.fd (int_eq_same e.fd)) (is_vacant registrations e.fd h).0 (λ fd. refl)
+other_agreed i j mine registrations (AddWithPriority e priority) differ m foreign h = other_entered i j mine registrations e priority (AddWithPriority e priority) differ m (foreign e.fd (int_eq_same e.fd)) (is_vacant registrations e.fd h).0 (λ fd. refl)
 other_agreed i j mine registrations (Modify e) differ m foreign h = record { still = m; apart = λ fd t. refl }
 other_agreed i j mine registrations (Remove e) differ m foreign h = record {
   still = mine-remove i mine registrations.owners e.fd m;
   apart = λ fd t. elim (fd_tells e.fd fd) [
-    | inl p ↦ absurd (true≢false (sym t ∙ ap mine (sym p.1) ∙ m.other e.fd j differ h))
+    | inl p ↦ absurd (true≢false (sym t ∙ ap mine (sym p.1) ∙ m.other e.fd j differ (is_own j registrations e h)))
     | inr p ↦ p.2
   ];
 }
 
 pub other_fits : (i j : ℕ) (mine : ℕ → Bool) (registrations : Registrations) (request : Request) (answer : Answer) (calls : List PollerCall) (after : Registrations) → j ≢ i → IsMine i mine registrations.owners → ((fd : ℕ) → (if is_ok answer then is_add fd request else false) ≡ true → mine fd ≡ false) → Fits j registrations request answer calls after → OtherFits i mine registrations request answer after
-other_fits i j mine registrations request answer calls after differ m foreign (by_manager h a e) = let err = unasked_is_error j registrations request answer h in other_unchanged i mine registrations request answer after m err.0 err.1 e
+other_fits i j mine registrations request answer calls after differ m foreign (by_manager error h a r e) = other_unchanged i mine registrations request answer after m error r e
+other_fits i j mine registrations request answer calls after differ m foreign (without_memory adds h a r e) = other_unchanged i mine registrations request answer after m _ r e
 other_fits i j mine registrations request answer calls after differ m foreign (by_poller number h a r e) = other_unchanged i mine registrations request answer after m _ r e
 other_fits i j mine registrations request answer calls after differ m foreign (by_agreement h a r e) =
     subst (λ b. OtherFits i mine registrations request answer b) (sym e)

@@ -4,7 +4,7 @@ use Rattle.std.specs.FinMap.{FinMap, get, insert, remove, get-insert, get-remove
 use Rattle.std.specs.Cmp.{nat_cmp_total, nat_cmp_is}
 use Rattle.std.specs.Ordering.{eq_by_cmp}
 use Rattle.std.proofs.lemmas.Bool.Decides.{eqb_tells}
-use Rattle.event_loop.specs.Prelude.{Event, Registrations, Owns, IsFree, PollerCall, Answer, Exchanges, Fits, by_manager, by_poller, by_agreement, ExchangesFit, ReachesPoller, registrations_after, Begins, Serves, Registry, LoopStep, Joined, NotJoined, Left, Replaced, Requested, Refused, Steps, is_id, without_owner, HasId, LacksId, AreBelow, May, Delivery, Nobody, To, Position, with_pending, IsDelivery, AreDispatched, is_removed, still_pending, events_of, LoopContents, Ownership, OwnerMap, owner_of}
+use Rattle.event_loop.specs.Prelude.{Event, Registrations, Owns, IsFree, PollerCall, Answer, Exchanges, Fits, by_manager, without_memory, by_poller, by_agreement, ExchangesFit, refusal_of, registrations_after, Begins, Serves, Registry, LoopStep, Joined, NotJoined, Left, Replaced, Requested, Refused, Steps, is_id, without_owner, HasId, LacksId, AreBelow, May, Delivery, Nobody, To, Position, with_pending, IsDelivery, AreDispatched, is_removed, still_pending, events_of, LoopContents, Ownership, OwnerMap, owner_of}
 use Rattle.event_loop.specs.declared.events.Request.{Request}
 use Rattle.event_loop.specs.declared.events.Request.TheVariants.{Add, AddWithPriority, Modify, Remove}
 use Rattle.event_manager.specs.Trace.{TraceEntry, IsTrace, new_state}
@@ -15,6 +15,7 @@ use Rattle.vmm_sys.specs.declared.errno.Errno.{Errno}
 use Rattle.dispatch_tables.specs.declared.priority.Priority.{Priority}
 use Rattle.dispatch_tables.specs.declared.priority.Priority.TheVariants.{Lowest}
 use Rattle.dispatch_tables.proofs.NumberTests.{fd_tells}
+use Rattle.event_loop.proofs.Refusals.{is_vacant}
 use Rattle.event_loop.proofs.WithoutOwner.{get-without_owner, owner_of-without_owner}
 use Rattle.event_manager.proofs.ProjectedSteps.{from_disowned}
 use Rattle.dispatch_tables.proofs.Owning.{from_insert, from_remove, owner_id}
@@ -48,9 +49,9 @@ both_none : {A : Type 0} (b : Bool) → cond {A = Option A} b None None ≡ None
 both_none true = refl
 both_none false = refl
 
-owners_after : (i : ℕ) (registrations : Registrations) (request : Request) → ReachesPoller i registrations request → OwnersAfter i registrations (registrations_after i request registrations)
-owners_after i registrations (Add e) h = owners_entered i Lowest registrations e h.1
-owners_after i registrations (AddWithPriority e priority) h = owners_entered i priority registrations e h.1
+owners_after : (i : ℕ) (registrations : Registrations) (request : Request) → refusal_of i registrations request ≡ None → OwnersAfter i registrations (registrations_after i request registrations)
+owners_after i registrations (Add e) h = owners_entered i Lowest registrations e (is_vacant registrations e.fd h).1
+owners_after i registrations (AddWithPriority e priority) h = owners_entered i priority registrations e (is_vacant registrations e.fd h).1
 owners_after i registrations (Modify e) h = owners_same i registrations
 owners_after i registrations (Remove e) h = record {
   from = λ fd j o. inl (from_remove registrations.owners e.fd fd j o);
@@ -60,7 +61,8 @@ owners_after i registrations (Remove e) h = record {
 }
 
 owners_fit : (i : ℕ) (registrations : Registrations) (request : Request) (answer : Answer) (calls : List PollerCall) (after : Registrations) → Fits i registrations request answer calls after → OwnersAfter i registrations after
-owners_fit i registrations request answer calls after (by_manager h a e) = subst (OwnersAfter i registrations) (sym e) (owners_same i registrations)
+owners_fit i registrations request answer calls after (by_manager error h a r e) = subst (OwnersAfter i registrations) (sym e) (owners_same i registrations)
+owners_fit i registrations request answer calls after (without_memory adds h a r e) = subst (OwnersAfter i registrations) (sym e) (owners_same i registrations)
 owners_fit i registrations request answer calls after (by_poller n h a r e) = subst (OwnersAfter i registrations) (sym e) (owners_same i registrations)
 owners_fit i registrations request answer calls after (by_agreement h a r e) = subst (OwnersAfter i registrations) (sym e) (owners_after i registrations request h)
 

@@ -35,6 +35,6 @@ pub use lists::drive;
 pub use loops::{ThreadLoop, with_loops};
 pub use manager::EventManager;
 pub use named_counter::{Named, NamedCounter};
-pub use senders::{Ended, LoopWithSenders, Sender, Senders, with_senders};
+pub use senders::{Ended, JobSender, LoopWithSenders, Senders, with_senders};
 pub use tracked::TrackedManager;
 pub use vmm_sys::counter::{Bell, Counter};

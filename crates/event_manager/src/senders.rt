@@ -23,7 +23,7 @@ use std::time::Clock;
 use vmm_sys::counter::Counter;
 
 /// Sends jobs of type `J` from a thread of its own, and returns a `T` in the end.
-pub trait Sender<S: MutEventSubscriber, J: Job<S>, T, R: Wait + Clock> {
+pub trait JobSender<S: MutEventSubscriber, J: Job<S>, T, R: Wait + Clock> {
     /// Sends its jobs through an endpoint of the loop beside it.
     fn send<N: NamedCounter>(self, endpoint: &RemoteEndpoint<S, J, N>, rt: &R) -> T;
 }
@@ -144,7 +144,7 @@ where
     S: MutEventSubscriber,
     J: Job<S>,
     N: NamedCounter,
-    Q: Sender<S, J, T, R>,
+    Q: JobSender<S, J, T, R>,
     R: Wait + Clock,
 {
     type Output = T;
@@ -219,7 +219,7 @@ where
     N: NamedCounter + Send + Sync,
     P: EventPoller + Drop,
     B: LoopWithSenders<S, J, Q, R>,
-    Q: Sender<S, J, T, R> + Send + Drop,
+    Q: JobSender<S, J, T, R> + Send + Drop,
     T: Send + Drop,
     R: Threads + Wait + Clock + Sync,
     ensures { IfOk result (λ gave. IfSome gave.0 (λ ended. HasEnded S.begins S.serves J.may ended.subscribers ended.closed.taken)) }
@@ -254,7 +254,7 @@ where
     P: EventPoller + Drop,
     C: Counter + Send + Sync + Drop,
     B: LoopWithSenders<S, J, Q, R>,
-    Q: Sender<S, J, T, R> + Send + Drop,
+    Q: JobSender<S, J, T, R> + Send + Drop,
     T: Send + Drop,
     R: Threads + Wait + Clock + Sync,
     requires tickets { (tickets.name ≡ N.tickets) × (tickets.parts ≡ 9223372036854775808) }
@@ -326,7 +326,7 @@ where
     P: EventPoller + Drop,
     C: Counter + Send + Sync + Drop,
     B: LoopWithSenders<S, J, Q, R>,
-    Q: Sender<S, J, T, R> + Send + Drop,
+    Q: JobSender<S, J, T, R> + Send + Drop,
     T: Send + Drop,
     R: Threads + Wait + Clock + Sync,
     ensures { IfOk result (λ ended. HasEnded S.begins S.serves J.may ended.subscribers ended.taken) }

@@ -7,7 +7,7 @@ use crate::jobs::{CountOne, Counter, count_at};
 use crate::progress::Progress;
 use anyhow::{Result, bail};
 use event_manager::{
-    ActionOn, Error, EventPoller, LoopWithSenders, NamedCounter, RemoteEndpoint, Sender,
+    ActionOn, Error, EventPoller, LoopWithSenders, NamedCounter, RemoteEndpoint, JobSender,
     SubscriberId, TrackedManager, with_senders,
 };
 use measures::arguments::Family;
@@ -68,7 +68,7 @@ impl<'a, R: Wait + Clock> LoopWithSenders<Counter, ActionOn<CountOne>, Caller<'a
     }
 }
 
-impl<R: Wait + Clock> Sender<Counter, ActionOn<CountOne>, Result<Times>, R> for Caller<'_> {
+impl<R: Wait + Clock> JobSender<Counter, ActionOn<CountOne>, Result<Times>, R> for Caller<'_> {
     /// Sends the jobs of all repeats.
     fn send<N: NamedCounter>(
         self,

@@ -1,12 +1,12 @@
 -- Two lists of exchanges that ask alike, from the same registrations and with poller calls of the same answers, are the same.
-use Rattle.std.proofs.Common.{◌≡◌, ◌≢◌, ℕ, ℤ, refl, sym, ap, subst, ◌∙◌, List, [], ◌∷◌, ◌++◌, map, append_assoc, arith, Ok, Err}
+use Rattle.std.proofs.Common.{◌≡◌, ◌≢◌, ℕ, ℤ, refl, sym, ap, subst, ◌∙◌, List, [], ◌∷◌, ◌++◌, map, append_assoc, arith, Some, None, Ok, Err}
 use Rattle.std.proofs.lemmas.List.{append_cancel_left, map-append}
 use Rattle.std.proofs.lemmas.List.Elements.{Contains-append_left, Contains-append_right}
-use Rattle.event_loop.specs.Prelude.{Event, PollerCall, Control, Wait, Registrations, IsFree, Exchanges, Answer, epoll_error, requests_of, answers_of, call_for, IsRefusedByManager, ReachesPoller, Fits, by_manager, by_poller, by_agreement, ExchangesFit}
+use Rattle.event_loop.specs.Prelude.{PollerCall, Control, Wait, Registrations, Exchanges, Answer, epoll_error, requests_of, answers_of, call_for, refusal_of, Fits, by_manager, without_memory, by_poller, by_agreement, ExchangesFit}
 use Rattle.event_loop.specs.declared.events.Request.{Request}
-use Rattle.event_loop.specs.declared.events.Request.TheVariants.{Add, AddWithPriority, Modify, Remove}
-use Rattle.event_loop.specs.Exchange.{IsAdditionRefused}
+use Rattle.event_loop.specs.declared.error.Error.{Error}
 use Rattle.event_loop.specs.declared.error.Error.TheVariants.{OutOfMemory}
+use Rattle.dispatch_tables.proofs.MapEntries.{some_is}
 use Rattle.vmm_sys.specs.declared.errno.Errno.{Errno}
 use Rattle.recorded_runs.specs.Determinism.{AskAlike, HaveMemory}
 use Rattle.event_loop.proofs.Releasing.{empty_event}
@@ -67,40 +67,22 @@ not_agreed : (request : Request) (x : ℤ) (rest more : List PollerCall)
 not_agreed request x rest more e = cc
 
 module _ (i : ℕ) (registrations : Registrations) where
-  abbrev IsUnasked : Request → Answer → Type 0
-  IsUnasked request answer = (answer ≢ Err OutOfMemory) × IsRefusedByManager i registrations request answer
-
-  -- what the manager answers by itself is decided, and the poller isn't asked then
-  one_addition : (e : Event) (a b : Answer) → a ≢ Err OutOfMemory → b ≢ Err OutOfMemory
-      → IsAdditionRefused registrations e a → IsAdditionRefused registrations e b → a ≡ b
-  one_addition e a b m n h k = grind arith
-
-  addition_unasked : (e : Event) (a : Answer) → a ≢ Err OutOfMemory → IsAdditionRefused registrations e a
-      → IsFree registrations e.fd → e.fd ≢ registrations.endpoint → ⊥
-  addition_unasked e a m h free apart = grind arith
-
-  one_refusal : (request : Request) (a b : Answer) → IsUnasked request a → IsUnasked request b → a ≡ b
-  one_refusal (Add e) a b h k = one_addition e a b h.0 k.0 h.1 k.1
-  one_refusal (AddWithPriority e priority) a b h k = one_addition e a b h.0 k.0 h.1 k.1
-  one_refusal (Modify e) a b h k = (h.1).1 ∙ sym (k.1).1
-  one_refusal (Remove e) a b h k = (h.1).1 ∙ sym (k.1).1
-
-  unasked : (request : Request) (a : Answer) → IsUnasked request a → ReachesPoller i registrations request → ⊥
-  unasked (Add e) a h k = addition_unasked e a h.0 h.1 k.0 k.1
-  unasked (AddWithPriority e priority) a h k = addition_unasked e a h.0 h.1 k.0 k.1
-  unasked (Modify e) a h k = (h.1).0 k
-  unasked (Remove e) a h k = (h.1).0 k
+  -- what the manager refuses, the poller isn't asked
+  unasked : (request : Request) (x : Error) → refusal_of i registrations request ≡ Some x → refusal_of i registrations request ≡ None → ⊥
+  unasked request x h k = let both : None ≡ Some x = sym k ∙ h in cc
 
   -- one request, with any calls behind its own
   request_alike : (request : Request) (a b : Answer) (calls made rest more : List PollerCall) (after onto : Registrations)
       → a ≢ Err OutOfMemory → b ≢ Err OutOfMemory → AreSameCalls (calls ++ rest) (made ++ more)
       → Fits i registrations request a calls after → Fits i registrations request b made onto → (a ≡ b) × (calls ≡ made) × (after ≡ onto)
-  request_alike request a b calls made rest more after onto m n same (by_manager h c e) (by_manager k d f) =
-      (one_refusal request a b (m, h) (n, k), c ∙ sym d, e ∙ sym f)
-  request_alike request a b calls made rest more after onto m n same (by_manager h c e) (by_poller y k d s f) = absurd (unasked request a (m, h) k)
-  request_alike request a b calls made rest more after onto m n same (by_manager h c e) (by_agreement k d s f) = absurd (unasked request a (m, h) k)
-  request_alike request a b calls made rest more after onto m n same (by_poller x h c r e) (by_manager k d f) = absurd (unasked request b (n, k) h)
-  request_alike request a b calls made rest more after onto m n same (by_agreement h c r e) (by_manager k d f) = absurd (unasked request b (n, k) h)
+  request_alike request a b calls made rest more after onto m n same (without_memory adds h c r e) fits = absurd (m r)
+  request_alike request a b calls made rest more after onto m n same fits (without_memory adds k d s f) = absurd (n s)
+  request_alike request a b calls made rest more after onto m n same (by_manager x h c r e) (by_manager y k d s f) =
+      (r ∙ ap Err (some_is x y (sym h ∙ k)) ∙ sym s, c ∙ sym d, e ∙ sym f)
+  request_alike request a b calls made rest more after onto m n same (by_manager x h c r e) (by_poller y k d s f) = absurd (unasked request x h k)
+  request_alike request a b calls made rest more after onto m n same (by_manager x h c r e) (by_agreement k d s f) = absurd (unasked request x h k)
+  request_alike request a b calls made rest more after onto m n same (by_poller x h c r e) (by_manager y k d s f) = absurd (unasked request y k h)
+  request_alike request a b calls made rest more after onto m n same (by_agreement h c r e) (by_manager y k d s f) = absurd (unasked request y k h)
   request_alike request a b calls made rest more after onto m n same (by_poller x h c r e) (by_poller y k d s f) =
       let one = same_number request x y rest more (with_same_front _ _ _ _ rest more c d same) in
       (r ∙ ap epoll_error one ∙ sym s, c ∙ ap (λ z. refusing request z ∷ []) one ∙ sym d, e ∙ sym f)

@@ -6,7 +6,7 @@ use crate::expecting::{Host, Looping, expect_same};
 use crate::jobs::Endpoint;
 use crate::making::{OnTable, open_table, parts_of};
 use event_manager::{
-    Ended, EventPoller, LoopWithSenders, NamedCounter, Result, Sender, TrackedManager, with_senders,
+    Ended, EventPoller, LoopWithSenders, NamedCounter, Result, JobSender, TrackedManager, with_senders,
 };
 use fixtures::parts::{Idle, Parts};
 use fixtures::work::Work;
@@ -56,7 +56,7 @@ impl<'a, R: Looping> LoopWithSenders<Idle, Work, Caller<'a>, R> for Callers<'a> 
     }
 }
 
-impl<R: Looping> Sender<Idle, Work, u64, R> for Caller<'_> {
+impl<R: Looping> JobSender<Idle, Work, u64, R> for Caller<'_> {
     /// Gives how many replies there were, each of them its job's number.
     fn send<N: NamedCounter>(self, endpoint: &Endpoint<N>, rt: &R) -> u64 {
         self.begun.fetch_add(1, Ordering::SeqCst);

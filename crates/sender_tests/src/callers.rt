@@ -4,7 +4,7 @@
 use crate::ending::beside_senders;
 use crate::expecting::{Host, Looping, expect_noted, expect_ok, expect_same};
 use event_manager::{
-    Error, EventPoller, LoopWithSenders, NamedCounter, RemoteEndpoint, Result, Sender, Senders,
+    Error, EventPoller, LoopWithSenders, NamedCounter, RemoteEndpoint, Result, JobSender, Senders,
     TrackedManager,
 };
 use fixtures::parts::{Idle, on_table};
@@ -38,7 +38,7 @@ struct Caller<'a> {
     calls: bool,
 }
 
-impl<R: Looping> Sender<Idle, Work, Option<Result<u64>>, R> for Caller<'_> {
+impl<R: Looping> JobSender<Idle, Work, Option<Result<u64>>, R> for Caller<'_> {
     fn send<N: NamedCounter>(
         self,
         endpoint: &RemoteEndpoint<Idle, Work, N>,

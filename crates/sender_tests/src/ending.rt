@@ -2,7 +2,7 @@
 
 use crate::expecting::{Host, Looping};
 use event_manager::{
-    Counter, Ended, EventPoller, Events, Job, LoopWithSenders, MutEventSubscriber, Result, Sender,
+    Counter, Ended, EventPoller, Events, Job, LoopWithSenders, MutEventSubscriber, Result, JobSender,
     with_senders,
 };
 use fixtures::parts::Parts;
@@ -40,7 +40,7 @@ where
     P: EventPoller + Send + Drop,
     C: Counter + Send + Sync + Drop,
     B: LoopWithSenders<S, J, Q, R> + Send,
-    Q: Sender<S, J, T, R> + Send + Drop,
+    Q: JobSender<S, J, T, R> + Send + Drop,
     T: Send + Drop,
     R: Host,
 {

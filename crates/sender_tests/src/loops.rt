@@ -4,7 +4,7 @@ use crate::ending::{Counted, Course, beside_senders};
 use crate::expecting::{Host, Looping, expect_ok, expect_same};
 use event_manager::{
     Error, EventPoller, EventSet, Events, LoopWithSenders, NamedCounter, NoJob, RemoteEndpoint,
-    Result, Sender, TrackedManager,
+    Result, JobSender, TrackedManager,
 };
 use fixtures::noting::{Noting, make_noting};
 use fixtures::parts::{Idle, Parts, on_table, silent_parts};
@@ -45,7 +45,7 @@ const MEETING: u64 = 3;
 /// How many looks of a millisecond show that nobody was woken.
 const QUIET: u32 = 100;
 
-impl<R: Looping> Sender<Idle, NoJob, u64, R> for Meeting<'_> {
+impl<R: Looping> JobSender<Idle, NoJob, u64, R> for Meeting<'_> {
     fn send<N: NamedCounter>(self, _endpoint: &RemoteEndpoint<Idle, NoJob, N>, rt: &R) -> u64 {
         let Meeting { course, number } = self;
         course.begun.fetch_add(1, Ordering::SeqCst);
@@ -139,7 +139,7 @@ struct Causing<'a> {
     notes: &'a Notes,
 }
 
-impl<R: Looping> Sender<Noting<R>, NoJob, (), R> for Causing<'_> {
+impl<R: Looping> JobSender<Noting<R>, NoJob, (), R> for Causing<'_> {
     fn send<N: NamedCounter>(self, _endpoint: &RemoteEndpoint<Noting<R>, NoJob, N>, rt: &R) {
         expect_ok(rt, self.counter.write(1, rt));
         expect_same(rt, &wait_until_noted(rt, self.notes, 3), &true);
@@ -192,7 +192,7 @@ fn a_loop_runs_behind_its_begin_and_serves_who_joined_there(rt: HostRuntime) {
 #[derive(Drop)]
 struct Nobody;
 
-impl<R: Looping> Sender<Idle, NoJob, (), R> for Nobody {
+impl<R: Looping> JobSender<Idle, NoJob, (), R> for Nobody {
     fn send<N: NamedCounter>(self, _endpoint: &RemoteEndpoint<Idle, NoJob, N>, _rt: &R) {}
 }
 

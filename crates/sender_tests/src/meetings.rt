@@ -6,7 +6,7 @@ use crate::expecting::{Host, Looping, expect_noted, expect_ok, expect_same};
 use crate::own_counter::{HIGHEST, OwnCounter, OwnPoller, own_parts};
 use event_manager::{
     Counter, Error, EventPoller, EventSet, Events, LoopWithSenders, NamedCounter, RemoteEndpoint,
-    Request, Result, Sender, Senders, TrackedManager,
+    Request, Result, JobSender, Senders, TrackedManager,
 };
 use fixtures::asking::Asking;
 use fixtures::making::no_memory;
@@ -186,7 +186,7 @@ fn fill<N: NamedCounter, P: EventPoller, R: Looping>(
     expect_same(rt, &fire_note(rt, endpoint, notes, 4), &Ok(4));
 }
 
-impl<R: Looping> Sender<Asking, Work, Answers, R> for Meeting<'_> {
+impl<R: Looping> JobSender<Asking, Work, Answers, R> for Meeting<'_> {
     fn send<N: NamedCounter>(self, endpoint: &Endpoint<N>, rt: &R) -> Answers {
         let Meeting { shared, kind } = self;
         match kind {

@@ -4,7 +4,7 @@ use crate::bystanders::{start_bystanders, stop_bystanders};
 use crate::ending::{Counted, Course, beside_senders};
 use crate::expecting::{Host, Looping, expect_ok, expect_same};
 use event_manager::{
-    EventPoller, LoopWithSenders, NamedCounter, NoJob, RemoteEndpoint, Result, Sender,
+    EventPoller, LoopWithSenders, NamedCounter, NoJob, RemoteEndpoint, Result, JobSender,
     TrackedManager,
 };
 use fixtures::parts::{Idle, Parts};
@@ -23,7 +23,7 @@ struct Brief {
     turns: u64,
 }
 
-impl<R: Looping> Sender<Idle, NoJob, u64, R> for Brief {
+impl<R: Looping> JobSender<Idle, NoJob, u64, R> for Brief {
     fn send<N: NamedCounter>(self, _endpoint: &RemoteEndpoint<Idle, NoJob, N>, _rt: &R) -> u64 {
         for _turn in 0..self.turns {
             thread::yield_now();

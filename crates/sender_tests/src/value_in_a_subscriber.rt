@@ -4,7 +4,7 @@ use crate::ending::beside_senders;
 use crate::expecting::{Looping, expect_ok, expect_same};
 use event_manager::{
     Action, ActionOn, Error, EventOps, EventPoller, Events, LoopWithSenders, MutEventSubscriber,
-    NamedCounter, RemoteEndpoint, Result, Sender, Senders, SubscriberId, TrackedManager,
+    NamedCounter, RemoteEndpoint, Result, JobSender, Senders, SubscriberId, TrackedManager,
 };
 use fixtures::parts::on_table;
 use fixtures::waits::wait_until_pending;
@@ -66,7 +66,7 @@ const CHANGES: [(Change, u64); 3] = [(Change::Set(7), 0), (Change::Read, 7), (Ch
 #[derive(Drop)]
 struct Caller(SubscriberId);
 
-impl<R: Looping> Sender<Stoppable, ActionOn<Change>, (), R> for Caller {
+impl<R: Looping> JobSender<Stoppable, ActionOn<Change>, (), R> for Caller {
     fn send<N: NamedCounter>(
         self,
         endpoint: &RemoteEndpoint<Stoppable, ActionOn<Change>, N>,

@@ -3,7 +3,7 @@
 use crate::acceptor::{Ask, Look, Peer, Statistics};
 use crate::connection::IDLE;
 use crate::fault::Fault;
-use event_manager::{EventSet, NamedCounter, RemoteEndpoint, Sender, SubscriberId};
+use event_manager::{EventSet, NamedCounter, RemoteEndpoint, JobSender, SubscriberId};
 use std::sync::Wait;
 use std::sync::atomic::{AtomicU64, Ordering};
 use std::time::Clock;
@@ -63,7 +63,7 @@ impl Client<'_> {
     }
 }
 
-impl<C: Wait + Clock + Drop, R: Wait + Clock + Print> Sender<Peer<C>, Look, Result<(), Fault>, R>
+impl<C: Wait + Clock + Drop, R: Wait + Clock + Print> JobSender<Peer<C>, Look, Result<(), Fault>, R>
     for Client<'_> {
     fn send<N: NamedCounter>(
         self,

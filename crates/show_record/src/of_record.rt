@@ -4,7 +4,7 @@ ghost use Rattle.std.specs.Prelude.{◌≡◌, IfOk, map};
 ghost use Rattle.show_record.specs.Picture.{form_of};
 
 use crate::picture::{Form, INTERRUPTED, Lane, Step, Tone, count_text};
-use crate::shown::{Set, ShownCall, call_at, data, operation_word};
+use crate::shown::{Set, ShownCall, call_at, operation_word};
 use anyhow::Result;
 use poller_records::record::RecordEntry;
 use std::alloc::{AllocError, Global};
@@ -75,7 +75,7 @@ fn step(
             (
                 Tone::Plain,
                 first,
-                format!(in alloc; "data {}", data(event))?,
+                format!(in alloc; "data {}", event.high_half())?,
             )
         }
     };

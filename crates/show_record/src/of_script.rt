@@ -1,7 +1,7 @@
 //! The steps of a script that `evloop` ran, from its text with what was printed behind it.
 
 use crate::picture::{Form, INTERRUPTED, Lane, Step, Tone, count_text};
-use crate::shown::{Set, data};
+use crate::shown::Set;
 use anyhow::{Result, bail};
 use evloop_script::names::event_set;
 use evloop_script::number::{descriptor, payload};
@@ -145,7 +145,7 @@ impl<'a> Reader<'a> {
             tone: Tone::Nobody,
             first: set.to_string(self.alloc)?,
             second: String::from_str(self.alloc, "nobody")?,
-            told: format!(in self.alloc; "{fd}:{set}:{}", data(&event))?,
+            told: format!(in self.alloc; "{fd}:{set}:{}", event.high_half())?,
         })?;
         Ok(())
     }
@@ -166,7 +166,7 @@ impl<'a> Reader<'a> {
         };
         let event = |it: &Pending| it.event.fd() == fd
             && it.event.event_set() == set
-            && data(&it.event) == u64::from(payload);
+            && it.event.high_half() == payload;
         let Some(place) = self.pending.iter().position(event) else {
             bail!("no such event in the script's report");
         };

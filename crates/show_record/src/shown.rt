@@ -95,11 +95,6 @@ impl fmt::Display for Answer {
     }
 }
 
-/// The data that an event's word has above the descriptor.
-pub fn data(event: &EpollEvent) -> u64 {
-    event.data() >> 32
-}
-
 // Prints a wait with this answer and report.
 fn write_wait<W: fmt::Write>(
     answer: Result<usize, Errno>,
@@ -113,7 +108,7 @@ fn write_wait<W: fmt::Write>(
     }
     for entry in report {
         if let RecordEntry::Reported(event) = entry {
-            let (fd, set, data) = (event.fd(), Set(event.event_set()), data(event));
+            let (fd, set, data) = (event.fd(), Set(event.event_set()), event.high_half());
             write!(f, " {fd}:{set}:{data}")?;
         }
     }
@@ -135,7 +130,11 @@ impl fmt::Display for ShownCall<'_> {
                 event,
                 answer,
             } => {
-                let (word, set, data) = (operation_word(op), Set(event.event_set()), data(&event));
+                let (word, set, data) = (
+                    operation_word(op),
+                    Set(event.event_set()),
+                    event.high_half(),
+                );
                 write!(f, "{word} {fd} {set} {data}: {}", Answer(answer))
             }
             RecordEntry::Wait { answer, .. } => write_wait(answer, self.report, f),

@@ -5,7 +5,7 @@ use crate::fault::{Fault, expect};
 use crate::parts::{Pair, Parts};
 use crate::progress::Progress;
 use crate::work::{Reply, Work};
-use event_manager::{NamedCounter, RemoteEndpoint, Sender, SubscriberId};
+use event_manager::{NamedCounter, RemoteEndpoint, JobSender, SubscriberId};
 use std::sync::Wait;
 use std::thread;
 use std::time::{Clock, Duration};
@@ -34,7 +34,7 @@ pub struct Loader<'a> {
     pub parts: &'a Parts,
 }
 
-impl<R: Wait + Clock + Copy + Drop> Sender<Device<R>, Work<R>, Result<(), Fault>, R>
+impl<R: Wait + Clock + Copy + Drop> JobSender<Device<R>, Work<R>, Result<(), Fault>, R>
     for Loader<'_> {
     fn send<N: NamedCounter>(self, endpoint: &Endpoint<N, R>, rt: &R) -> Result<(), Fault> {
         let parts = self.parts;

@@ -3,7 +3,7 @@
 use crate::fixture::{Endpoint, Progress, Task, spin};
 use crate::host::{Host, Looping, expect_ok, expect_same, look_on};
 use event_manager::{
-    Error, EventPoller, LoopWithSenders, NamedCounter, Result, Sender, Senders, TrackedManager,
+    Error, EventPoller, LoopWithSenders, NamedCounter, Result, JobSender, Senders, TrackedManager,
     with_senders,
 };
 use fixtures::parts::{Idle, Parts, on_table};
@@ -28,7 +28,7 @@ struct Caller<'a> {
     started: &'a AtomicBool,
 }
 
-impl<R: Looping> Sender<Idle, Task, Result<u64>, R> for Caller<'_> {
+impl<R: Looping> JobSender<Idle, Task, Result<u64>, R> for Caller<'_> {
     fn send<N: NamedCounter>(self, endpoint: &Endpoint<N>, rt: &R) -> Result<u64> {
         self.started.store(true, Ordering::SeqCst);
         endpoint.call_blocking(self.job, rt)

@@ -3,7 +3,7 @@
 use crate::fixture::{Endpoint, Progress, Task};
 use crate::host::{Host, Looping, expect_ok, expect_same, look_on};
 use event_manager::{
-    EventPoller, LoopWithSenders, NamedCounter, Result, Sender, Senders, TrackedManager,
+    EventPoller, LoopWithSenders, NamedCounter, Result, JobSender, Senders, TrackedManager,
     with_senders,
 };
 use fixtures::parts::{Idle, OnTable, Parts, on_table};
@@ -144,7 +144,7 @@ struct Sending<'a> {
     rounds: &'a Rounds,
 }
 
-impl<R: Looping> Sender<Idle, Task, (), R> for Sending<'_> {
+impl<R: Looping> JobSender<Idle, Task, (), R> for Sending<'_> {
     fn send<N: NamedCounter>(self, endpoint: &Endpoint<N>, rt: &R) {
         send_all(rt, endpoint, self.progress, self.rounds);
     }

@@ -6,7 +6,7 @@ use crate::host::{Host, Looping, expect_ok, expect_same};
 use crate::watched::{Drops, Guest, Reporter, Task, Watched};
 use event_manager::{
     Error, EventPoller, Ledgers, LoopWithSenders, Named, NamedCounter, Naming, RemoteEndpoint,
-    Result, Sender, Senders, SubscriberOps, Ticket, TrackedManager, with_senders,
+    Result, JobSender, Senders, SubscriberOps, Ticket, TrackedManager, with_senders,
 };
 use fixtures::making::make;
 use fixtures::parts::{OnTable, Parts, on_table};
@@ -134,7 +134,7 @@ enum Beside<'a, R: Clock + Drop> {
     Sends(Act, &'a Second<R>),
 }
 
-impl<R: Looping> Sender<Guest<R>, Task<R>, (), R> for Beside<'_, R> {
+impl<R: Looping> JobSender<Guest<R>, Task<R>, (), R> for Beside<'_, R> {
     fn send<N: NamedCounter>(self, endpoint: &Endpoint<N, R>, rt: &R) {
         match self {
             Beside::Looks(act, drops) => {

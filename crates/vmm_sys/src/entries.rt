@@ -25,13 +25,20 @@ pub struct EpollEvent {
 
 impl EpollEvent {
     ghost use Rattle.vmm_sys.specs.EventSet.{bits_of};
-    ghost use Rattle.vmm_sys.specs.EpollEvent.{set_of, word_of, fd_of, event};
+    ghost use Rattle.vmm_sys.specs.EpollEvent.{set_of, word_of, high_half, low_half, word_of_halves, fd_of, event};
 
     /// An event of this set and word.
     pub fn new(set: EventSet, word: u64) -> EpollEvent
         ensures { result ≡ event set word }
     {
         EpollEvent { set, word }
+    }
+
+    /// An event of this set, with the word `data * 2^32 + fd`: so the Rust crate packs a descriptor and its data.
+    pub fn packed(set: EventSet, fd: u32, data: u32) -> EpollEvent
+        ensures { result ≡ event set (word_of_halves «data» fd) }
+    {
+        EpollEvent::new(set, u64::from(data) << 32 | u64::from(fd))
     }
 
     /// The bits of the set.
@@ -55,10 +62,24 @@ impl EpollEvent {
         self.word
     }
 
-    /// The low 32 bits of the word as a signed number: the descriptor, where the word was packed with one.
+    /// The high 32 bits of the word: the data, where the word was packed with one.
+    pub fn high_half(&self) -> u32
+        ensures { result ≡ high_half self.now }
+    {
+        (self.word >> 32) as u32
+    }
+
+    /// The low 32 bits of the word: the descriptor, where the word was packed with one.
+    pub fn low_half(&self) -> u32
+        ensures { result ≡ low_half self.now }
+    {
+        (self.word & 0xffff_ffff) as u32
+    }
+
+    /// The low half of the word as a signed number: as a descriptor.
     pub fn fd(&self) -> RawFd
         ensures { result ≡ fd_of self.now }
     {
-        ((self.word & 0xffff_ffff) as u32).cast_signed()
+        self.low_half().cast_signed()
     }
 }

@@ -2,7 +2,7 @@
 
 use crate::doorman::{Ask, Doorman};
 use event_manager::{
-    Error, EventPoller, LoopWithSenders, NamedCounter, RemoteEndpoint, Result, Sender,
+    Error, EventPoller, LoopWithSenders, NamedCounter, RemoteEndpoint, Result, JobSender,
     SubscriberId, TrackedManager,
 };
 use linux::eventfd::EventFd;
@@ -41,7 +41,7 @@ impl<R: Wait + Clock> LoopWithSenders<Doorman, Ask, Visitor, R> for House {
     }
 }
 
-impl<R: Wait + Clock> Sender<Doorman, Ask, Result<[u64; 3]>, R> for Visitor {
+impl<R: Wait + Clock> JobSender<Doorman, Ask, Result<[u64; 3]>, R> for Visitor {
     /// Rings, and asks what was heard, three times.
     fn send<N: NamedCounter>(
         self,

@@ -2,7 +2,7 @@
 
 use event_manager::{
     Error, EventOps, EventPoller, Events, Job, LoopWithSenders, MutEventSubscriber, NamedCounter,
-    Registry, RemoteEndpoint, Result, Sender, Senders, TrackedManager, with_senders,
+    Registry, RemoteEndpoint, Result, JobSender, Senders, TrackedManager, with_senders,
 };
 use linux::epoll::Epoll;
 use linux::eventfd::EventFd;
@@ -127,7 +127,7 @@ impl<R: Wait + Clock + Abort> LoopWithSenders<Idle, Number, Act, R> for Act {
     }
 }
 
-impl<R: Wait + Clock> Sender<Idle, Number, Result<u64>, R> for Act {
+impl<R: Wait + Clock> JobSender<Idle, Number, Result<u64>, R> for Act {
     fn send<N: NamedCounter>(
         self,
         endpoint: &RemoteEndpoint<Idle, Number, N>,

@@ -1,20 +1,20 @@
 //! The grammar of one line.
 
-ghost use Rattle.std.specs.Prelude.{◌≡◌, ◌≤◌, ◌<◌, ◌↔◌, ◌/◌, ◌^◌, IsTrue, IfSome, IfOk, All, length, codes, Some};
+ghost use Rattle.std.specs.Prelude.{◌≡◌, ◌≤◌, ◌<◌, ◌↔◌, IsTrue, IfSome, IfOk, All, length, codes, Some};
 ghost use Rattle.evloop_script.specs.Asked.{IsAddition};
 ghost use Rattle.evloop_script.specs.Item.{before_colon, after_colon, IsOfItem};
 ghost use Rattle.evloop_script.specs.Name.{IsName, IsNameByte};
 ghost use Rattle.evloop_script.specs.declared.script.line.LineError.TheVariants as line_error;
 ghost use Rattle.std.specs.List.{AllZip};
 ghost use Rattle.std.specs.Str.Parse.{digits_value};
-ghost use Rattle.vmm_sys.specs.EpollEvent.{low_half_signed};
+ghost use Rattle.vmm_sys.specs.EpollEvent.{fd_of, high_half};
 
 use crate::names::event_set;
 use crate::number::{descriptor, errno, payload, priority, signed_descriptor};
 use crate::script::Refusal;
 use event_loop::{Events, Request};
 use std::alloc::{AllocError, AllocFailed, Global};
-use vmm_sys::epoll::{ControlOperation, EpollEvent, RawFd};
+use vmm_sys::epoll::{ControlOperation, EpollEvent, EventSet, RawFd};
 
 /// The longest name of a subscriber, in characters.
 const MAX_NAME: usize = 32;
@@ -180,12 +180,12 @@ fn additions(alloc: Global, words: &[&str]) -> Result<Vec<Request>, LineError>
     Err(LineError::Bad)
 }
 
-// A descriptor and data as the word of an event: the descriptor modulo 2^32 is its low half.
-fn word_of(fd: RawFd, payload: u32) -> u64
-    ensures low { low_half_signed result ≡ fd }
-    ensures high { result / 2 ^ 32 ≡ payload }
+// The event of a set, a descriptor and data.
+fn packed(set: EventSet, fd: RawFd, payload: u32) -> EpollEvent
+    ensures descriptor { fd_of result ≡ fd }
+    ensures payload { high_half result ≡ payload }
 {
-    u64::from(payload) << 32 | u64::from(fd.cast_unsigned())
+    EpollEvent::packed(set, fd.cast_unsigned(), payload)
 }
 
 // What stands before and behind the first colon.
@@ -201,8 +201,8 @@ fn event(item: &str) -> Option<EpollEvent>
 {
     let (fd, rest) = cut_at_colon(item)?;
     let (set, data) = cut_at_colon(rest)?;
-    let word = word_of(signed_descriptor(fd)?, payload(data)?);
-    Some(EpollEvent::new(event_set(set)?, word))
+    let (fd, data) = (signed_descriptor(fd)?, payload(data)?);
+    Some(packed(event_set(set)?, fd, data))
 }
 
 // The event of each word, in the order of the words.

@@ -10,5 +10,5 @@ returns-else-self-2-clause-taken c =
     let inv = c.self.invariant in
     let e = c.index.result.now in
     let more = ready_more b.buffer.items b.cancelled.items b.at b.count e c.if-self.true (omega (arith, inv.1, b.buffer.ok.0)) c.index.ensures in
-    let answer = rw (c.fd_of-fd.ensures, c.deref.ensures.value) at c.cancelled_at.ensures.answer in
-    rw (← c.self.view_is) (_, more ∙ ap (λ m. (event_of_entry e, m) ∷ ready_of b.buffer.items b.cancelled.items (b.at + 1) b.count) (sym answer), refl, ap (λ fd. fd == c.args.endpoint) c.fd_of-fd.ensures)
+    let answer = rw (c.low_half-fd.ensures, c.deref.ensures.value) at c.cancelled_at.ensures.answer in
+    rw (← c.self.view_is) (_, more ∙ ap (λ m. (event_of_entry e, m) ∷ ready_of b.buffer.items b.cancelled.items (b.at + 1) b.count) (sym answer), refl, ap (λ fd. fd == c.args.endpoint) c.low_half-fd.ensures)
