@@ -3,7 +3,7 @@
 use crate::account::Account;
 use crate::order::{Order, Told};
 use event_manager::{
-    ActionOn, Error, EventPoller, LoopWithSenders, NamedCounter, RemoteEndpoint, Result, JobSender,
+    ActionOn, Error, EventPoller, JobSender, LoopWithSenders, NamedCounter, RemoteEndpoint, Result,
     SubscriberId, TrackedManager,
 };
 use std::alloc::Global;
@@ -60,7 +60,8 @@ pub struct Answers {
     pub removed: Result<Told>,
 }
 
-impl<R: Wait + Clock + Drop> JobSender<Account<R>, ActionOn<Order>, Result<Answers>, R> for Customer {
+impl<R: Wait + Clock + Drop> JobSender<Account<R>, ActionOn<Order>, Result<Answers>, R>
+    for Customer {
     /// Deposits three times without waiting, and then asks.
     fn send<N: NamedCounter>(
         self,

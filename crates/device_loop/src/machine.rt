@@ -15,7 +15,7 @@ use crate::shared::Shared;
 use crate::vcpu::{BlockDriver, Vcpu};
 use crate::vmm::Vmm;
 use event_manager::{
-    Either, Error, EventPoller, Locked, LoopWithSenders, NamedCounter, Result, JobSender, Senders,
+    Either, Error, EventPoller, JobSender, Locked, LoopWithSenders, NamedCounter, Result, Senders,
     SubscriberId, Subscribers, TrackedManager,
 };
 use std::alloc::Global;

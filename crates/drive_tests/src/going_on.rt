@@ -9,7 +9,8 @@ ghost use Rattle.drive_tests.specs.Meters.{no_less, has_gone_on};
 
 use event_manager::{
     Action, ActionOn, Counter, Ended, EventLoop, EventManager, EventOps, EventPoller, Events,
-    LoopWithSenders, MutEventSubscriber, NamedCounter, Result, JobSender, SubscriberOps, with_senders,
+    JobSender, LoopWithSenders, MutEventSubscriber, NamedCounter, Result, SubscriberOps,
+    with_senders,
 };
 use std::alloc::Global;
 use std::sync::Wait;

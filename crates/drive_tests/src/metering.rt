@@ -3,8 +3,8 @@
 use crate::expecting::{expect_ok, expect_same};
 use crate::going_on::{Advance, Meter, run_meters};
 use event_manager::{
-    ActionOn, EventPoller, Events, LoopWithSenders, NamedCounter, RemoteEndpoint, Result, JobSender,
-    SubscriberId, TrackedManager,
+    ActionOn, EventPoller, Events, JobSender, LoopWithSenders, NamedCounter, RemoteEndpoint,
+    Result, SubscriberId, TrackedManager,
 };
 use fixtures::asking::wanted;
 use fixtures::parts::{Parts, on_table};

@@ -7,7 +7,7 @@ use crate::jobs::{CountOne, Counter, count_at};
 use crate::progress::Progress;
 use anyhow::{Result, bail};
 use event_manager::{
-    ActionOn, Error, EventPoller, LoopWithSenders, NamedCounter, RemoteEndpoint, JobSender,
+    ActionOn, Error, EventPoller, JobSender, LoopWithSenders, NamedCounter, RemoteEndpoint,
     SubscriberId, TrackedManager, with_senders,
 };
 use measures::arguments::Family;

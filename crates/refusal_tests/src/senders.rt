@@ -6,7 +6,8 @@ use crate::expecting::{Host, Looping, expect_same};
 use crate::jobs::Endpoint;
 use crate::making::{OnTable, open_table, parts_of};
 use event_manager::{
-    Ended, EventPoller, LoopWithSenders, NamedCounter, Result, JobSender, TrackedManager, with_senders,
+    Ended, EventPoller, JobSender, LoopWithSenders, NamedCounter, Result, TrackedManager,
+    with_senders,
 };
 use fixtures::parts::{Idle, Parts};
 use fixtures::work::Work;

@@ -4,7 +4,7 @@
 use crate::ending::beside_senders;
 use crate::expecting::{Host, Looping, expect_noted, expect_ok, expect_same};
 use event_manager::{
-    Error, EventPoller, LoopWithSenders, NamedCounter, RemoteEndpoint, Result, JobSender, Senders,
+    Error, EventPoller, JobSender, LoopWithSenders, NamedCounter, RemoteEndpoint, Result, Senders,
     TrackedManager,
 };
 use fixtures::parts::{Idle, on_table};

@@ -2,8 +2,8 @@
 
 use crate::expecting::{Host, Looping};
 use event_manager::{
-    Counter, Ended, EventPoller, Events, Job, LoopWithSenders, MutEventSubscriber, Result, JobSender,
-    with_senders,
+    Counter, Ended, EventPoller, Events, Job, JobSender, LoopWithSenders, MutEventSubscriber,
+    Result, with_senders,
 };
 use fixtures::parts::Parts;
 use fixtures::waits::LOOKS;

@@ -3,8 +3,8 @@
 use crate::ending::{Counted, Course, beside_senders};
 use crate::expecting::{Host, Looping, expect_ok, expect_same};
 use event_manager::{
-    Error, EventPoller, EventSet, Events, LoopWithSenders, NamedCounter, NoJob, RemoteEndpoint,
-    Result, JobSender, TrackedManager,
+    Error, EventPoller, EventSet, Events, JobSender, LoopWithSenders, NamedCounter, NoJob,
+    RemoteEndpoint, Result, TrackedManager,
 };
 use fixtures::noting::{Noting, make_noting};
 use fixtures::parts::{Idle, Parts, on_table, silent_parts};

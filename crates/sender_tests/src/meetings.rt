@@ -5,8 +5,8 @@ use crate::ending::beside_senders;
 use crate::expecting::{Host, Looping, expect_noted, expect_ok, expect_same};
 use crate::own_counter::{HIGHEST, OwnCounter, OwnPoller, own_parts};
 use event_manager::{
-    Counter, Error, EventPoller, EventSet, Events, LoopWithSenders, NamedCounter, RemoteEndpoint,
-    Request, Result, JobSender, Senders, TrackedManager,
+    Counter, Error, EventPoller, EventSet, Events, JobSender, LoopWithSenders, NamedCounter,
+    RemoteEndpoint, Request, Result, Senders, TrackedManager,
 };
 use fixtures::asking::Asking;
 use fixtures::making::no_memory;

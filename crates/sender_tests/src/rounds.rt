@@ -4,7 +4,7 @@ use crate::bystanders::{start_bystanders, stop_bystanders};
 use crate::ending::{Counted, Course, beside_senders};
 use crate::expecting::{Host, Looping, expect_ok, expect_same};
 use event_manager::{
-    EventPoller, LoopWithSenders, NamedCounter, NoJob, RemoteEndpoint, Result, JobSender,
+    EventPoller, JobSender, LoopWithSenders, NamedCounter, NoJob, RemoteEndpoint, Result,
     TrackedManager,
 };
 use fixtures::parts::{Idle, Parts};

@@ -3,8 +3,9 @@
 use crate::ending::beside_senders;
 use crate::expecting::{Looping, expect_ok, expect_same};
 use event_manager::{
-    Action, ActionOn, Error, EventOps, EventPoller, Events, LoopWithSenders, MutEventSubscriber,
-    NamedCounter, RemoteEndpoint, Result, JobSender, Senders, SubscriberId, TrackedManager,
+    Action, ActionOn, Error, EventOps, EventPoller, Events, JobSender, LoopWithSenders,
+    MutEventSubscriber, NamedCounter, RemoteEndpoint, Result, Senders, SubscriberId,
+    TrackedManager,
 };
 use fixtures::parts::on_table;
 use fixtures::waits::wait_until_pending;

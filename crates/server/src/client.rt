@@ -3,7 +3,7 @@
 use crate::acceptor::{Ask, Look, Peer, Statistics};
 use crate::connection::IDLE;
 use crate::fault::Fault;
-use event_manager::{EventSet, NamedCounter, RemoteEndpoint, JobSender, SubscriberId};
+use event_manager::{EventSet, JobSender, NamedCounter, RemoteEndpoint, SubscriberId};
 use std::sync::Wait;
 use std::sync::atomic::{AtomicU64, Ordering};
 use std::time::Clock;

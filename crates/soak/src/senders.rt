@@ -5,7 +5,7 @@ use crate::fault::{Fault, expect};
 use crate::parts::{Pair, Parts};
 use crate::progress::Progress;
 use crate::work::{Reply, Work};
-use event_manager::{NamedCounter, RemoteEndpoint, JobSender, SubscriberId};
+use event_manager::{JobSender, NamedCounter, RemoteEndpoint, SubscriberId};
 use std::sync::Wait;
 use std::thread;
 use std::time::{Clock, Duration};

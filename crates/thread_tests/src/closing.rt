@@ -3,7 +3,7 @@
 use crate::fixture::{Endpoint, Progress, Task, spin};
 use crate::host::{Host, Looping, expect_ok, expect_same, look_on};
 use event_manager::{
-    Error, EventPoller, LoopWithSenders, NamedCounter, Result, JobSender, Senders, TrackedManager,
+    Error, EventPoller, JobSender, LoopWithSenders, NamedCounter, Result, Senders, TrackedManager,
     with_senders,
 };
 use fixtures::parts::{Idle, Parts, on_table};

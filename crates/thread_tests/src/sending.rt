@@ -3,7 +3,7 @@
 use crate::fixture::{Endpoint, Progress, Task};
 use crate::host::{Host, Looping, expect_ok, expect_same, look_on};
 use event_manager::{
-    EventPoller, LoopWithSenders, NamedCounter, Result, JobSender, Senders, TrackedManager,
+    EventPoller, JobSender, LoopWithSenders, NamedCounter, Result, Senders, TrackedManager,
     with_senders,
 };
 use fixtures::parts::{Idle, OnTable, Parts, on_table};

@@ -5,8 +5,8 @@ ghost use Rattle.std.specs.Prelude.{◌≡◌};
 use crate::host::{Host, Looping, expect_ok, expect_same};
 use crate::watched::{Drops, Guest, Reporter, Task, Watched};
 use event_manager::{
-    Error, EventPoller, Ledgers, LoopWithSenders, Named, NamedCounter, Naming, RemoteEndpoint,
-    Result, JobSender, Senders, SubscriberOps, Ticket, TrackedManager, with_senders,
+    Error, EventPoller, JobSender, Ledgers, LoopWithSenders, Named, NamedCounter, Naming,
+    RemoteEndpoint, Result, Senders, SubscriberOps, Ticket, TrackedManager, with_senders,
 };
 use fixtures::making::make;
 use fixtures::parts::{OnTable, Parts, on_table};
