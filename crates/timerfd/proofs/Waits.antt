@@ -1,5 +1,5 @@
 -- A wait with timers beside the poller, by who comes first.
-use Rattle.std.proofs.Common.{ℕ, ℤ, ◌≡◌, ◌≢◌, ◌+◌, ◌-◌, ◌<◌, ◌≤◌, Bool, true, false, eqb, List, [], ◌++◌, length, take, drop, map, filter, refl, ap, subst, sym, ◌∙◌, arith, inl, inr}
+use Rattle.std.proofs.Common.{ℕ, ℤ, ◌≡◌, ◌≢◌, ◌+◌, ◌-◌, ◌<◌, ◌≤◌, Bool, true, false, eqb, List, [], ◌∷◌, ◌++◌, length, take, drop, map, filter, refl, ap, subst, sym, ◌∙◌, arith, inl, inr}
 use Rattle.std.specs.Prelude.{Result, Err, ◌⊎◌, ◌==◌, MatchBool}
 use Rattle.std.proofs.lemmas.Bool.{eqb-false, cases_Bool}
 use Rattle.std.proofs.lemmas.List.{length-append, length-drop, length-take, length-map, take-append-le}
@@ -12,7 +12,7 @@ use Rattle.vmm_sys.specs.Poller.{reported, WaitRelation}
 use Rattle.vmm_sys.specs.Table.{wait_of, filled, chosen, entry_of, is_ready}
 use Rattle.timerfd.specs.TimerTable.{TimerTableState, table_of, AreReached}
 use Rattle.timerfd.specs.Limits.{IsLimit}
-use Rattle.timerfd.specs.TimedPoller.{Timed, with_poller, timed_code, report_of, counted_by, unless_refused, FromBelow, FromTimers, TimersFirst, OthersFirst, MayWait}
+use Rattle.timerfd.specs.TimedPoller.{Timed, with_poller, timed_code, report_of, or_late, counted_by, unless_refused, FromBelow, FromTimers, TimersFirst, OthersFirst, MayWait}
 use Rattle.timerfd.proofs.BesideTimers.{seen}
 
 -- timers report no more than there is room for
@@ -27,7 +27,7 @@ report_fits s room =
 
 module _ (s : TimerTableState) (b mid : List EpollEvent) (k : ℕ) (size : k ≡ length (report_of s (length b))) (is : mid ≡ filled (wait_of (table_of s) (length b)) b) where
   -- the buffer behind a report is as long as before
-  same_room : length mid ≡ length b
+  pub same_room : length mid ≡ length b
   same_room =
       let es = report_of s (length b) in
       rw is (omega (arith, length-append es (drop (length es) b), length-drop (length es) b, report_fits s (length b)))
@@ -35,6 +35,12 @@ module _ (s : TimerTableState) (b mid : List EpollEvent) (k : ℕ) (size : k ≡
   -- what timers reported stands in front
   pub in_front : take k mid ≡ report_of s (length b)
   in_front = let es = report_of s (length b) in rw (is, size) (take-append_seam es (drop (length es) b))
+
+-- where what timers reported is none, they are not late
+pub none_late : (front others : List EpollEvent) → or_late front (front ++ others) ≡ front ++ others
+none_late [] [] = refl
+none_late [] (e ∷ others) = refl
+none_late (e ∷ front) others = refl
 
 -- what is reported behind so many entries
 module _ (front new rest : List EpollEvent) (k n : ℕ) (size : k ≡ length front) (fits : n ≤ length new) where
@@ -85,18 +91,28 @@ module _ {P : Type 0} (meaning : P → Gv) {r before left : Timed P} (is : r ≡
         let h2 = subst (λ n. FromBelow may_wait (meaning r.poller) limit n answer (reported answer new) (meaning left.poller)) at_room h1 in
         subst (λ (t : Timed P). FromBelow may_wait (meaning t.poller) limit room answer (reported answer new) (meaning left.poller)) is h2
 
-    -- where timers came first
-    pub timers_first : (b mid : List EpollEvent) (k : ℕ) → k ≡ length (report_of s (length b)) → mid ≡ filled (wait_of (table_of s) (length b)) b → eqb k (length mid) ≡ false → m ≡ length mid - k
+    -- where timers came first, and which ones may have come late
+    pub timers_first : (later : TimerTableState) → AreReached later → (b mid : List EpollEvent) (k : ℕ) → k ≡ length (report_of s (length b)) → mid ≡ filled (wait_of (table_of s) (length b)) b → eqb k (length mid) ≡ false → m ≡ length mid - k
         → (result : Result ℕ Errno) (entries : List EpollEvent)
-        → entries ≡ unless_refused answer (report_of s (length b) ++ reported answer new) → result ≡ counted_by (unless_refused answer (report_of s (length b) ++ reported answer new)) answer
+        → entries ≡ unless_refused answer (or_late (report_of later (length b)) (report_of s (length b) ++ reported answer new)) → result ≡ counted_by entries answer
         → TimersFirst may_wait (with_poller before (meaning before.poller)) ms (length b) result entries (seen meaning left)
-    timers_first b mid k size is_filled not_full at_room result entries reports counts =
+    timers_first later later_reached b mid k size is_filled not_full at_room result entries reports counts =
         let room : length mid ≡ length b = same_room s b mid k size is_filled in
         let fits = report_fits s (length b) in
         let other : k ≢ length mid = eqb-false k (length mid) not_full in
         let some : length (report_of s (length b)) < length b = omega (arith, size, room, fits, other) in
         let behind : m ≡ length b - length (report_of s (length b)) = omega (arith, at_room, room, size) in
-        (s, known, limit, limits_ms, some, answer, reported answer new, meaning left.poller, asked _ behind, reports, subst (λ es. result ≡ counted_by es answer) (sym reports) counts, after_below, reached)
+        (s, later, known, limit, limits_ms, some, answer, reported answer new, meaning left.poller, asked _ behind, reports, counts, after_below, reached, later_reached)
+
+    -- where none of them came late
+    pub timers_in_time : (b mid : List EpollEvent) (k : ℕ) → k ≡ length (report_of s (length b)) → mid ≡ filled (wait_of (table_of s) (length b)) b → eqb k (length mid) ≡ false → m ≡ length mid - k
+        → (result : Result ℕ Errno) (entries : List EpollEvent)
+        → entries ≡ unless_refused answer (report_of s (length b) ++ reported answer new) → result ≡ counted_by (unless_refused answer (report_of s (length b) ++ reported answer new)) answer
+        → TimersFirst may_wait (with_poller before (meaning before.poller)) ms (length b) result entries (seen meaning left)
+    timers_in_time b mid k size is_filled not_full at_room result entries reports counts =
+        timers_first s reached b mid k size is_filled not_full at_room result entries
+        (reports ∙ ap (λ es. unless_refused answer es) (sym (none_late (report_of s (length b)) (reported answer new))))
+        (subst (λ es. result ≡ counted_by es answer) (sym reports) counts)
 
     -- where the poller below came first
     pub others_first : (room : ℕ) → m ≡ room → (later : TimerTableState) → AreReached later → (result : Result ℕ Errno) (entries : List EpollEvent)

@@ -1,5 +1,5 @@
 -- A poller with timers beside it: its state, and its two relations.
-use Rattle.std.specs.Prelude.{ℕ, ℤ, pos, negsuc, ◌-◌, ◌≡◌, ◌<◌, ◌⊎◌, ◌==◌, ◌||◌, ◌&&◌, Bool, true, false, not, nat_lt, if◌then◌else◌, List, [], ◌++◌, length, filter, Result, Ok, Err, Option, Some, None, IfSome, MatchBool, refl}
+use Rattle.std.specs.Prelude.{ℕ, ℤ, pos, negsuc, ◌-◌, ◌≡◌, ◌<◌, ◌⊎◌, ◌==◌, ◌||◌, ◌&&◌, Bool, true, false, not, nat_lt, if◌then◌else◌, List, [], ◌∷◌, ◌++◌, length, filter, Result, Ok, Err, Option, Some, None, IfSome, MatchBool, refl}
 use Rattle.std.specs.Ordering.{int_eq}
 use Rattle.std.specs.Coded.{Coded, code_by, coded_ℤ, coded_bool, coded×}
 use base.Stored.{Gv}
@@ -126,14 +126,20 @@ FromTimers t room answer entries after =
     (s : TimerTableState) × (entries ≡ report_of s room) × (length entries ≡ room) × (answer ≡ Ok room)
     × (after ≡ timed_code.code (record t { others_first = true })) × AreReached s
 
--- timers come first, and the poller below has the room that is left; its error is the answer
+-- where these entries are none, the late ones
+abbrev pub or_late : List EpollEvent → List EpollEvent → List EpollEvent
+or_late late [] = late
+or_late late (e ∷ entries) = e ∷ entries
+
+-- timers come first, and the poller below has the room that is left; its error is the answer. Where neither has an entry, timers that are
+-- due by then have the room
 abbrev pub TimersFirst : WaitRelation → Timed Gv → ℤ → ℕ → Result ℕ Errno → List EpollEvent → Gv → Type 0
 TimersFirst may_wait t ms room answer entries after =
-    (s : TimerTableState) × (is_known : Bool) × (limit : ℤ) × IsLimit s is_known ms limit × (length (report_of s room) < room)
+    (s later : TimerTableState) × (is_known : Bool) × (limit : ℤ) × IsLimit s is_known ms limit × (length (report_of s room) < room)
     × (inner : Result ℕ Errno) × (others : List EpollEvent) × (poller : Gv)
     × FromBelow may_wait t.poller limit (room - length (report_of s room)) inner others poller
-    × (entries ≡ unless_refused inner (report_of s room ++ others)) × (answer ≡ counted_by entries inner)
-    × (after ≡ timed_code.code (record { poller = poller; counter = t.counter; others_first = false })) × AreReached s
+    × (entries ≡ unless_refused inner (or_late (report_of later room) (report_of s room ++ others))) × (answer ≡ counted_by entries inner)
+    × (after ≡ timed_code.code (record { poller = poller; counter = t.counter; others_first = false })) × AreReached s × AreReached later
 
 -- the poller below comes first, and timers have the room that is left; its error is the answer
 abbrev pub OthersFirst : WaitRelation → Timed Gv → ℤ → ℕ → Result ℕ Errno → List EpollEvent → Gv → Type 0

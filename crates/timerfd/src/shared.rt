@@ -38,13 +38,26 @@ impl State {
         ensures moved { self.new.timers ≡ reported_by (told_of now self.old.timers) (length buffer.old) }
         ensures reached { AreReached (told_of now self.old.timers) }
     {
-        if let Some(now) = now {
-            self.timers.set_time(now);
-        }
+        self.tell(now);
         let limit = self.limit(now.is_some(), ms);
         self.asleep = limit != 0;
         let front = self.timers.report(buffer);
         Begun { front, limit }
+    }
+
+    fn report(&mut self, now: Option<u64>, buffer: &mut [EpollEvent]) -> usize
+        ensures { Reports buffer.old result buffer.new }
+    {
+        self.tell(now);
+        self.timers.report(buffer)
+    }
+
+    fn tell(&mut self, now: Option<u64>)
+        ensures { self.new.timers ≡ told_of now self.old.timers }
+    {
+        if let Some(now) = now {
+            self.timers.set_time(now);
+        }
     }
 
     fn limit(&self, is_known: bool, ms: i32) -> i32
@@ -165,10 +178,18 @@ impl<C> Shared<C> {
         self.state.lock(rt).asleep = false;
     }
 
-    pub(crate) fn report<R: Wait>(&self, buffer: &mut [EpollEvent], rt: &R) -> usize
+    /// Reports timers behind the poller below; where that has slept, those that are due by now too.
+    pub(crate) fn report<R: Wait + Clock>(
+        &self,
+        has_slept: bool,
+        buffer: &mut [EpollEvent],
+        rt: &R,
+    ) -> usize
         ensures { Reports buffer.old result buffer.new }
     {
-        self.state.lock(rt).timers.report(buffer)
+        let is_armed = has_slept && self.state.lock(rt).timers.next_due().is_some();
+        let now = if is_armed { clock::now(rt).ok() } else { None };
+        self.state.lock(rt).report(now, buffer)
     }
 
     pub(crate) fn ctl<R: Wait>(

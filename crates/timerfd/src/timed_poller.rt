@@ -19,14 +19,15 @@ use vmm_sys::poller::Poller;
 const ALARM: u64 = u64::MAX;
 
 /// A poller of any type with timers beside it, each a descriptor, a [`TimerFd`](crate::TimerFd): they count down from 2147483647,
-/// and the descriptors of the poller below are the others. A wait reads the clock once where a timer is armed, else not at all.
+/// and the descriptors of the poller below are the others. A wait reads the clock where a timer is armed, else not at all.
 /// Timers come first, and the poller below has the room that is left; where timers fill the room, the poller below comes first in
 /// the next wait, and they have the room that it leaves:
 /// [`timers_and_others_take_turns`](crate::laws::timers_and_others_take_turns). Among ready timers the one that was reported last
 /// comes last, as in a [`Table`](vmm_sys::table::Table).
 ///
-/// Where no timer is ready, the poller below is waited for until the first is due, at most: the wait then returns 0, and the next
-/// one reports that timer. It returns 0, too, where another thread has armed a timer that is due before all others.
+/// Where no timer is ready, the poller below is waited for until the first is due, at most. Where nothing else is reported then, the
+/// clock is read again, and timers that are due by now are. The wait returns 0 sooner where another thread has armed a timer that is
+/// due before all others.
 pub struct TimedPoller<P, R, C = EventFd> {
     pub(crate) timers: Arc<Shared<C>>,
     poller: P,
@@ -100,8 +101,11 @@ impl<P: Poller, R: Wait + Clock + Drop, C: Counter + Drop> TimedPoller<P, R, C> 
         if self.others_first {
             return Ok(front);
         }
-        let count = self.wait_below(limit, &mut buffer[front..])?;
-        Ok(front + count)
+        let below = self.wait_below(limit, &mut buffer[front..])?;
+        if front + below == 0 && limit != 0 {
+            return Ok(self.timers.report(true, buffer, &self.rt));
+        }
+        Ok(front + below)
     }
 
     fn wait_others_first(&mut self, ms: i32, buffer: &mut [EpollEvent]) -> Result<usize, Errno>
@@ -112,7 +116,9 @@ impl<P: Poller, R: Wait + Clock + Drop, C: Counter + Drop> TimedPoller<P, R, C> 
         let Begun { limit, .. } = self.timers.begin_wait(ms, &mut [], &self.rt);
         self.others_first = false;
         let count = self.wait_below(limit, buffer)?;
-        let behind = self.timers.report(&mut buffer[count..], &self.rt);
+        let behind = self
+            .timers
+            .report(limit != 0, &mut buffer[count..], &self.rt);
         Ok(count + behind)
     }
 

@@ -1,6 +1,7 @@
 //! A poller over a table that never sleeps, says what it was asked, and does something while it waits; and a counter that says how
 //! often it was rung.
 
+use crate::clock::Face;
 use crate::expecting::{expect_ok, expect_same};
 use crate::host::Looping;
 use std::alloc::Global;
@@ -72,6 +73,8 @@ impl Counter for Rung<'_> {
 pub enum Deed<'a> {
     /// The timer is armed: it is due once, after so many nanoseconds.
     Arm(TimerFd<Rung<'a>>, u64),
+    /// The clock shows this time from then on.
+    Pass(&'a Face, u64),
     /// The wait fails.
     Fail(Errno),
 }
@@ -102,6 +105,10 @@ impl<'a, R: Wait + Clock> Probe<'a, R> {
         match deed {
             None => Ok(()),
             Some(Deed::Fail(errno)) => Err(errno),
+            Some(Deed::Pass(face, time)) => {
+                face.set(time);
+                Ok(())
+            }
             Some(Deed::Arm(timer, nanoseconds)) => {
                 let duration = Duration::from_nanos(nanoseconds);
                 self.armed = timer.reset(duration, None, &self.rt);

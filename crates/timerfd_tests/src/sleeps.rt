@@ -1,7 +1,8 @@
 //! What ends a sleep, by the calls that a poller makes while it waits: so nothing depends on the turns of threads.
 
 use crate::steps::Step::{
-    Answered, Arm, ArmBeside, Armed, Below, Change, Fail, Limit, Report, Rings, Time,
+    Answered, Arm, ArmBeside, Armed, Below, Change, Fail, Limit, Reads, Report, Rings, Sleep, Take,
+    Time,
 };
 use crate::steps::Which::{First, Other};
 use crate::steps::{run, run_with_refusal};
@@ -10,6 +11,21 @@ use vmm_sys::errno::Errno;
 
 /// A millisecond.
 const MS: u64 = 1_000_000;
+
+#[test]
+fn a_timer_that_is_due_when_a_sleep_ends_is_reported_by_it(host: HostRuntime) {
+    // Where it isn't due yet, nothing is; the clock is read before and behind the sleep.
+    let steps = [
+        Arm(First, 10 * MS),
+        Reads(1),
+        Sleep(10 * MS - 1, &[]),
+        Reads(2),
+        Sleep(10 * MS, &[1]),
+        Reads(2),
+        Take(First, Ok(1)),
+    ];
+    run(host, host.alloc(), &steps);
+}
 
 #[test]
 fn an_arming_that_is_due_first_ends_a_sleep(host: HostRuntime) {

@@ -55,6 +55,8 @@ pub enum Step<'a> {
     Report(&'a [u64]),
     /// A wait of so many milliseconds reports nothing, and waits so long for the poller below.
     Limit(i32, i32),
+    /// A wait without a limit, at whose end the clock shows this time, reports these words.
+    Sleep(u64, &'a [u64]),
     /// While the next wait lasts a timer is armed once, after this duration.
     ArmBeside(Which, u64),
     /// So that arming was answered.
@@ -129,6 +131,10 @@ impl<'a, R: Looping> Setup<'a, R> {
             Step::Limit(ms, limit) => {
                 self.report(rt, ms, &[]);
                 expect_same(rt, &self.timed.poller().ms, &limit);
+            }
+            Step::Sleep(time, words) => {
+                self.timed.poller().plan(rt, Deed::Pass(self.face, time));
+                self.report(rt, -1, words);
             }
             Step::ArmBeside(which, duration) => self.arm_beside(rt, which, duration),
             Step::Answered(answer) => expect_same(rt, &self.timed.poller().armed, &answer),
