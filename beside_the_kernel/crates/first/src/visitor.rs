@@ -2,7 +2,7 @@
 
 use crate::doorman::{Ask, Doorman};
 use event_manager::{
-    Error, EventPoller, LoopWithSenders, NamedCounter, RemoteEndpoint, Result, JobSender,
+    Error, EventPoller, JobSender, LoopWithSenders, NamedCounter, RemoteEndpoint, Result,
     SubscriberId, TrackedManager,
 };
 use linux::eventfd::EventFd;

@@ -4,4 +4,6 @@
 #[cfg(test)]
 mod descriptors;
 #[cfg(test)]
+mod timers;
+#[cfg(test)]
 mod woken;

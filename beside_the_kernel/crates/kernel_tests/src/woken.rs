@@ -1,8 +1,8 @@
 //! A caller beside a loop that the kernel's epoll puts to sleep.
 
 use event_manager::{
-    Error, EventOps, EventPoller, Events, Job, LoopWithSenders, MutEventSubscriber, NamedCounter,
-    Registry, RemoteEndpoint, Result, JobSender, Senders, TrackedManager, with_senders,
+    Error, EventOps, EventPoller, Events, Job, JobSender, LoopWithSenders, MutEventSubscriber,
+    NamedCounter, Registry, RemoteEndpoint, Result, Senders, TrackedManager, with_senders,
 };
 use linux::epoll::Epoll;
 use linux::eventfd::EventFd;
