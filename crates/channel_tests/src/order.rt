@@ -1,34 +1,7 @@
 //! In which order messages come out, and how many wait.
 
-ghost use Rattle.std.specs.Prelude.{◌≡◌, [], IfOk};
-
 use crate::expecting::{expect_ok, expect_same};
-use crate::queue_with_counter::Count;
 use crate::watched::{another, close, open, send_all};
-use channels::queue::MessageQueue;
-use std::alloc::{AllocError, Global};
-
-/// All that was sent to a queue that has returned nothing yet, in order.
-fn return_all<M: Drop>(mut queue: MessageQueue<M>, alloc: Global) -> Result<Vec<M>, AllocError>
-    requires { queue.returned ≡ [] }
-    ensures { IfOk result (λ all. all.items ≡ queue.sent) }
-{
-    let _ = queue.waiting();
-    let mut all = Vec::new(alloc);
-    queue.take(&mut all, &mut Count { value: 0 })?;
-    Ok(all)
-}
-
-#[test]
-fn all_that_was_sent_is_returned(rt: HostRuntime) {
-    let mut queue = MessageQueue::new(rt.alloc());
-    let first = queue.send(5, &mut Count { value: 0 });
-    let second = queue.send(6, &mut Count { value: 1 });
-    let all = expect_ok(&rt, return_all(queue, rt.alloc()));
-    expect_same(&rt, &first, &Ok(()));
-    expect_same(&rt, &second, &Ok(()));
-    expect_same(&rt, &all.as_slice(), &[5, 6].as_slice());
-}
 
 #[test]
 fn a_take_puts_messages_behind_what_the_list_has(rt: HostRuntime) {

@@ -6,11 +6,9 @@ use Rattle.channels.specs.declared.errors.Refusal.{Refusal}
 use Rattle.channels.specs.declared.errors.Refusal.TheVariants.{Closed, Full, OutOfMemory, EventFd}
 use Rattle.channels.specs.declared.errors.SendError.{SendError}
 
--- what was sent since the queue was made, and what was returned, each in order; what waits; how many messages can, if there is a bound;
--- how many senders haven't closed; and whether the receiver hasn't
+-- what waits, in the order in which it was sent; how many messages can, if there is a bound; how many senders haven't closed; and
+-- whether the receiver hasn't
 pub record Messages (M : Type 0) : Type 0 where
-  pub sent : List M
-  pub returned : List M
   pub waiting : List M
   pub most : Option ℕ
   pub senders : ℕ
@@ -24,7 +22,7 @@ has_room (Some most) count = nat_lt count most
 module _ {M : Type 0} where
   -- an open queue of one sender in which nothing waits
   abbrev pub new_messages : Option ℕ → Messages M
-  new_messages most = record { sent = []; returned = []; waiting = []; most = most; senders = 1; is_open = true }
+  new_messages most = record { waiting = []; most = most; senders = 1; is_open = true }
 
   -- the receiver has something to do: messages wait, or all senders have closed
   abbrev pub is_ready : Messages M → Bool
@@ -34,27 +32,22 @@ module _ {M : Type 0} where
   abbrev pub is_over : Messages M → Bool
   is_over q = (length q.waiting == 0) && (q.senders == 0)
 
-  -- a message was sent, and waits last
   abbrev pub with_message : Messages M → M → Messages M
-  with_message q message = record q { sent = q.sent ++ message ∷ []; waiting = q.waiting ++ message ∷ [] }
-
-  -- all that waited was returned
-  abbrev pub all_returned : Messages M → Messages M
-  all_returned q = record q { returned = q.returned ++ q.waiting; waiting = [] }
+  with_message q message = record q { waiting = q.waiting ++ message ∷ [] }
 
   -- all that waits is moved behind what a list has; or nothing is moved
   abbrev pub IsTaken : Messages M → List M → Result (Unit {0}) AllocError → Messages M → List M → Type 0
-  IsTaken q before (Ok _) r after = (after ≡ before ++ q.waiting) × (r ≡ all_returned q)
+  IsTaken q before (Ok _) r after = (after ≡ before ++ q.waiting) × (r ≡ record q { waiting = [] })
   IsTaken q before (Err _) r after = (after ≡ before) × (r ≡ q)
 
   -- the message that waited longest waits no more; or none waits
   abbrev pub IsReceived : Messages M → Option M → Messages M → Type 0
-  IsReceived q (Some message) r = (q.waiting ≡ message ∷ r.waiting) × (r ≡ record q { returned = q.returned ++ message ∷ []; waiting = r.waiting })
+  IsReceived q (Some message) r = (q.waiting ≡ message ∷ r.waiting) × (r ≡ record q { waiting = r.waiting })
   IsReceived q None r = (q.waiting ≡ []) × (r ≡ q)
 
   -- all that waits is handed out, and no message is taken in from now on
   abbrev pub IsClosed : Messages M → List M → Messages M → Type 0
-  IsClosed q all r = (all ≡ q.waiting) × (r ≡ record (all_returned q) { is_open = false })
+  IsClosed q all r = (all ≡ q.waiting) × (r ≡ record q { waiting = []; is_open = false })
 
   -- one sender more beside at least one; or none is left, or they can't be counted further
   abbrev pub IsJoined : Messages M → Result (Unit {0}) AllocError → Messages M → Type 0

@@ -1,7 +1,7 @@
 //! A list of messages that only clauses see.
 
 ghost use Rattle.std.specs.Prelude.{◌≡◌, ◌++◌, ◌∷◌, [], drop};
-ghost use Rattle.channels.specs.History.{messages_of};
+ghost use Rattle.channels.specs.Tracked.{messages_of};
 
 use std::mem;
 use std::snapshot::Snapshot;
@@ -27,9 +27,9 @@ pub(crate) fn push<M>(history: &mut Snapshot<History<M>>, message: Snapshot<M>)
     *history = Snapshot::of(&History::One(before, message));
 }
 
-pub(crate) fn push_rest<M>(history: &mut Snapshot<History<M>>, list: Snapshot<Vec<M>>, from: usize)
-    ensures { messages_of history.new.value ≡ messages_of history.old.value ++ drop from list.value.items }
+pub(crate) fn push_rest<M>(history: &mut Snapshot<History<M>>, list: &Vec<M>, from: usize)
+    ensures { messages_of history.new.value ≡ messages_of history.old.value ++ drop from list.now.items }
 {
     let before = mem::replace(history, nothing());
-    *history = Snapshot::of(&History::Rest(before, list, Snapshot::of(&from)));
+    *history = Snapshot::of(&History::Rest(before, Snapshot::of(list), Snapshot::of(&from)));
 }

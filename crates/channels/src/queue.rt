@@ -1,16 +1,14 @@
 //! The messages of a channel, without a lock.
 
-ghost use Rattle.std.specs.Prelude.{◌≡◌, ◌<◌, ◌+◌, ◌++◌, length, vec_len, vec_capacity, IfOk, OnErr, MatchBool, not, ◌&&◌};
+ghost use Rattle.std.specs.Prelude.{◌≡◌, ◌<◌, ◌+◌, length, vec_len, vec_capacity, IfOk, OnErr, MatchBool, not, ◌&&◌};
 ghost use Rattle.channels.specs.Room.{is_full};
 ghost use Rattle.channels.specs.Messages.{has_room, is_over, is_ready, new_messages, IsRaised, IsSend, IsLeave, IsTaken, IsReceived, IsClosed, IsJoined, IsLowered};
 
 use crate::errors::{Refusal, SendError};
-use crate::history::{self, History};
 use std::alloc::{AllocError, Global};
 use std::collections::VecDeque;
 use std::marker::Model;
 use std::mem;
-use std::snapshot::Snapshot;
 use vmm_sys::errno::Errno;
 
 /// What notifies an end of a queue.
@@ -37,39 +35,24 @@ pub trait Signal {
 ///
 /// The signal is raised where a first message waits or the last sender has closed, and lowered where neither is so any more: it is
 /// raised exactly while there is something for the receiver, and a batch costs one raise.
-///
-/// What was returned, followed by what waits, is what was sent, in order: nothing is lost, doubled or made up.
 #[derive(Drop)]
 pub struct MessageQueue<M> {
     waiting: VecDeque<M>,
     most: Option<usize>,
     senders: u64,
     is_open: bool,
-    sent: Snapshot<History<M>>,
-    returned: Snapshot<History<M>>,
 }
 
 impl<M> Model for MessageQueue<M> {
-    ghost use Rattle.std.specs.Prelude.{◌≡◌, ◌≤◌, ◌++◌, true, false, [], IfSome};
+    ghost use Rattle.std.specs.Prelude.{◌≡◌, ◌≤◌, true, false, [], IfSome};
     ghost use Rattle.std.specs.VecDeque.{deque_capacity};
     ghost use Rattle.channels.specs.Messages.{Messages};
-    ghost use Rattle.channels.specs.History.{messages_of};
 
     ghost Value = { Messages M };
 
-    ghost view = { λ q. record {
-      sent = messages_of q.sent.value;
-      returned = messages_of q.returned.value;
-      waiting = q.waiting.items;
-      most = q.most;
-      senders = q.senders;
-      is_open = q.is_open;
-    } };
+    ghost view = { λ q. record { waiting = q.waiting.items; most = q.most; senders = q.senders; is_open = q.is_open } };
 
-    ghost invariant = { λ q.
-        (q.is_open ≡ false → q.waiting.items ≡ [])
-        × (q.is_open ≡ true → IfSome q.most (λ most. most ≤ deque_capacity q.waiting))
-        × (messages_of q.returned.value ++ q.waiting.items ≡ messages_of q.sent.value) };
+    ghost invariant = { λ q. (q.is_open ≡ false → q.waiting.items ≡ []) × (q.is_open ≡ true → IfSome q.most (λ most. most ≤ deque_capacity q.waiting)) };
 }
 
 impl<M> MessageQueue<M> {
@@ -82,8 +65,6 @@ impl<M> MessageQueue<M> {
             most: None,
             senders: 1,
             is_open: true,
-            sent: history::nothing(),
-            returned: history::nothing(),
         }
     }
 
@@ -96,15 +77,12 @@ impl<M> MessageQueue<M> {
             most: Some(most),
             senders: 1,
             is_open: true,
-            sent: history::nothing(),
-            returned: history::nothing(),
         })
     }
 
     /// How many messages wait.
     pub fn waiting(&self) -> usize
-        ensures waiting { result ≡ length self.now.waiting }
-        ensures in_order { self.now.returned ++ self.now.waiting ≡ self.now.sent }
+        ensures { result ≡ length self.now.waiting }
     {
         self.waiting.len()
     }
@@ -171,7 +149,6 @@ impl<M> MessageQueue<M> {
         } else if let Err(errno) = self.raise(signal) {
             Refusal::EventFd(errno)
         } else {
-            history::push(&mut self.sent, Snapshot::of(&message));
             self.waiting.push_back_reserved(message);
             return Ok(());
         };
@@ -187,11 +164,7 @@ impl<M> MessageQueue<M> {
         let was_ready = self.is_ready();
         let empty = VecDeque::new(*self.waiting.allocator());
         let mut all = mem::replace(&mut self.waiting, empty).into_vec();
-        let waiting = Snapshot::of(&all);
         let taken = into.append(&mut all);
-        if taken.is_ok() {
-            history::push_rest(&mut self.returned, waiting, 0);
-        }
         mem::replace(&mut self.waiting, VecDeque::from_vec(all)).destroy_empty();
         self.lower(was_ready, signal);
         taken
@@ -204,9 +177,6 @@ impl<M> MessageQueue<M> {
     {
         let was_ready = self.is_ready();
         let message = self.waiting.pop_front();
-        if let Some(message) = &message {
-            history::push(&mut self.returned, Snapshot::of(message));
-        }
         self.lower(was_ready, signal);
         message
     }
@@ -219,7 +189,6 @@ impl<M> MessageQueue<M> {
         let was_ready = self.is_ready();
         let empty = VecDeque::new(*self.waiting.allocator());
         let all = mem::replace(&mut self.waiting, empty).into_vec();
-        history::push_rest(&mut self.returned, Snapshot::of(&all), 0);
         self.is_open = false;
         self.lower(was_ready, signal);
         all

@@ -25,8 +25,7 @@ pub struct TrackedSender<M, C = EventFd> {
 }
 
 impl<M, C> Model for TrackedSender<M, C> {
-    ghost use Rattle.channels.specs.Tracked.{Sent};
-    ghost use Rattle.channels.specs.History.{messages_of};
+    ghost use Rattle.channels.specs.Tracked.{Sent, messages_of};
 
     ghost Value = { Sent M C };
 
@@ -80,8 +79,7 @@ pub struct TrackedReceiver<M, C = EventFd> {
 }
 
 impl<M, C> Model for TrackedReceiver<M, C> {
-    ghost use Rattle.channels.specs.Tracked.{Received};
-    ghost use Rattle.channels.specs.History.{messages_of};
+    ghost use Rattle.channels.specs.Tracked.{Received, messages_of};
 
     ghost Value = { Received M C };
 
@@ -105,7 +103,7 @@ impl<M: Drop, C: Counter + Drop> TrackedReceiver<M, C> {
     {
         let from = into.len();
         self.receiver.take(into, rt)?;
-        history::push_rest(&mut self.received, Snapshot::of(into), from);
+        history::push_rest(&mut self.received, into, from);
         Ok(())
     }
 
