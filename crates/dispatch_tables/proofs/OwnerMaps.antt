@@ -68,15 +68,15 @@ one_of id priority = record { id = id; priority = priority }
 find_before : (q k : ℕ) (low : List OwnerSlot) → q < k → find nat_cmp q (low_entries k low) ≡ None
 find_before q k [] below = refl
 find_before q k (Vacant ∷ low) below = find_before q (k + 1) low (omega (arith, below))
-find_before q k (Owned priority place id position ∷ low) below =
+find_before q k (Owned priority place id index ∷ low) below =
     found q k (one_of id priority) (low_entries (k + 1) low) ∙ ap (λ o. cond (q == k) (Some (one_of id priority)) o) (find_before q (k + 1) low (omega (arith, below))) ∙ grind (arith, nat_tests, below)
 
 find_low : (q k : ℕ) (low : List OwnerSlot) → find nat_cmp (k + q) (low_entries k low) ≡ ownership_at low q
 find_low q k [] = refl
 find_low zero k (Vacant ∷ low) = find_before (k + 0) (k + 1) low (omega arith)
 find_low (suc q) k (Vacant ∷ low) = ap (λ n. find nat_cmp n (low_entries (k + 1) low)) (one_on k q) ∙ find_low q (k + 1) low
-find_low zero k (Owned priority place id position ∷ low) = found (k + 0) k (one_of id priority) (low_entries (k + 1) low) ∙ grind (arith, nat_tests)
-find_low (suc q) k (Owned priority place id position ∷ low) =
+find_low zero k (Owned priority place id index ∷ low) = found (k + 0) k (one_of id priority) (low_entries (k + 1) low) ∙ grind (arith, nat_tests)
+find_low (suc q) k (Owned priority place id index ∷ low) =
     found (k + suc q) k (one_of id priority) (low_entries (k + 1) low)
     ∙ ap (λ b. cond b (Some (one_of id priority)) (find nat_cmp (k + suc q) (low_entries (k + 1) low))) (apart_from k q)
     ∙ ap (λ n. find nat_cmp n (low_entries (k + 1) low)) (one_on k q)

@@ -14,7 +14,7 @@ ownership_of owner = record { id = owner.id; priority = owner.priority }
 -- a slot of the vector as well
 abbrev pub slot_ownership : OwnerSlot → Option Ownership
 slot_ownership Vacant = None
-slot_ownership (Owned priority place id position) = Some (record { id = id; priority = priority })
+slot_ownership (Owned priority place id index) = Some (record { id = id; priority = priority })
 
 -- what the vector has at a descriptor; what the map has
 abbrev pub ownership_at : List OwnerSlot → ℕ → Option Ownership
@@ -30,7 +30,7 @@ ownership_in high fd = option_map ownership_of (owner_in high fd)
 abbrev pub low_entries : ℕ → List OwnerSlot → List (ℕ × Ownership)
 low_entries k [] = []
 low_entries k (Vacant ∷ low) = low_entries (k + 1) low
-low_entries k (Owned priority place id position ∷ low) = (k, record { id = id; priority = priority }) ∷ low_entries (k + 1) low
+low_entries k (Owned priority place id index ∷ low) = (k, record { id = id; priority = priority }) ∷ low_entries (k + 1) low
 
 abbrev pub high_entries : List (ℕ × Owner) → List (ℕ × Ownership)
 high_entries high = map (λ entry. (entry.0, ownership_of entry.1)) high

@@ -16,16 +16,16 @@ use std::mem;
 const LOW_DESCRIPTORS: u32 = 1048576;
 
 /// The id of a subscriber that owns a descriptor, the place where the registry held it when it added the descriptor, the priority
-/// that it then gave, and the position at which the descriptor is looked for first in its watch list.
+/// that it then gave, and the index at which the descriptor is looked for first in its watch list.
 #[derive(Clone, Copy)]
 pub struct Owner {
     pub id: u64,
     pub place: usize,
-    pub position: usize,
+    pub index: usize,
     pub priority: Priority,
 }
 
-/// The owner of a low descriptor, if it has one; its fields are ordered to take 24 bytes. Place and position are compared where
+/// The owner of a low descriptor, if it has one; its fields are ordered to take 24 bytes. Place and index are compared where
 /// they are used; one that 32 bits don't hold is kept as the highest number.
 #[derive(Clone, Copy)]
 enum OwnerSlot {
@@ -34,7 +34,7 @@ enum OwnerSlot {
         priority: Priority,
         place: u32,
         id: u64,
-        position: u32,
+        index: u32,
     },
 }
 
@@ -48,7 +48,7 @@ impl OwnerSlot {
             priority: owner.priority,
             place: shortened(owner.place),
             id: owner.id,
-            position: shortened(owner.position),
+            index: shortened(owner.index),
         }
     }
 
@@ -61,18 +61,18 @@ impl OwnerSlot {
                 priority,
                 place,
                 id,
-                position,
+                index,
             } => Some(Owner {
                 id,
                 place: place as usize,
-                position: position as usize,
+                index: index as usize,
                 priority,
             }),
         }
     }
 }
 
-/// A place or a position in 32 bits.
+/// A place or an index in 32 bits.
 fn shortened(index: usize) -> u32 {
     u32::try_from(index).unwrap_or(u32::MAX)
 }
@@ -155,34 +155,34 @@ impl Owners {
     }
 
     /// Notes where the descriptor now stands in its owner's watch list. Takes no memory.
-    pub fn set_position(&mut self, fd: u32, position: usize)
+    pub fn set_index(&mut self, fd: u32, index: usize)
         ensures { self.new ≡ self.old }
     {
         if fd < LOW_DESCRIPTORS {
-            set_position_at(&mut self.low, fd as usize, position);
+            set_index_at(&mut self.low, fd as usize, index);
             return;
         }
-        set_position_in(&mut self.high, fd, position);
+        set_index_in(&mut self.high, fd, index);
     }
 }
 
-/// Notes another position beside the owner at a descriptor, if it has one.
-fn set_position_at(low: &mut Vec<OwnerSlot>, fd: usize, new_position: usize)
+/// Notes another index beside the owner at a descriptor, if it has one.
+fn set_index_at(low: &mut Vec<OwnerSlot>, fd: usize, new_index: usize)
     ensures len { length low.new.items ≡ length low.old.items }
     ensures same { HaveSameOwners (ownership_at low.old.items) (ownership_at low.new.items) }
 {
     if fd < low.len() {
-        if let OwnerSlot::Owned { position, .. } = &mut low[fd] {
-            *position = shortened(new_position);
+        if let OwnerSlot::Owned { index, .. } = &mut low[fd] {
+            *index = shortened(new_index);
         }
     }
 }
 
-fn set_position_in(high: &mut HashMap<u32, Owner>, fd: u32, position: usize)
+fn set_index_in(high: &mut HashMap<u32, Owner>, fd: u32, index: usize)
     ensures { HaveSameOwners (ownership_in high.old.entries) (ownership_in high.new.entries) }
 {
     if let Some(owner) = high.get_mut(&fd) {
-        owner.position = position;
+        owner.index = index;
     }
 }
 

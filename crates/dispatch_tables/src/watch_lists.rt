@@ -16,7 +16,7 @@ struct WatchList {
 }
 
 /// The descriptors of each subscriber, by id. A list is looked for at the place that its subscriber has in the registry (`near`),
-/// and a descriptor at the position where it was put; only if they aren't there, at all places. An empty list goes to the next id
+/// and a descriptor at the index where it was put; only if they aren't there, at all places. An empty list goes to the next id
 /// at its place, with the memory that it has.
 #[derive(Drop)]
 pub struct WatchLists {
@@ -26,11 +26,11 @@ pub struct WatchLists {
     alloc: Global,
 }
 
-/// A descriptor that moved to the position of one that was removed from its list.
+/// A descriptor that moved to the index of one that was removed from its list.
 #[derive(Clone, Copy)]
 pub struct Moved {
     pub fd: u32,
-    pub position: usize,
+    pub index: usize,
 }
 
 impl WatchLists {
@@ -78,7 +78,7 @@ impl WatchLists {
         Ok(place)
     }
 
-    /// Puts the descriptor into the list of the id, and returns its position there. Memory may be refused.
+    /// Puts the descriptor into the list of the id, and returns its index there. Memory may be refused.
     pub fn insert(&mut self, id: u64, near: usize, fd: u32) -> Result<usize, AllocError>
         requires { AreDistinct self.old }
         ensures distinct { AreDistinct self.new }
@@ -89,15 +89,15 @@ impl WatchLists {
         push_at(&mut self.lists, place, fd)
     }
 
-    /// Removes the descriptor from the list of the id, and returns the one that took its position, if any. Takes no memory.
-    pub fn remove(&mut self, id: u64, near: usize, fd: u32, position: usize) -> Option<Moved>
+    /// Removes the descriptor from the list of the id, and returns the one that took its index, if any. Takes no memory.
+    pub fn remove(&mut self, id: u64, near: usize, fd: u32, index: usize) -> Option<Moved>
         requires distinct { AreDistinct self.old }
         requires listed { times_watched self.old id fd ≡ 1 }
         ensures distinct { AreDistinct self.new }
         ensures removed { HasOneMore self.new id fd self.old }
     {
         match self.place_of(id, near) {
-            Some(place) => take_at(&mut self.lists, place, fd, position),
+            Some(place) => take_at(&mut self.lists, place, fd, index),
             None => None,
         }
     }
@@ -169,33 +169,33 @@ fn push_at(lists: &mut Vec<WatchList>, place: usize, fd: u32) -> Result<usize, A
     ensures err { OnErr result (HasChangedAt place (λ before after. after ≡ before) lists.old.items lists.new.items) }
 {
     let fds = &mut lists[place].fds;
-    let position = fds.len();
+    let index = fds.len();
     fds.push(fd)?;
-    Ok(position)
+    Ok(index)
 }
 
-fn take_at(lists: &mut Vec<WatchList>, place: usize, fd: u32, position: usize) -> Option<Moved>
+fn take_at(lists: &mut Vec<WatchList>, place: usize, fd: u32, index: usize) -> Option<Moved>
     requires within { place < length lists.old.items }
     requires listed { (d : WatchList) → 0 < times_in (slice_index_or lists.old.items place d).fds.items fd }
     ensures { HasChangedAt place (λ before after. IsOneMore after fd before) lists.old.items lists.new.items }
 {
-    take_out(&mut lists[place].fds, fd, position)
+    take_out(&mut lists[place].fds, fd, index)
 }
 
-/// Removes a descriptor from a list, and returns the one that took its position.
+/// Removes a descriptor from a list, and returns the one that took its index.
 fn take_out(fds: &mut Vec<u32>, fd: u32, near: usize) -> Option<Moved>
     requires { 0 < times_in fds.old.items fd }
     ensures { IsOneMore fds.new.items fd fds.old.items }
 {
-    let position = position_of(fds, fd, near)?;
-    let _ = fds.swap_remove(position);
-    match fds.get(position) {
-        Some(fd) => Some(Moved { fd: *fd, position }),
+    let index = index_of(fds, fd, near)?;
+    let _ = fds.swap_remove(index);
+    match fds.get(index) {
+        Some(fd) => Some(Moved { fd: *fd, index }),
         None => None,
     }
 }
 
-fn position_of(fds: &[u32], fd: u32, near: usize) -> Option<usize>
+fn index_of(fds: &[u32], fd: u32, near: usize) -> Option<usize>
     ensures { MatchOption result (All (λ one. one ≢ fd) fds.now) (λ at. (at < length fds.now) × ((d : ℕ) → slice_index_or fds.now at d ≡ fd)) }
 {
     if fds.get(near) == Some(&fd) {

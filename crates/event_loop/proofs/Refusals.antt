@@ -1,7 +1,8 @@
 -- What it tells that a request is, or isn't, refused without the poller being asked.
-use Rattle.std.proofs.Common.{◌≡◌, ℕ, Some, None, pos, arith}
+use Rattle.std.proofs.Common.{◌≡◌, ℕ, Some, None, arith}
 use Rattle.std.proofs.lemmas.Bool.Decides.{nat_tests}
 use Rattle.event_loop.specs.Prelude.{Event, Registrations, Owns, IsFree, addition_refusal, refusal_of}
+use Rattle.vmm_sys.specs.declared.errno.TheConstants.Errno.{ENOENT}
 use Rattle.event_loop.specs.declared.error.Error.TheVariants.{Epoll}
 use Rattle.event_loop.specs.declared.events.Request.TheVariants.{Remove}
 
@@ -17,5 +18,5 @@ module _ (i : ℕ) (registrations : Registrations) (e : Event) where
   pub own_is_agreed : Owns i registrations e.fd → refusal_of i registrations (Remove e) ≡ None
   own_is_agreed h = grind (arith, nat_tests)
 
-  pub other_is_refused : ¬ Owns i registrations e.fd → refusal_of i registrations (Remove e) ≡ Some (Epoll (record { 0 = pos 2 }))
+  pub other_is_refused : ¬ Owns i registrations e.fd → refusal_of i registrations (Remove e) ≡ Some (Epoll ENOENT)
   other_is_refused h = grind (arith, nat_tests)

@@ -1,5 +1,5 @@
 -- Requests of a subscriber, their answers, and what they do to the registrations.
-use Rattle.std.specs.Prelude.{◌≡◌, ℕ, ◌+◌, ◌==◌, ℤ, Bool, false, not, List, [], ◌∷◌, ◌++◌, map, filter, Option, Some, None, unwrap_or, is_some, IsSome, if◌then◌else◌, Result, Ok, Err, pos}
+use Rattle.std.specs.Prelude.{◌≡◌, ℕ, ◌+◌, ◌==◌, ℤ, Bool, false, not, List, [], ◌∷◌, ◌++◌, map, filter, Option, Some, None, unwrap_or, is_some, IsSome, if◌then◌else◌, Result, Ok, Err}
 use Rattle.std.specs.List.{list_any}
 use Rattle.std.specs.Result.{result_and}
 use Rattle.std.specs.FinMap as finite
@@ -10,6 +10,7 @@ use Rattle.dispatch_tables.specs.Ownership.{owner_of}
 use Rattle.dispatch_tables.specs.declared.priority.Priority.{Priority}
 use Rattle.dispatch_tables.specs.declared.priority.Priority.TheVariants.{Lowest}
 use Rattle.vmm_sys.specs.declared.errno.Errno.{Errno}
+use Rattle.vmm_sys.specs.declared.errno.TheConstants.Errno.{ENOENT, EEXIST}
 use Rattle.vmm_sys.specs.declared.entries.ControlOperation.{ControlOperation}
 use Rattle.vmm_sys.specs.declared.entries.ControlOperation.TheVariants as operation
 use Rattle.event_loop.specs.declared.error.Error.{Error}
@@ -51,7 +52,7 @@ call_for request answer = Control (operation_of request) (event_of request).fd (
 abbrev pub addition_refusal : Registrations → ℕ → Option Error
 addition_refusal registrations fd =
     if is_some (finite.get registrations.owners fd) then Some FdAlreadyRegistered
-    else if fd == registrations.endpoint then Some (Epoll (record { 0 = pos 17 }))
+    else if fd == registrations.endpoint then Some (Epoll EEXIST)
     else None
 
 -- the first reason to refuse id i a request without asking the poller: as said of an addition; else i isn't the owner
@@ -59,7 +60,7 @@ abbrev pub refusal_of : ℕ → Registrations → Request → Option Error
 refusal_of i registrations request =
     if is_some (priority_asked request) then addition_refusal registrations (event_of request).fd
     else if is_id i (owner_of registrations.owners (event_of request).fd) then None
-    else Some (Epoll (record { 0 = pos 2 }))
+    else Some (Epoll ENOENT)
 
 -- the registrations once the poller agreed: id i owns what it added; what it removed is free, and its events are pending no more
 abbrev pub registrations_after : ℕ → Request → Registrations → Registrations

@@ -38,12 +38,12 @@ fn disown(owners: &mut Owners, owned: &mut usize, raised: &mut usize, fd: u32) -
     Some(owner)
 }
 
-/// Notes the new position of a descriptor that took the one of a removed descriptor in a watch list.
+/// Notes the new index of a descriptor that took the one of a removed descriptor in a watch list.
 fn note_moved(owners: &mut Owners, moved: Option<Moved>)
     ensures { owners.new ≡ owners.old }
 {
     if let Some(moved) = moved {
-        owners.set_position(moved.fd, moved.position);
+        owners.set_index(moved.fd, moved.index);
     }
 }
 
@@ -149,11 +149,11 @@ impl DescriptorOwners {
         ensures more { map.len self.new.owners ≤ map.len self.old.owners + 1 }
     {
         let fd = events.number();
-        let position = self.watched.insert(id, place, fd)?;
+        let index = self.watched.insert(id, place, fd)?;
         let owner = Owner {
             id,
             place,
-            position,
+            index,
             priority,
         };
         match self.owners.insert(fd, owner) {
@@ -163,7 +163,7 @@ impl DescriptorOwners {
                 Ok(())
             }
             Err(_) => {
-                let _ = self.watched.remove(id, place, fd, position);
+                let _ = self.watched.remove(id, place, fd, index);
                 Err(Error::OutOfMemory)
             }
         }
@@ -178,7 +178,7 @@ impl DescriptorOwners {
         let Some(owner) = disown(&mut self.owners, &mut self.owned, &mut self.raised, fd) else {
             unreachable!()
         };
-        let moved = self.watched.remove(id, owner.place, fd, owner.position);
+        let moved = self.watched.remove(id, owner.place, fd, owner.index);
         note_moved(&mut self.owners, moved);
     }
 

@@ -25,7 +25,7 @@ invariant_of-self-in-Ok c =
     let one : Ownership = record { id = c.args.id; priority = c.args.priority } in
     let free = rw (← c.self.view_is, ← c.number-fd.ensures.value) at c.requires in
     let counted = counted_more b.owners b.owned b.raised inv.counted fd one free in
-    rw (c.from.ensures, c.is_raised.ensures) (consistent_registered b.owners c.insert-2.new.self b.owned b.raised b.watched c.insert.new.self inv fd one (b.owned + 1) _ free c.number-fd.ensures.is_descriptor c.in-Ok.ensures.ok counted c.insert.ensures.distinct c.in_ok-position.ensures.ok)
+    rw (c.from.ensures, c.is_raised.ensures) (consistent_registered b.owners c.insert-2.new.self b.owned b.raised b.watched c.insert.new.self inv fd one (b.owned + 1) _ free c.number-fd.ensures.is_descriptor c.in-Ok.ensures.ok counted c.insert.ensures.distinct c.in_ok-index.ensures.ok)
 
 pub returns-in-Ok-clause-more : goal.returns-in-Ok-clause-more
 returns-in-Ok-clause-more c =
