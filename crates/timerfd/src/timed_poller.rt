@@ -25,9 +25,9 @@ const ALARM: u64 = u64::MAX;
 /// [`timers_and_others_take_turns`](crate::laws::timers_and_others_take_turns). Among ready timers the one that was reported last
 /// comes last, as in a [`Table`](vmm_sys::table::Table).
 ///
-/// Where no timer is ready, the poller below is waited for until the first is due, at most. Where nothing else is reported then, the
-/// clock is read again, and timers that are due by now are. The wait returns 0 sooner where another thread has armed a timer that is
-/// due before all others.
+/// Where no timer is ready, the poller below is waited for until the first is due, at most. Behind that wait, where nothing else is
+/// reported or the poller below came first, the clock is read again, and timers that are due by then are reported. The wait returns
+/// 0 sooner where another thread has armed a timer that is due before all others.
 pub struct TimedPoller<P, R, C = EventFd> {
     pub(crate) timers: Arc<Shared<C>>,
     poller: P,
