@@ -1,2 +1,3 @@
 pub mod WakeUps
 pub mod Rooms
+pub mod Order

@@ -4,3 +4,4 @@ pub mod Ends
 pub mod Steps
 pub mod Room
 pub mod Tracked
+pub mod History

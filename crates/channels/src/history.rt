@@ -1,35 +1,64 @@
-//! A list of messages that only clauses see.
+//! A list that only clauses see.
 
-ghost use Rattle.std.specs.Prelude.{◌≡◌, ◌++◌, ◌∷◌, [], drop};
-ghost use Rattle.channels.specs.Tracked.{messages_of};
+ghost use Rattle.std.specs.Prelude.{◌≡◌, ◌++◌, ◌∷◌, List, [], drop};
+ghost use Rattle.std.specs.Borrow.{ftrue};
 
-use std::mem;
+use std::marker::{Model, PhantomData};
 use std::snapshot::Snapshot;
 
+/// A list that only clauses see: it takes neither bytes nor memory. A subscriber may keep one, of what it has sent, or was given.
 #[derive(Drop)]
-pub(crate) enum History<M> {
+pub struct History<T> {
+    of: PhantomData<T>,
+    /// Its values, in order.
+    pub ghost items: { List T },
+}
+
+impl<T> Model for History<T> {
+    ghost also_owns = { λ _. ftrue };
+}
+
+// It owns nothing, so it may go to another thread.
+unsafe impl<T> Send for History<T> {}
+
+#[derive(Drop)]
+pub(crate) enum Entries<T> {
     Empty,
-    One(Snapshot<History<M>>, Snapshot<M>),
-    // The messages of a list from an index on.
-    Rest(Snapshot<History<M>>, Snapshot<Vec<M>>, Snapshot<usize>),
+    More(Snapshot<History<T>>, Snapshot<T>),
+    // Those of a list from an index on.
+    Rest(Snapshot<History<T>>, Snapshot<Vec<T>>, Snapshot<usize>),
 }
 
-pub(crate) fn nothing<M>() -> Snapshot<History<M>>
-    ensures { messages_of result.value ≡ [] }
-{
-    Snapshot::of(&History::Empty)
-}
+impl<T> History<T> {
+    ghost use Rattle.channels.specs.History.{items_of};
 
-pub(crate) fn push<M>(history: &mut Snapshot<History<M>>, message: Snapshot<M>)
-    ensures { messages_of history.new.value ≡ messages_of history.old.value ++ message.value ∷ [] }
-{
-    let before = mem::replace(history, nothing());
-    *history = Snapshot::of(&History::One(before, message));
-}
+    /// The empty list.
+    pub fn new() -> Self
+        ensures { result.items ≡ [] }
+    {
+        History::of(&Entries::Empty)
+    }
 
-pub(crate) fn push_rest<M>(history: &mut Snapshot<History<M>>, list: &Vec<M>, from: usize)
-    ensures { messages_of history.new.value ≡ messages_of history.old.value ++ drop from list.now.items }
-{
-    let before = mem::replace(history, nothing());
-    *history = Snapshot::of(&History::Rest(before, Snapshot::of(list), Snapshot::of(&from)));
+    /// Puts a value last.
+    pub fn push(&mut self, value: Snapshot<T>)
+        ensures { self.new.items ≡ self.old.items ++ value.value ∷ [] }
+    {
+        let before = Snapshot::of(&*self);
+        *self = History::of(&Entries::More(before, value));
+    }
+
+    /// Puts last what a list has from an index on.
+    pub fn push_rest(&mut self, list: &Vec<T>, from: usize)
+        ensures { self.new.items ≡ self.old.items ++ drop from list.now.items }
+    {
+        let before = Snapshot::of(&*self);
+        *self = History::of(&Entries::Rest(before, Snapshot::of(list), Snapshot::of(&from)));
+    }
+
+    fn of(entries: &Entries<T>) -> Self
+        ensures { result.items ≡ items_of entries.now }
+    {
+        let _ = entries;
+        History { of: PhantomData }
+    }
 }

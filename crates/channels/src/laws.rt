@@ -2,7 +2,7 @@
 
 ghost use Rattle.std.specs.Prelude.{◌≡◌, ℕ, List, Option};
 ghost use Rattle.channels.specs.Room.{QueueWithCounters, IsRoomCounterUpdated, AreStepsAndUpdates, NoRoomIsMissed, new_queue_with_counters};
-ghost use Rattle.channels.specs.Steps.{QueueWithCounter, AreSteps, NoWakeUpIsLost, new_queue_with_counter};
+ghost use Rattle.channels.specs.Steps.{QueueWithCounter, AreSteps, NoWakeUpIsLost, IsInOrder, new_queue_with_counter};
 
 /// A step on a queue of messages, or on its receiver's counter.
 #[derive(Drop)]
@@ -29,6 +29,14 @@ pub fn no_wake_up_is_lost<M>()
     ensures new { (most : Option ℕ) → NoWakeUpIsLost (new_queue_with_counter {M = M} most) }
     ensures kept { (before : QueueWithCounter M) (steps : List (QueueStep M)) (after : QueueWithCounter M) →
         AreSteps before steps after → NoWakeUpIsLost before → NoWakeUpIsLost after }
+{}
+
+/// No message is lost, doubled or made up, and none overtakes another: what was returned, followed by what waits, is what was sent, in
+/// the order in which the sends were agreed to, so a merge of what each sender sent. That holds of a new queue, and after any steps.
+pub fn messages_come_in_order<M>()
+    ensures new { (most : Option ℕ) → IsInOrder (new_queue_with_counter {M = M} most) }
+    ensures kept { (before : QueueWithCounter M) (steps : List (QueueStep M)) (after : QueueWithCounter M) →
+        AreSteps before steps after → IsInOrder before → IsInOrder after }
 {}
 
 /// No room is missed where the senders' counter is updated behind each step: its value is 0 only where a send is refused as `Full`, or

@@ -8,7 +8,7 @@
 
 mod ends;
 mod errors;
-mod history;
+pub mod history;
 pub mod laws;
 pub mod queue;
 mod receiver;

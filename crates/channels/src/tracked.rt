@@ -4,7 +4,7 @@ ghost use Rattle.std.specs.Prelude.{◌≡◌, ◌++◌, ◌∷◌, List, [], Er
 ghost use Rattle.channels.specs.Ends.{counter_of_sender, room_of_sender, IsSendRefusal};
 
 use crate::errors::{CloseError, SendError};
-use crate::history::{self, History};
+use crate::history::History;
 use crate::receiver::Receiver;
 use crate::sender::Sender;
 use std::alloc::AllocError;
@@ -21,15 +21,15 @@ use vmm_sys::eventfd::EventFd;
 #[derive(Drop)]
 pub struct TrackedSender<M, C = EventFd> {
     sender: Sender<M, C>,
-    sent: Snapshot<History<M>>,
+    sent: History<M>,
 }
 
 impl<M, C> Model for TrackedSender<M, C> {
-    ghost use Rattle.channels.specs.Tracked.{Sent, messages_of};
+    ghost use Rattle.channels.specs.Tracked.{Sent};
 
     ghost Value = { Sent M C };
 
-    ghost view = { λ it. record { sender = it.sender; messages = messages_of it.sent.value } };
+    ghost view = { λ it. record { sender = it.sender; messages = it.sent.items } };
 }
 
 impl<M: Drop, C: Counter + Drop> TrackedSender<M, C> {
@@ -39,7 +39,7 @@ impl<M: Drop, C: Counter + Drop> TrackedSender<M, C> {
     {
         TrackedSender {
             sender,
-            sent: history::nothing(),
+            sent: History::new(),
         }
     }
 
@@ -51,7 +51,7 @@ impl<M: Drop, C: Counter + Drop> TrackedSender<M, C> {
     {
         let snapshot = Snapshot::of(&message);
         self.sender.send(message, rt)?;
-        history::push(&mut self.sent, snapshot);
+        self.sent.push(snapshot);
         Ok(())
     }
 
@@ -75,15 +75,15 @@ impl<M: Drop, C: Counter + Drop> TrackedSender<M, C> {
 #[derive(Drop)]
 pub struct TrackedReceiver<M, C = EventFd> {
     receiver: Receiver<M, C>,
-    received: Snapshot<History<M>>,
+    received: History<M>,
 }
 
 impl<M, C> Model for TrackedReceiver<M, C> {
-    ghost use Rattle.channels.specs.Tracked.{Received, messages_of};
+    ghost use Rattle.channels.specs.Tracked.{Received};
 
     ghost Value = { Received M C };
 
-    ghost view = { λ it. record { receiver = it.receiver; messages = messages_of it.received.value } };
+    ghost view = { λ it. record { receiver = it.receiver; messages = it.received.items } };
 }
 
 impl<M: Drop, C: Counter + Drop> TrackedReceiver<M, C> {
@@ -93,7 +93,7 @@ impl<M: Drop, C: Counter + Drop> TrackedReceiver<M, C> {
     {
         TrackedReceiver {
             receiver,
-            received: history::nothing(),
+            received: History::new(),
         }
     }
 
@@ -103,7 +103,7 @@ impl<M: Drop, C: Counter + Drop> TrackedReceiver<M, C> {
     {
         let from = into.len();
         self.receiver.take(into, rt)?;
-        history::push_rest(&mut self.received, into, from);
+        self.received.push_rest(into, from);
         Ok(())
     }
 
@@ -112,7 +112,7 @@ impl<M: Drop, C: Counter + Drop> TrackedReceiver<M, C> {
         ensures { self.new ≡ record self.old { messages = self.old.messages ++ option_to_list result } }
     {
         let message = self.receiver.recv(rt)?;
-        history::push(&mut self.received, Snapshot::of(&message));
+        self.received.push(Snapshot::of(&message));
         Some(message)
     }
 
