@@ -15,7 +15,7 @@ from command import ROOT
 from edits import BadEdit, Edit, text_of, write
 
 # How many wrong bodies are tried in one run.
-MOST = 16
+MOST = 24
 BATCH = "batch"
 AS_IT_IS = "as_it_is"
 # As `rt fmt` lays it out. A module of tests has none.
@@ -57,10 +57,10 @@ class TestedEdit(Edit):
 
 
 def batches_of(edits):
-    """The edits in groups for a run each: those of one crate that tests of one crate must show, or those that one program must."""
+    """The edits in groups for a run each: those that tests of one crate must show, or one program."""
     groups = {}
     for it in edits:
-        groups.setdefault((it.target if it.is_of_a_program else it.crate, it.target, it.is_of_a_program), []).append(it)
+        groups.setdefault((it.target, it.is_of_a_program), []).append(it)
     for group in groups.values():
         count = -(-len(group) // MOST)
         yield from (group[at::count] for at in range(count))
