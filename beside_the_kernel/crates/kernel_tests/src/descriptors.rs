@@ -22,7 +22,7 @@ struct Reader {
 }
 
 /// A reader that has seen no event.
-fn reader(counter: EventFd) -> Reader {
+fn make_reader(counter: EventFd) -> Reader {
     Reader {
         counter: Some(counter),
         events: 0,
@@ -67,7 +67,7 @@ fn a_semaphore_is_reported_until_it_was_read_as_often_as_its_value(rt: HostRunti
     let mut event_loop = loop_of(&rt, rt.alloc());
     let semaphore = EventFd::semaphore(2).expect(&rt, "a semaphore");
     let id = event_loop
-        .add_subscriber(reader(semaphore))
+        .add_subscriber(make_reader(semaphore))
         .expect(&rt, "an id");
     assert_eq!(rt; event_loop.run_with_timeout(LIMIT), Ok(1));
     assert_eq!(rt; event_loop.run_with_timeout(LIMIT), Ok(1));
@@ -86,7 +86,7 @@ fn with_a_closed_one<R: Abort>(
     let duplicate = counter.try_clone().expect(rt, "a duplicate");
     let number = counter.as_raw_fd();
     let id = event_loop
-        .add_subscriber(reader(counter))
+        .add_subscriber(make_reader(counter))
         .expect(rt, "an id");
     event_loop
         .subscriber_mut(id)
@@ -109,7 +109,7 @@ fn a_closed_descriptor_goes_with_its_owner(rt: HostRuntime) {
     assert_eq!(rt; counter.as_raw_fd(), number);
     counter.write(3).expect(&rt, "it has room");
     let id = event_loop
-        .add_subscriber(reader(counter))
+        .add_subscriber(make_reader(counter))
         .expect(&rt, "an id");
     assert_eq!(rt; event_loop.run_with_timeout(LIMIT), Ok(1));
     let reader = event_loop.remove_subscriber(id).expect(&rt, "the reader");
@@ -122,7 +122,7 @@ fn an_event_of_a_duplicate_goes_to_who_owns_the_number_now(rt: HostRuntime) {
     let counter = eventfd(&rt);
     assert_eq!(rt; counter.as_raw_fd(), number);
     let id = event_loop
-        .add_subscriber(reader(counter))
+        .add_subscriber(make_reader(counter))
         .expect(&rt, "an id");
     duplicate.write(3).expect(&rt, "it has room");
     assert_eq!(rt; event_loop.run_with_timeout(LIMIT), Ok(1));
