@@ -1,83 +1,19 @@
-"""The runs of a crate as it is, by `rt try`: its tests; and of a program that on its stored input, and those on its cases.
+"""The tests of crates as they are, by `rt try`, many crates in a run.
 
 Which of them passed is kept (ci/verdicts.py): the wrong bodies of tests go by it, which must fail what passes without them.
 """
 
 import os
-import shutil
-import subprocess
 import tempfile
-from functools import partial
-from typing import NamedTuple
 
-import cases
+import joined
 import tries
-from command import ROOT, Outcome, read, stored
+from command import ROOT, read
 from tries import PASSED, NotRun
 from verdicts import PARTS_TRIED, Verdicts
 
 TESTS = "tests"
-
-
-class Run(NamedTuple):
-    """A run of a crate: its name, and what answers the names of what passed, and what is said of what failed."""
-    crate: str
-    name: str
-    ended: object
-
-    def judged(self):
-        try:
-            return self.ended()
-        except (NotRun, OSError) as error:
-            return [], [f"{self.name}: {error}"]
-
-
-def laid(crate):
-    """A repository of copies in which the crate can be tried."""
-    room = tempfile.TemporaryDirectory(prefix="rt-tests-")
-    tries.copy_crates(room.name, [*tries.below(crate), crate])
-    return room
-
-
-def tests(crate):
-    with laid(crate) as room:
-        became = tries.tests_of(room, crate)
-    failed = [f"{path}: {test.end}\n{test.text}".rstrip() for path, test in became.items() if test.end != PASSED]
-    return [path for path, test in became.items() if test.end == PASSED], failed
-
-
-def judged(name, ended, want):
-    why = ended.differs(want)
-    return ([], [f"{name}: {why}"]) if why else ([name], [])
-
-
-def example(crate):
-    """Whether the program writes its stored output."""
-    folder = f"{ROOT}/crates/{crate}"
-    with laid(crate) as room:
-        arguments = read(f"{folder}/args").decode().split()
-        ended = tries.program_of(room, crate, given=read(f"{folder}/stdin"), arguments=arguments)
-    # what a program says on standard error beside its output is its own affair
-    return judged("the stored output", ended._replace(stderr=b""), stored(crate))
-
-
-def refused_case(name):
-    """Whether the program answers a case in which a request for memory is refused."""
-    with laid(cases.EVLOOP) as room:
-        ended = tries.program_of(room, cases.EVLOOP, cases.refused(name), read(f"{cases.FOLDER}/{name}"))
-    return judged(name, ended, cases.wanted(name))
-
-
-def all_cases(crate, names):
-    """Whether the program answers each case, as it is built once."""
-    with laid(crate) as room:
-        os.mkdir(f"{room}/cases")
-        for name in names:
-            for file in {name, f"{name}.args"}.intersection(os.listdir(cases.folder(crate))):
-                shutil.copyfile(f"{cases.folder(crate)}/{file}", f"{room}/cases/{file}")
-        became = tries.cases_of(room, crate, f"{room}/cases")
-    told = [judged(it, became[it], cases.wanted(it, crate)) if it in became else ([], [f"{it}: it was not run"]) for it in names]
-    return [it for passed, _ in told for it in passed], [why for _, failed in told for why in failed]
+OWN_TOOLS = ("as_it_is.py", "joined.py")
 
 
 def has_tests(crate):
@@ -85,18 +21,35 @@ def has_tests(crate):
     return any(b"#[test]" in read(f"{at}/{file}") for at, _, files in os.walk(source) for file in files)
 
 
-def runs_of(crate):
-    """The runs of a crate."""
-    if has_tests(crate):
-        yield Run(crate, TESTS, partial(tests, crate))
-    if tries.is_program(crate):
-        yield Run(crate, "the stored output", partial(example, crate))
-    if there := cases.names(crate):
-        yield Run(crate, "cases", partial(all_cases, crate, there))
-    if crate == cases.EVLOOP:
-        for name in cases.refused_names():
-            yield Run(crate, name, partial(refused_case, name))
-
-
 def verdicts_on(crate, is_anew):
-    return Verdicts(crate, PARTS_TRIED, is_anew)
+    return Verdicts(crate, PARTS_TRIED, is_anew, *OWN_TOOLS)
+
+
+def told(became):
+    """The names of the tests that passed, and what is said of the others."""
+    failed = [f"{path}: {test.end}\n{test.text}".rstrip() for path, test in became.items() if test.end != PASSED]
+    return [path for path, test in became.items() if test.end == PASSED], failed
+
+
+def judged(crates):
+    """Of each of these crates which tests passed, and what is said of the others; where they can't be built at once, crate by crate."""
+    try:
+        with tempfile.TemporaryDirectory(prefix="rt-tests-") as room:
+            return {crate: told(became) for crate, became in joined.tests_of(room, crates).items()}
+    except NotRun as error:
+        if len(crates) == 1:
+            return {crates[0]: ([], [str(error)])}
+        return {crate: found for it in crates for crate, found in judged([it]).items()}
+
+
+def kept_or_judged(crates, verdicts, wait):
+    """The same, of what is kept where all of a crate's tests passed; before a run it waits."""
+    found = {crate: (kept.splitlines(), []) for crate in crates if (kept := verdicts[crate].kept(TESTS))}
+    left = [it for it in crates if it not in found]
+    if left:
+        wait()
+        for crate, (passed, failed) in judged(left).items():
+            found[crate] = passed, failed
+            if passed and not failed:
+                verdicts[crate].keep(TESTS, "\n".join(passed))
+    return found

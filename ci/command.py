@@ -27,6 +27,16 @@ def read(path, otherwise=b""):
         return otherwise
 
 
+def text_of(path):
+    with open(path, encoding="utf-8") as it:
+        return it.read()
+
+
+def write(path, text):
+    with open(path, "w", encoding="utf-8") as it:
+        it.write(text)
+
+
 def stored(crate):
     """What the program of a crate must write and how it must end, on its stored input."""
     folder = f"{ROOT}/crates/{crate}"

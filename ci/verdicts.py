@@ -20,7 +20,7 @@ FOLDER = os.path.join(os.environ.get("XDG_CACHE_HOME") or os.path.expanduser("~/
 PARTS = ("src", "specs", "proofs")
 # What `rt try` reads, and what a program must write.
 PARTS_TRIED = ("src", "specs", "cases", "args", "stdin", "stdout", "status")
-TOOLS = ("as_it_is.py", "cases.py", "command.py", "tries.py", "verdicts.py")
+TOOLS = ("cases.py", "command.py", "tries.py", "verdicts.py")
 
 
 def files_of(path):

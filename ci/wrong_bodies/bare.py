@@ -4,7 +4,7 @@ for its proof. So a check of the few proves nothing of what they call.
 
 import os
 
-from edits import text_of, write
+from command import text_of, write
 from functions import parts_of, path_at
 
 BODY = "{ loop {} }"

@@ -2,22 +2,21 @@
 
 A batch is a repository of copies. Each wrong body has its own copy of the crate that it stands in, and of each crate between
 that one and the crate that shows it, under names with a number; what lies below is there once. What shows them stands in one
-crate, `batch`, in a module for each wrong body: the named test, with what the crate of that test has beside tests; or the
+crate (ci/joined.py), in a module for each wrong body: the named test, with what the crate of that test has beside tests; or the
 program, which the first argument picks. Programs stand there once more over the crates as they are.
 """
 
-import os
 import re
 import shutil
 
+import joined
 import tries
 from command import ROOT
-from edits import BadEdit, Edit, text_of, write
+from edits import BadEdit, Edit
+from joined import JOINED, lay_module, renamed, rewrite, text_of, unchanged, write
 
 # How many wrong bodies are tried in one run.
 MOST = 24
-BATCH = "batch"
-AS_IT_IS = "as_it_is"
 # As `rt fmt` lays it out. A module of tests has none.
 MAIN = re.compile(r"^fn main\((?:.*\n)*?}\n", re.M)
 # What a program answers.
@@ -32,8 +31,6 @@ PICKED_HEAD = (
     "(rt: R, host: HostRuntime)"
 )
 STREAM = re.compile(r"\brt(?=\.std(?:in|out|err)\(\))")
-# What only the prover reads: lemmas, by paths that a module of a batch doesn't have.
-TACTIC = re.compile(r"^ *#\[tactic\(.*\)\]\n", re.M)
 # A test with its name and what is said above it, as `rt fmt` lays it out.
 TEST = re.compile(r"^( *)(?://.*\n\1)*#\[test\]\n(?:\1#.*\n)*\1fn (\w+)(?:.*\n)*?\1}\n", re.M)
 
@@ -56,43 +53,21 @@ class TestedEdit(Edit):
         return path == self.test or path.endswith(f"::{self.test}")
 
 
+def answer_of(crate):
+    """What the program of a crate answers."""
+    return ANSWER.search(text_of(f"{ROOT}/crates/{crate}/src/main.rt"))[1]
+
+
 def batches_of(edits):
-    """The edits in groups for a run each: those that tests of one crate must show, or one program."""
+    """The edits in groups for a run each: those that tests must show, or programs that answer alike; by the crates that show them."""
     groups = {}
     for it in edits:
-        groups.setdefault((it.target, it.is_of_a_program), []).append(it)
+        groups.setdefault(it.is_of_a_program and answer_of(it.target), []).append(it)
     for group in groups.values():
+        group.sort(key=lambda it: it.target)
         count = -(-len(group) // MOST)
-        yield from (group[at::count] for at in range(count))
-
-
-def rewrite(folder, change):
-    """Changes the text of each file below a folder."""
-    for at, _, files in os.walk(folder):
-        for file in files:
-            write(f"{at}/{file}", change(text_of(f"{at}/{file}")))
-
-
-def renamed(text, names):
-    """The text with other names of crates, where they begin a path: a module may be named as its crate is."""
-    for old, new in names.items():
-        text = re.sub(rf"(?<!::)\b{old}(?=::)|(?<=Rattle\.){old}\b", new, text)
-    return text
-
-
-def lay_module(room, target, module, names, change, change_text):
-    """Lays a crate as a module of the batch, over crates of these names: `change` is made of its folder first, and `change_text` of
-    each file."""
-    source = f"{room}/crates/{BATCH}/src/{module}"
-    folder = f"{room}/{module}"
-    shutil.copytree(f"{ROOT}/crates/{target}/src", f"{folder}/src")
-    change(folder)
-    shutil.move(f"{folder}/src", source)
-    rewrite(source, lambda text: renamed(re.sub(r"\bcrate::", f"crate::{module}::", TACTIC.sub("", change_text(text))), names))
-    root = f"{source}/{'main' if tries.is_program(target) else 'lib'}.rt"
-    lines = [line for line in text_of(root).splitlines() if not line.startswith("#![")]
-    os.remove(root)
-    write(f"{source}.rt", "\n".join(lines) + "\n")
+        size = -(-len(group) // count)
+        yield from (group[at : at + size] for at in range(0, len(group), size))
 
 
 def with_test(edit):
@@ -105,10 +80,6 @@ def as_picked(text):
     """The text of a program whose first argument picked it."""
     text = ARGUMENTS.sub(r"env::args(\1)?.skip(1)", text)
     return HEAD.sub(PICKED_HEAD, STREAM.sub("host", text)).replace("<HostRuntime>", "<R>") if HEAD.search(text) else text
-
-
-def unchanged(_):
-    pass
 
 
 def lay_edited(room, module, edit):
@@ -129,26 +100,23 @@ def lay_edited(room, module, edit):
 
 def lay_batch(room, edits):
     """Lays a repository in which what shows each of these edits can be run over it."""
-    target, is_of_a_program = edits[0].target, edits[0].is_of_a_program
-    tries.copy_crates(room, tries.below(target))
-    os.makedirs(f"{room}/crates/{BATCH}/src")
+    targets = dict.fromkeys(it.target for it in edits)
+    below = joined.lay_below(room, targets)
     modules = [with_edit(it) for it in range(len(edits))]
-    needed = list(tries.DEPENDENCIES[target])
+    needed = [it for target in targets for it in tries.DEPENDENCIES[target]]
     for module, edit in zip(modules, edits):
         needed += lay_edited(room, module, edit)
-    if is_of_a_program:
-        for crate in tries.below(target):
+    if edits[0].is_of_a_program:
+        for crate in below:
             rewrite(f"{room}/crates/{crate}/src", as_picked)
-        lay_module(room, target, AS_IT_IS, {}, unchanged, as_picked)
-        modules.append(AS_IT_IS)
+        for target in targets:
+            lay_module(room, target, without_edit(target), {}, change_text=as_picked)
+            modules.append(without_edit(target))
+        write(f"{room}/crates/{JOINED}/src/main.rt", picking(modules, answer_of(edits[0].target)))
         needed += ["anyhow"]
-    tries.list_crates(room, {BATCH: dict.fromkeys(needed)})
-    source = f"{room}/crates/{BATCH}/src"
-    if is_of_a_program:
-        write(f"{source}/main.rt", picking(modules, ANSWER.search(text_of(f"{ROOT}/crates/{target}/src/main.rt"))[1]))
     else:
-        lines = [f"#[cfg(test)]\nmod {module};\n" for module in modules]
-        write(f"{source}/lib.rt", "//! Wrong bodies, each with its test.\n#![tactic(auto)]\n\n" + "".join(lines))
+        joined.write_tests(room, modules)
+    joined.list_joined(room, needed)
 
 
 def picking(modules, answer):
@@ -170,6 +138,11 @@ def picking(modules, answer):
 def with_edit(number):
     """The module of the batch's wrong body of this number."""
     return f"edit_{number}"
+
+
+def without_edit(crate):
+    """The module of a program without a wrong body."""
+    return f"{crate}_as_it_is"
 
 
 def end_with(became, edits, edit):

@@ -12,8 +12,7 @@ import threading
 import time
 
 import tries
-from command import ROOT
-from edits import text_of, write
+from command import ROOT, text_of, write
 from verdicts import PARTS, lines_of
 
 SAID = re.compile(r"^fn ([\w:+]+): (.*)$", re.M)

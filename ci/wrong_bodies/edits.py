@@ -6,7 +6,7 @@ the pairs before it leave it; then perhaps another file. A line that begins with
 
 import os
 
-from command import ROOT
+from command import ROOT, text_of, write
 
 CHANGES = ("file", "old", "new")
 
@@ -64,12 +64,3 @@ def edits_of(crate, kind):
     files = sorted(os.listdir(folder)) if os.path.isdir(folder) else []
     return [f"{folder}/{it}" for it in files if it.endswith(".edit")]
 
-
-def text_of(path):
-    with open(path, encoding="utf-8") as it:
-        return it.read()
-
-
-def write(path, text):
-    with open(path, "w", encoding="utf-8") as it:
-        it.write(text)
