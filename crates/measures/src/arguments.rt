@@ -1,4 +1,4 @@
-//! The words that pick what is measured.
+//! The words that a program is given: those that pick what is measured, or a number of rounds.
 
 use anyhow::{Result, bail};
 use std::alloc::Global;
@@ -22,15 +22,6 @@ pub enum Size {
     Huge,
 }
 
-/// The number of descriptors of a subscriber that joins and leaves.
-#[derive(Clone, Copy, PartialEq, Eq)]
-pub enum Share {
-    /// One.
-    Single,
-    /// 16.
-    Several,
-}
-
 /// What is measured, and how.
 #[derive(Drop)]
 pub struct Wanted {
@@ -40,7 +31,6 @@ pub struct Wanted {
     pub checked: bool,
     families: Vec<Family>,
     sizes: Vec<Size>,
-    shares: Vec<Share>,
 }
 
 impl Wanted {
@@ -50,7 +40,6 @@ impl Wanted {
             checked: false,
             families: Vec::new(alloc),
             sizes: Vec::new(alloc),
-            shares: Vec::new(alloc),
         }
     }
 
@@ -63,8 +52,6 @@ impl Wanted {
             "middle" => self.sizes.push(Size::Middle)?,
             "large" => self.sizes.push(Size::Large)?,
             "huge" => self.sizes.push(Size::Huge)?,
-            "single" => self.shares.push(Share::Single)?,
-            "several" => self.shares.push(Share::Several)?,
             _ => match families.iter().find(|family| family.0 == word) {
                 Some(family) => self.families.push(*family)?,
                 None => bail!("argument {number} is none of the words"),
@@ -73,8 +60,8 @@ impl Wanted {
         Ok(())
     }
 
-    /// What the arguments pick: `boxed` or `plain`, `checked`, any number of families, sizes and shares; of a kind that none picks,
-    /// all but what is huge. Refused where they can't be read, where memory is, and, by its number, at the first other word.
+    /// What the arguments pick: `boxed` or `plain`, `checked`, any number of families and sizes; of a kind that none picks, all
+    /// but what is huge. Refused where they can't be read, where memory is, and, by its number, at the first other word.
     pub fn from_arguments<R: Env + AllocGlobal>(rt: &R, families: &[Family]) -> Result<Wanted> {
         let mut wanted = Wanted::all(rt.alloc());
         let mut number = 0u64;
@@ -97,9 +84,12 @@ impl Wanted {
             _ => self.sizes.is_empty() || self.sizes.contains(&size),
         }
     }
+}
 
-    /// Whether the share is wanted.
-    pub fn has_share(&self, share: Share) -> bool {
-        self.shares.is_empty() || self.shares.contains(&share)
+/// The first argument, a number of rounds; without one, `default`. Refused where it is no number, or can't be read.
+pub fn rounds<R: Env + AllocGlobal>(rt: &R, default: u32) -> Result<u32> {
+    match env::args(rt)?.nth(1) {
+        Some(word) => Ok(word.parse()?),
+        None => Ok(default),
     }
 }

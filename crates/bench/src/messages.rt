@@ -1,24 +1,20 @@
 //! What a message of a channel costs, with the run in which its receiver is told of it and takes it.
 
-use crate::calls::Host;
 use anyhow::{Result, ensure};
 use channels::{Receiver, SendError, Sender, channel};
 use event_manager::{
     EventLoop, EventOps, EventPoller, EventSet, Events, MutEventSubscriber, SubscriberId,
     SubscriberOps,
 };
-use measures::arguments::Family;
 use measures::bench::{Bench, Measured, expect};
-use measures::timing::{REPEATS, Times};
+use measures::host::Host;
+use measures::timing::Times;
 use std::alloc::Global;
 use std::sync::Wait;
 use std::thread;
 use std::time::Clock;
 use vmm_sys::epoll::Epoll;
 use vmm_sys::eventfd::EventFd;
-
-/// What picks these measures.
-pub const MESSAGE: Family = Family("message");
 
 /// How many messages a repeat sends in full: a multiple of each size of a batch.
 const MESSAGES: u32 = 20480;
@@ -136,13 +132,8 @@ fn run_until<R: Host>(
 
 /// What came of a measure whose repeats sent so many messages each.
 fn counted<R: Host>(taking: &Taking<R>, times: Times, messages: u32) -> Result<Measured> {
-    let operations = u64::from(messages);
     let count = taking.event_loop.subscriber(taking.id)?.count;
-    Ok(Measured {
-        times,
-        operations,
-        count: expect(count, operations.saturating_mul(u64::from(REPEATS)))?,
-    })
+    Measured::of(times, u64::from(messages), count)
 }
 
 /// Measures a message of batches of this size, all on one thread.
@@ -190,11 +181,8 @@ fn measure<R: Host>(bench: &Bench<R>, size: Option<u32>) -> Result<Measured> {
     }
 }
 
-/// Measures messages, where they are wanted.
+/// Measures messages.
 pub fn measure_messages<R: Host>(bench: &Bench<R>) -> Result<()> {
-    if !bench.wanted.has_family(MESSAGE) {
-        return Ok(());
-    }
     for (size, name) in BATCHES {
         bench.print(name, measure(bench, size)?)?;
     }

@@ -1,18 +1,14 @@
 //! What a delivery costs of several loops at once, each on a thread of its own, over a table of its own.
 
-use crate::calls::Host;
 use anyhow::Result;
 use event_manager::utilities::subscribers::CounterSubscriber;
 use event_manager::{EventLoop, EventPoller, SubscriberOps, ThreadLoop, with_loops};
-use measures::arguments::Family;
 use measures::bench::{Bench, Measured, expect};
+use measures::host::Host;
 use measures::timing::Times;
 use std::alloc::Global;
 use vmm_sys::epoll::Epoll;
 use vmm_sys::eventfd::EventFd;
-
-/// What picks these measures.
-pub const LOOPS: Family = Family("loops");
 
 /// How many runs each loop makes in a repeat in full.
 const RUNS: u32 = 40960;
@@ -142,18 +138,11 @@ fn measure_loops_at_once<R: Host>(bench: &Bench<R>, loops: u32) -> Result<Measur
         },
         &bench.rt,
     )?;
-    Ok(Measured {
-        times,
-        operations,
-        count,
-    })
+    Measured::of(times, operations, count)
 }
 
-/// Measures deliveries of several loops, where they are wanted.
+/// Measures deliveries of several loops.
 pub fn measure_loops<R: Host>(bench: &Bench<R>) -> Result<()> {
-    if !bench.wanted.has_family(LOOPS) {
-        return Ok(());
-    }
     for (loops, name) in LOOPS_AT_ONCE {
         bench.print(name, measure_loops_at_once(bench, loops)?)?;
     }
