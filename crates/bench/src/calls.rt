@@ -118,7 +118,8 @@ fn measure_to_end<R: Host>(
     measured
 }
 
-/// Measures a `call_blocking` from another thread than the loop's. Refused where a reply was lost: so the two threads are left alone, and end with the program.
+/// Measures a `call_blocking` from another thread than the loop's. Refused where a reply was lost: so the two threads are left
+/// alone, and end with the program.
 pub fn measure_calls<R: Host>(bench: &Bench<R>) -> Result<()> {
     let (rt, alloc, rounds) = (bench.rt, bench.alloc, bench.rounds(JOBS));
     let progress = Arc::new(alloc, Progress::new())?;

@@ -14,9 +14,6 @@ use vmm_sys::epoll::Epoll;
 use vmm_sys::eventfd::EventFd;
 use vmm_sys::poller::Poller;
 
-/// How many counters are opened for the endpoint over the fixed poller: the last one has descriptor 9.
-const COUNTERS: u32 = 10;
-
 /// A measure of a manager.
 pub trait ManagerMeasure<R> {
     /// The type of its subscribers.
@@ -85,23 +82,14 @@ pub fn take_over<M: ManagerMeasure<R>, P: EventPoller + Drop, R: Wait + Clock>(
     with_ledgers(endpoint, ready)
 }
 
-/// A counter of descriptor 9, in a table that nobody polls.
-fn open_endpoint<R: Host>(bench: &Bench<R>) -> Result<EventFd> {
-    let rt = &bench.rt;
-    let epoll = Epoll::new(*rt, bench.alloc)?;
-    for _ in 1..COUNTERS {
-        let _ = EventFd::new(&epoll, 0, rt)?;
-    }
-    Ok(EventFd::new(&epoll, 0, rt)?)
-}
-
-/// Takes a measure on a manager over the fixed poller, in a box or as it is. Refused as the measure is.
+/// Takes a measure on a manager over the fixed poller, in a box or as it is. Its endpoint is the first descriptor of a table that
+/// nobody polls, and below those that are reported. Refused as the measure is.
 pub fn take_over_fixed<M: ManagerMeasure<R>, R: Host>(
     bench: &Bench<R>,
     measure: &M,
     fixed: Fixed,
 ) -> Result<Measured> {
-    let endpoint = open_endpoint(bench)?;
+    let endpoint = EventFd::new(&Epoll::new(bench.rt, bench.alloc)?, 0, &bench.rt)?;
     if bench.wanted.boxed {
         let boxed: Box<dyn Poller + Send> = Box::new(bench.alloc, fixed)?;
         take_over(bench, measure, BoxedPoller(boxed), endpoint)

@@ -21,32 +21,6 @@ fn idle_loop(alloc: Global) -> Result<IdleLoop> {
     Ok(EventLoop::with_capacity(alloc, poller, BATCH as usize)?)
 }
 
-/// What fills a loop.
-#[derive(Clone, Copy)]
-enum Filling {
-    /// Subscribers with a descriptor each.
-    Subscribers,
-    /// Descriptors of one subscriber.
-    Descriptors,
-}
-
-impl Filling {
-    fn name(&self) -> &'static str {
-        match self {
-            Filling::Subscribers => "memory, a subscriber with a descriptor",
-            Filling::Descriptors => "memory, a descriptor of one subscriber",
-        }
-    }
-
-    /// Puts so many into the loop.
-    fn fill(&self, event_loop: &mut IdleLoop, count: u32) -> Result<()> {
-        match self {
-            Filling::Subscribers => join(event_loop, count),
-            Filling::Descriptors => add(event_loop, count),
-        }
-    }
-}
-
 /// Lets so many subscribers join, each with a descriptor of its own.
 fn join(event_loop: &mut IdleLoop, count: u32) -> Result<()> {
     for k in 0..count {
@@ -65,31 +39,59 @@ fn add(event_loop: &mut IdleLoop, count: u32) -> Result<()> {
     Ok(())
 }
 
-/// Fills the loop, and prints how many bytes the process then holds more for each of so many; or how many they are, where
-/// times aren't wanted either.
-fn measure_filled<R: Host + Files + AllocGlobal>(
+/// Prints for each of so many how many bytes the process holds more than it held before; or how many they are, where times aren't
+/// wanted either.
+fn print_taken<R: Host + Files + AllocGlobal>(
     bench: &Bench<R>,
-    filling: Filling,
-    event_loop: &mut IdleLoop,
+    name: &str,
+    count: u32,
+    before: u64,
 ) -> Result<()> {
-    let count = bench.rounds(MANY) as u64;
-    let before = resident(&bench.rt)?;
-    filling.fill(event_loop, bench.rounds(MANY))?;
-    let bytes = resident(&bench.rt)?.saturating_sub(before) / count.max(1);
+    let bytes = resident(&bench.rt)?.saturating_sub(before) / count.max(1) as u64;
     let (number, unit) = if bench.wanted.checked {
-        (count, "")
+        (count as u64, "")
     } else {
         (bytes, " bytes")
     };
-    println!(bench.rt; "{:<44} {:>10}{}", filling.name(), number, unit)?;
+    println!(bench.rt; "{:<44} {:>10}{}", name, number, unit)?;
     Ok(())
+}
+
+/// Measures the memory of subscribers with a descriptor each.
+fn measure_subscribers<R: Host + Files + AllocGlobal>(
+    bench: &Bench<R>,
+    event_loop: &mut IdleLoop,
+) -> Result<()> {
+    let (count, before) = (bench.rounds(MANY), resident(&bench.rt)?);
+    join(event_loop, count)?;
+    print_taken(
+        bench,
+        "memory, a subscriber with a descriptor",
+        count,
+        before,
+    )
+}
+
+/// Measures that of descriptors of one subscriber.
+fn measure_descriptors<R: Host + Files + AllocGlobal>(
+    bench: &Bench<R>,
+    event_loop: &mut IdleLoop,
+) -> Result<()> {
+    let (count, before) = (bench.rounds(MANY), resident(&bench.rt)?);
+    add(event_loop, count)?;
+    print_taken(
+        bench,
+        "memory, a descriptor of one subscriber",
+        count,
+        before,
+    )
 }
 
 /// Measures the memory of a million subscribers with a descriptor each, and of a million descriptors of one.
 pub fn measure_memory<R: Host + Files + AllocGlobal>(bench: &Bench<R>) -> Result<()> {
     let mut event_loop = idle_loop(bench.alloc)?;
-    measure_filled(bench, Filling::Subscribers, &mut event_loop)?;
+    measure_subscribers(bench, &mut event_loop)?;
     // The first loop is still there, so that its memory isn't used again.
     let mut other = idle_loop(bench.alloc)?;
-    measure_filled(bench, Filling::Descriptors, &mut other)
+    measure_descriptors(bench, &mut other)
 }

@@ -130,23 +130,6 @@ fn run_until<R: Host>(
     Ok(())
 }
 
-/// What came of a measure whose repeats sent so many messages each.
-fn counted<R: Host>(taking: &Taking<R>, times: Times, messages: u32) -> Result<Measured> {
-    let count = taking.event_loop.subscriber(taking.id)?.count;
-    Measured::of(times, u64::from(messages), count)
-}
-
-/// Measures a message of batches of this size, all on one thread.
-fn measure_batches<R: Host>(
-    bench: &Bench<R>,
-    taking: &mut Taking<R>,
-    size: u32,
-) -> Result<Measured> {
-    let rounds = bench.rounds(MESSAGES / size.max(1));
-    let times = Times::of(|| send_and_run(taking, size, rounds, &bench.rt), &bench.rt)?;
-    counted(taking, times, rounds.saturating_mul(size))
-}
-
 /// Sends so many messages from another thread, while the loop takes them on this one.
 fn send_beside<R: Host>(taking: &mut Taking<R>, messages: u32, rt: &R) -> Result<()> {
     let Taking {
@@ -165,26 +148,30 @@ fn send_beside<R: Host>(taking: &mut Taking<R>, messages: u32, rt: &R) -> Result
     taken
 }
 
-/// Measures a message of another thread.
-fn measure_beside<R: Host>(bench: &Bench<R>, taking: &mut Taking<R>) -> Result<Measured> {
-    let messages = bench.rounds(MESSAGES);
-    let times = Times::of(|| send_beside(taking, messages, &bench.rt), &bench.rt)?;
-    counted(taking, times, messages)
-}
-
-/// Makes a loop with a taker, and measures a message to it.
-fn measure<R: Host>(bench: &Bench<R>, size: Option<u32>) -> Result<Measured> {
-    let mut taking = begin(&bench.rt, bench.alloc)?;
-    match size {
-        Some(size) => measure_batches(bench, &mut taking, size),
-        None => measure_beside(bench, &mut taking),
-    }
+/// Measures a message of batches of this size, or one of another thread.
+fn measure_taking<R: Host>(
+    bench: &Bench<R>,
+    taking: &mut Taking<R>,
+    size: Option<u32>,
+) -> Result<Measured> {
+    let each = size.unwrap_or(1);
+    let rounds = bench.rounds(MESSAGES / each.max(1));
+    let times = Times::of(
+        || match size {
+            Some(size) => send_and_run(taking, size, rounds, &bench.rt),
+            None => send_beside(taking, rounds, &bench.rt),
+        },
+        &bench.rt,
+    )?;
+    let count = taking.event_loop.subscriber(taking.id)?.count;
+    Measured::of(times, u64::from(rounds.saturating_mul(each)), count)
 }
 
 /// Measures messages.
 pub fn measure_messages<R: Host>(bench: &Bench<R>) -> Result<()> {
     for (size, name) in BATCHES {
-        bench.print(name, measure(bench, size)?)?;
+        let mut taking = begin(&bench.rt, bench.alloc)?;
+        bench.print(name, measure_taking(bench, &mut taking, size)?)?;
     }
     Ok(())
 }

@@ -6,7 +6,7 @@ use anyhow::Result;
 use event_manager::{EventManager, EventPoller, NamedCounter, NoJob, SubscriberOps};
 use measures::arguments::Size;
 use measures::bench::{Bench, Measured};
-use measures::fixed::{BATCH, Fixed};
+use measures::fixed::Fixed;
 use measures::host::Host;
 use measures::timing::Times;
 
@@ -14,11 +14,9 @@ use measures::timing::Times;
 /// again.
 #[derive(Clone, Copy)]
 struct Toggle {
-    entries: u32,
-    /// How many descriptors the subscriber has.
+    entries: u16,
+    /// How many descriptors the subscriber has: the first of them, one for each event, it leaves as they are.
     descriptors: u16,
-    /// How many of them, from the first, it leaves as they are.
-    skip: u16,
     capacity: u32,
     rounds: u32,
 }
@@ -38,7 +36,7 @@ impl<R: Host> ManagerMeasure<R> for Toggle {
         bench: &Bench<R>,
     ) -> Result<Measured> {
         let (entries, rounds) = (self.entries as u64, bench.rounds(self.rounds));
-        let id = manager.add_subscriber(Toggler::new(self.descriptors, self.skip))?;
+        let id = manager.add_subscriber(Toggler::new(self.descriptors, self.entries))?;
         let times = Times::of(
             || run_rounds(manager, rounds, entries, &bench.rt),
             &bench.rt,
@@ -49,7 +47,7 @@ impl<R: Host> ManagerMeasure<R> for Toggle {
 }
 
 fn measure<R: Host>(bench: &Bench<R>, before: &str, toggle: Toggle) -> Result<()> {
-    let fixed = Fixed::first(toggle.entries, bench.alloc)?;
+    let fixed = Fixed::first(toggle.entries as u32, bench.alloc)?;
     let measured = take_over_fixed(bench, &toggle, fixed)?;
     bench.print_sized((before, toggle.capacity, ""), measured)
 }
@@ -65,7 +63,6 @@ pub fn measure_one_by_one<R: Host>(bench: &Bench<R>) -> Result<()> {
             let toggle = Toggle {
                 entries: 1,
                 descriptors: 256,
-                skip: 1,
                 capacity,
                 rounds,
             };
@@ -84,9 +81,8 @@ pub fn measure_batches<R: Host>(bench: &Bench<R>) -> Result<()> {
     ] {
         if bench.wanted.has_size(size) {
             let toggle = Toggle {
-                entries: BATCH,
+                entries: 256,
                 descriptors: 512,
-                skip: 256,
                 capacity,
                 rounds,
             };

@@ -23,18 +23,6 @@ pub struct Device<R> {
 }
 
 impl<R: Wait> Device<R> {
-    /// A device over two counters, which has read nothing.
-    pub fn new(first: EventFd, second: EventFd, rt: R) -> Self {
-        Device {
-            first,
-            second,
-            read: 0,
-            jobs: 0,
-            refused: 0,
-            rt,
-        }
-    }
-
     /// Counts a job at this device.
     pub fn count_job(&mut self) {
         self.jobs = self.jobs.saturating_add(1);

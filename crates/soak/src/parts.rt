@@ -40,7 +40,14 @@ impl Pair {
 
     /// A device over them. Refused as a copy of a counter is.
     pub fn device<R: Wait + Copy>(&self, rt: &R) -> std::result::Result<Device<R>, Errno> {
-        Ok(Device::new(self.first.try_clone()?, self.second.try_clone()?, *rt))
+        Ok(Device {
+            first: self.first.try_clone()?,
+            second: self.second.try_clone()?,
+            read: 0,
+            jobs: 0,
+            refused: 0,
+            rt: *rt,
+        })
     }
 
     /// Writes 1 to each.

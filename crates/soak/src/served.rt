@@ -52,13 +52,11 @@ impl<'a, R: Wait + Clock + Copy + Drop> LoopWithSenders<Device<R>, Work<R>, Load
         let Some(first) = ids.first().copied() else {
             return Err(Error::InvalidId);
         };
-        let loads = [Load::Write, Load::Fire(ids), Load::Call(first)];
-        Ok(
-            loads
-                .into_iter()
-                .map(|load| Loader { load, parts })
-                .collect(alloc)?,
-        )
+        let mut loaders = Vec::new(alloc);
+        for load in [Load::Write, Load::Fire(ids), Load::Call(first)] {
+            loaders.push(Loader { load, parts })?;
+        }
+        Ok(loaders)
     }
 
     fn run<N: NamedCounter, P: EventPoller>(
