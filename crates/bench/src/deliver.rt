@@ -20,7 +20,7 @@ use std::alloc::Global;
 const UNREPORTED: i32 = 60000;
 
 /// Which priorities the descriptors have.
-#[derive(Clone, Copy)]
+#[derive(Clone, Copy, PartialEq, Eq)]
 enum Priorities {
     /// The lowest.
     Lowest,
@@ -131,33 +131,28 @@ const SIZES: [(Size, u32); 5] = [
     (Size::Huge, 1000000),
 ];
 
+/// Which priorities are measured, each with what stands behind the number of subscribers in the name.
+const PRIORITIES: [(Priorities, &str); 3] = [
+    (Priorities::Lowest, " subscribers"),
+    (Priorities::OneElsewhere, ", a priority elsewhere"),
+    (Priorities::Four, ", four priorities"),
+];
+
 /// Measures a delivery at each wanted size; with priorities at those up to 4096.
 pub fn measure_deliveries<R: Host>(bench: &Bench<R>) -> Result<()> {
     for (size, subscribers) in SIZES {
-        if !bench.wanted.has_size(size) {
-            continue;
-        }
-        measure_delivery(bench, subscribers, Priorities::Lowest, " subscribers")?;
-        if size != Size::Huge {
-            let elsewhere = ", a priority elsewhere";
-            measure_delivery(bench, subscribers, Priorities::OneElsewhere, elsewhere)?;
-            measure_delivery(bench, subscribers, Priorities::Four, ", four priorities")?;
+        for (priorities, behind) in PRIORITIES {
+            let is_measured = size != Size::Huge || priorities == Priorities::Lowest;
+            if is_measured && bench.wanted.has_size(size) {
+                let deliver = Deliver {
+                    subscribers,
+                    priorities,
+                };
+                let spread = Fixed::spread(subscribers, bench.alloc)?;
+                let measured = take_over_fixed(bench, &deliver, spread)?;
+                bench.print_sized(("deliver,", subscribers, behind), measured)?;
+            }
         }
     }
     Ok(())
-}
-
-fn measure_delivery<R: Host>(
-    bench: &Bench<R>,
-    subscribers: u32,
-    priorities: Priorities,
-    behind: &str,
-) -> Result<()> {
-    let deliver = Deliver {
-        subscribers,
-        priorities,
-    };
-    let spread = Fixed::spread(subscribers, bench.alloc)?;
-    let measured = take_over_fixed(bench, &deliver, spread)?;
-    bench.print_sized(("deliver,", subscribers, behind), measured)
 }

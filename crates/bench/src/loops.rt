@@ -51,18 +51,6 @@ fn begin<R: Host>(runs: u32, alloc: Global, rt: &R) -> Result<Delivering<Epoll<R
     })
 }
 
-/// Makes the runs, and answers how many events they delivered.
-fn deliver<P: EventPoller + Drop>(it: Delivering<P>) -> event_manager::Result<u64> {
-    let Delivering {
-        poller,
-        counters,
-        runs,
-    } = it;
-    let mut event_loop = EventLoop::new(*counters.allocator(), poller)?;
-    join(&mut event_loop, counters)?;
-    run_often(&mut event_loop, runs)
-}
-
 /// Lets a subscriber of each counter join.
 fn join<P: EventPoller>(
     event_loop: &mut EventLoop<CounterSubscriber, P>,
@@ -89,8 +77,16 @@ fn run_often<P: EventPoller>(
 impl<P: EventPoller + Drop, R> ThreadLoop<R> for Delivering<P> {
     type Output = event_manager::Result<u64>;
 
+    /// Makes the runs, and answers how many events they delivered.
     fn run(self, _rt: &R) -> event_manager::Result<u64> {
-        deliver(self)
+        let Delivering {
+            poller,
+            counters,
+            runs,
+        } = self;
+        let mut event_loop = EventLoop::new(*counters.allocator(), poller)?;
+        join(&mut event_loop, counters)?;
+        run_often(&mut event_loop, runs)
     }
 }
 

@@ -1,7 +1,6 @@
 //! The words that a program is given: those that pick what is measured, or a number of rounds.
 
 use anyhow::{Result, bail};
-use std::alloc::Global;
 use std::env;
 use std::rt::Env;
 
@@ -34,15 +33,6 @@ pub struct Wanted {
 }
 
 impl Wanted {
-    fn all(alloc: Global) -> Wanted {
-        Wanted {
-            boxed: false,
-            checked: false,
-            families: Vec::new(alloc),
-            sizes: Vec::new(alloc),
-        }
-    }
-
     fn pick(&mut self, word: &str, number: u64, families: &[Family]) -> Result<()> {
         match word {
             "boxed" => self.boxed = true,
@@ -63,7 +53,12 @@ impl Wanted {
     /// What the arguments pick: `boxed` or `plain`, `checked`, any number of families and sizes; of a kind that none picks, all
     /// but what is huge. Refused where they can't be read, where memory is, and, by its number, at the first other word.
     pub fn from_arguments<R: Env + AllocGlobal>(rt: &R, families: &[Family]) -> Result<Wanted> {
-        let mut wanted = Wanted::all(rt.alloc());
+        let mut wanted = Wanted {
+            boxed: false,
+            checked: false,
+            families: Vec::new(rt.alloc()),
+            sizes: Vec::new(rt.alloc()),
+        };
         let mut number = 0u64;
         for argument in env::args(rt)?.skip(1) {
             number = number.saturating_add(1);

@@ -67,7 +67,11 @@ impl<R: Print> Bench<R> {
         let middle = measured.times.middle(measured.operations);
         println!(self.rt;
             "{:<44} {:>10}.{} {:>10}.{}",
-            name, least.whole, least.tenths, middle.whole, middle.tenths
+            name,
+            least / 10,
+            least % 10,
+            middle / 10,
+            middle % 10
         )?;
         Ok(())
     }

@@ -101,10 +101,10 @@ fn fire_and_settle<N: NamedCounter, R: Wait + Clock + Drop>(
 fn receive_guest<N: NamedCounter, R: Wait + Clock + Copy + Drop>(
     endpoint: &Endpoint<N, R>,
     id: SubscriberId,
-    pair: &Pair,
-    progress: &Progress,
+    parts: &Parts<'_>,
     rt: &R,
 ) -> Result<()> {
+    let (pair, progress) = (&parts.guest, parts.progress);
     let guest = Work::Join(pair.device(rt)?);
     let Reply::Joined(joined) = fire_and_call(endpoint, id, guest, progress, rt)? else {
         bail!("the reply of another job");
@@ -126,10 +126,9 @@ fn call_all<N: NamedCounter, R: Wait + Clock + Copy + Drop>(
     parts: &Parts<'_>,
     rt: &R,
 ) -> Result<()> {
-    let progress = parts.progress;
-    receive_guest(endpoint, device, &parts.guest, progress, rt)?;
+    receive_guest(endpoint, device, parts, rt)?;
     let count = Work::Count(device);
-    let Reply::Counted(counted) = fire_and_call(endpoint, device, count, progress, rt)? else {
+    let Reply::Counted(counted) = fire_and_call(endpoint, device, count, parts.progress, rt)? else {
         bail!("the reply of another job");
     };
     counted?;
