@@ -1,5 +1,5 @@
 /*
- * What Linux's timerfd costs, with N timers armed: what crates/table_bench measures of timers (`out/table_bench timers`).
+ * What Linux's timerfd costs, with N timers armed: what crates/bench measures of timers (`out/bench timers`).
  *
  * Build and run, on one core:
  *

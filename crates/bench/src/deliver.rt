@@ -2,28 +2,25 @@
 
 ghost use Rattle.std.specs.Prelude.{◌≤ℤ◌, pos};
 
-use crate::over_fixed::{Host, Manager, ManagerMeasure, measure, run_rounds};
+use crate::managers::{ManagerMeasure, run_rounds, take_over_fixed};
 use crate::subscribers::{Counter, descriptor};
 use anyhow::Result;
 use event_manager::{
-    EventPoller, EventSet, Events, NamedCounter, Priority, SubscriberId, SubscriberOps,
+    EventManager, EventPoller, EventSet, Events, NamedCounter, NoJob, Priority, SubscriberId,
+    SubscriberOps,
 };
-use measures::arguments::{Family, Size};
+use measures::arguments::Size;
 use measures::bench::{Bench, Measured, expect};
 use measures::fixed::{BATCH, FIRST, Fixed};
+use measures::host::Host;
 use measures::timing::{REPEATS, Times};
 use std::alloc::Global;
-use std::sync::Wait;
-use std::time::Clock;
-
-/// What picks these measures.
-pub const DELIVER: Family = Family("deliver");
 
 /// A descriptor that no wait reports.
 const UNREPORTED: i32 = 60000;
 
 /// Which priorities the descriptors have.
-#[derive(Clone, Copy)]
+#[derive(Clone, Copy, PartialEq, Eq)]
 enum Priorities {
     /// The lowest.
     Lowest,
@@ -38,94 +35,67 @@ enum Priorities {
 struct Deliver {
     subscribers: u32,
     priorities: Priorities,
-    rounds_before: u32,
-    rounds: u32,
 }
 
-impl ManagerMeasure for Deliver {
+impl<R: Host> ManagerMeasure<R> for Deliver {
     type Subscriber = Counter;
 
-    fn name(&self, alloc: Global) -> Result<String> {
-        let subscribers = self.subscribers;
-        let beside = match self.priorities {
-            Priorities::Lowest => " subscribers",
-            Priorities::OneElsewhere => ", a priority elsewhere",
-            Priorities::Four => ", four priorities",
-        };
-        Ok(format!(in alloc; "deliver, {subscribers}{beside}")?)
-    }
+    type Job = NoJob;
 
-    fn poller(&self, alloc: Global) -> Result<Fixed> {
-        Ok(Fixed::spread(self.subscribers, alloc)?)
-    }
-
-    fn capacity(&self) -> usize {
-        BATCH as usize
-    }
-
-    fn take<N: NamedCounter, P: EventPoller, R: Wait + Clock>(
+    fn take<N: NamedCounter, P: EventPoller>(
         &self,
-        manager: &mut Manager<Counter, N, P>,
-        alloc: Global,
-        rt: &R,
+        manager: &mut EventManager<Counter, NoJob, N, P>,
+        bench: &Bench<R>,
     ) -> Result<Measured> {
-        let mut ids = Vec::new(alloc);
-        self.join(manager, &mut ids)?;
-        self.take_joined(manager, ids.as_slice(), rt)
+        for k in 0..self.subscribers {
+            self.join(manager, descriptor(k))?;
+        }
+        let (batch, rounds_before, rounds) = (
+            BATCH as u64,
+            bench.rounds(1000),
+            bench.rounds(20000),
+        );
+        run_rounds(manager, rounds_before, batch, &bench.rt)?;
+        let times = Times::of(|| run_rounds(manager, rounds, batch, &bench.rt), &bench.rt)?;
+        let all_rounds = rounds_before as u64 + REPEATS as u64 * rounds as u64;
+        Ok(Measured {
+            times,
+            operations: rounds as u64 * batch,
+            count: expect(leave(manager, bench.alloc)?, all_rounds * batch)?,
+        })
     }
 }
 
-/// Lets the subscribers leave, and answers what they have counted in all.
+/// Lets all subscribers leave, and answers what they have counted in all.
 fn leave<N: NamedCounter, P: EventPoller>(
-    manager: &mut Manager<Counter, N, P>,
-    ids: &[SubscriberId],
+    manager: &mut EventManager<Counter, NoJob, N, P>,
+    alloc: Global,
 ) -> Result<u64> {
+    let ids = manager.ids(alloc)?;
     let mut count = 0u64;
-    for id in ids {
+    for id in &ids {
         count = count.saturating_add(manager.remove_subscriber(*id)?.counted()?);
     }
     Ok(count)
 }
 
 impl Deliver {
-    /// Lets the subscribers join, and notes their ids.
+    /// Lets a subscriber with this descriptor join.
     fn join<N: NamedCounter, P: EventPoller>(
         &self,
-        manager: &mut Manager<Counter, N, P>,
-        ids: &mut Vec<SubscriberId>,
-    ) -> Result<()> {
-        for k in 0..self.subscribers {
-            let fd = descriptor(k);
-            let id = manager.add_subscriber(Counter::new(fd, 1))?;
-            ids.push(id)?;
-            self.give_priority(manager, id, fd)?;
-        }
-        Ok(())
-    }
-
-    /// Does the work on a manager whose subscribers these are.
-    fn take_joined<N: NamedCounter, P: EventPoller, R: Wait + Clock>(
-        &self,
-        manager: &mut Manager<Counter, N, P>,
-        ids: &[SubscriberId],
-        rt: &R,
-    ) -> Result<Measured> {
-        let (batch, rounds) = (BATCH as u64, self.rounds);
-        run_rounds(manager, self.rounds_before, batch, rt)?;
-        let times = Times::of(|| run_rounds(manager, rounds, batch, rt), rt)?;
-        let count = leave(manager, ids)?;
-        let all_rounds = self.rounds_before as u64 + REPEATS as u64 * rounds as u64;
-        Ok(Measured {
-            times,
-            operations: rounds as u64 * batch,
-            count: expect(count, all_rounds * batch)?,
-        })
+        manager: &mut EventManager<Counter, NoJob, N, P>,
+        fd: i32,
+    ) -> Result<()>
+        requires { pos 0 ≤ℤ fd }
+    {
+        let id = manager.add_subscriber(Counter::new(fd, 1))?;
+        self.give_priority(manager, id, fd)
     }
 
     /// Gives the subscriber's descriptor its priority.
     fn give_priority<N: NamedCounter, P: EventPoller>(
         &self,
-        manager: &mut Manager<Counter, N, P>,
+        manager: &mut EventManager<Counter, NoJob, N, P>,
         id: SubscriberId,
         fd: i32,
     ) -> Result<()>
@@ -161,34 +131,28 @@ const SIZES: [(Size, u32); 5] = [
     (Size::Huge, 1000000),
 ];
 
+/// Which priorities are measured, each with what stands behind the number of subscribers in the name.
+const PRIORITIES: [(Priorities, &str); 3] = [
+    (Priorities::Lowest, " subscribers"),
+    (Priorities::OneElsewhere, ", a priority elsewhere"),
+    (Priorities::Four, ", four priorities"),
+];
+
 /// Measures a delivery at each wanted size; with priorities at those up to 4096.
 pub fn measure_deliveries<R: Host>(bench: &Bench<R>) -> Result<()> {
-    if !bench.wanted.has_family(DELIVER) {
-        return Ok(());
-    }
     for (size, subscribers) in SIZES {
-        if !bench.wanted.has_size(size) {
-            continue;
-        }
-        measure_delivery(bench, subscribers, Priorities::Lowest)?;
-        if size != Size::Huge {
-            measure_delivery(bench, subscribers, Priorities::OneElsewhere)?;
-            measure_delivery(bench, subscribers, Priorities::Four)?;
+        for (priorities, behind) in PRIORITIES {
+            let is_measured = size != Size::Huge || priorities == Priorities::Lowest;
+            if is_measured && bench.wanted.has_size(size) {
+                let deliver = Deliver {
+                    subscribers,
+                    priorities,
+                };
+                let spread = Fixed::spread(subscribers, bench.alloc)?;
+                let measured = take_over_fixed(bench, &deliver, spread)?;
+                bench.print_sized(("deliver,", subscribers, behind), measured)?;
+            }
         }
     }
     Ok(())
-}
-
-fn measure_delivery<R: Host>(
-    bench: &Bench<R>,
-    subscribers: u32,
-    priorities: Priorities,
-) -> Result<()> {
-    let deliver = Deliver {
-        subscribers,
-        priorities,
-        rounds_before: bench.rounds(1000),
-        rounds: bench.rounds(20000),
-    };
-    measure(bench, &deliver)
 }

@@ -1,10 +1,14 @@
-//! The subscribers of the measures.
+//! The subscribers of the measures, and the job that is done on one.
 
 ghost use Rattle.std.specs.Prelude.{◌≤ℤ◌, pos};
 
-use event_manager::{EventOps, EventPoller, EventSet, Events, MutEventSubscriber, Result};
+use event_manager::{
+    Action, ActionOn, EventOps, EventPoller, EventSet, Events, MutEventSubscriber, Result,
+    SubscriberId,
+};
 use measures::fixed::FIRST;
 use std::sync::Wait;
+use std::time::Clock;
 use vmm_sys::eventfd::EventFd;
 
 /// The descriptor of a number that is counted from the lowest; the highest there is where it would be above.
@@ -69,6 +73,32 @@ impl MutEventSubscriber for Counter {
             let fd = self.first.saturating_add(k as i32).max(0);
             self.answer = self.answer.and(ops.add(Events::new_raw(fd, EventSet::IN)));
         }
+    }
+}
+
+/// Counts one more, and replies what is then counted.
+#[derive(Clone, Copy)]
+pub struct CountOne;
+
+impl Action<Counter> for CountOne {
+    type Reply = u64;
+
+    ghost use Rattle.std.specs.Prelude.{◌≡◌};
+    ghost use Rattle.event_manager.specs.CounterEvents.{next_count};
+
+    ghost does = { λ self v reply w. (reply ≡ next_count v.count) × (w ≡ record v { count = next_count v.count }) };
+
+    fn act<W: Wait + Clock>(self, counter: &mut Counter, _rt: &W) -> u64 {
+        counter.count_one();
+        counter.count
+    }
+}
+
+/// The job that counts one more at the counter of the id.
+pub fn count_at(subscriber: SubscriberId) -> ActionOn<CountOne> {
+    ActionOn {
+        subscriber,
+        action: CountOne,
     }
 }
 

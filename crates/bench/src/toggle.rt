@@ -1,114 +1,92 @@
 //! What a remove and an add of one descriptor cost, made at an event.
 
-use crate::over_fixed::{Host, Manager, ManagerMeasure, measure, run_rounds};
+use crate::managers::{ManagerMeasure, run_rounds, take_over_fixed};
 use crate::subscribers::Toggler;
 use anyhow::Result;
-use event_manager::{EventPoller, NamedCounter, SubscriberOps};
-use measures::arguments::{Family, Size};
-use measures::bench::{Bench, Measured, expect};
-use measures::fixed::{BATCH, Fixed};
-use measures::timing::{REPEATS, Times};
-use std::alloc::Global;
-use std::sync::Wait;
-use std::time::Clock;
-
-/// What picks the measures of one event in a batch.
-pub const ONE: Family = Family("one");
-
-/// What picks those of 256 events in a batch.
-pub const IN_A_BATCH: Family = Family("batch");
+use event_manager::{EventManager, EventPoller, NamedCounter, NoJob, SubscriberOps};
+use measures::arguments::Size;
+use measures::bench::{Bench, Measured};
+use measures::fixed::Fixed;
+use measures::host::Host;
+use measures::timing::Times;
 
 /// Batches of so many events of one subscriber, which at each removes a descriptor that isn't in the batch, and adds it
 /// again.
 #[derive(Clone, Copy)]
 struct Toggle {
-    /// The name, but for the capacity.
-    label: &'static str,
-    entries: u32,
-    /// How many descriptors the subscriber has.
+    entries: u16,
+    /// How many descriptors the subscriber has: the first of them, one for each event, it leaves as they are.
     descriptors: u16,
-    /// How many of them, from the first, it leaves as they are.
-    skip: u16,
-    capacity: usize,
+    capacity: u32,
     rounds: u32,
 }
 
-impl ManagerMeasure for Toggle {
+impl<R: Host> ManagerMeasure<R> for Toggle {
     type Subscriber = Toggler;
 
-    fn name(&self, alloc: Global) -> Result<String> {
-        let (label, capacity) = (self.label, self.capacity);
-        Ok(format!(in alloc; "{label}, capacity {capacity}")?)
-    }
-
-    fn poller(&self, alloc: Global) -> Result<Fixed> {
-        Ok(Fixed::first(self.entries, alloc)?)
-    }
+    type Job = NoJob;
 
     fn capacity(&self) -> usize {
-        self.capacity
+        self.capacity as usize
     }
 
-    fn take<N: NamedCounter, P: EventPoller, R: Wait + Clock>(
+    fn take<N: NamedCounter, P: EventPoller>(
         &self,
-        manager: &mut Manager<Toggler, N, P>,
-        _alloc: Global,
-        rt: &R,
+        manager: &mut EventManager<Toggler, NoJob, N, P>,
+        bench: &Bench<R>,
     ) -> Result<Measured> {
-        let (entries, rounds) = (self.entries as u64, self.rounds);
-        let id = manager.add_subscriber(Toggler::new(self.descriptors, self.skip))?;
-        let times = Times::of(|| run_rounds(manager, rounds, entries, rt), rt)?;
-        let operations = rounds as u64 * entries;
+        let (entries, rounds) = (self.entries as u64, bench.rounds(self.rounds));
+        let id = manager.add_subscriber(Toggler::new(self.descriptors, self.entries))?;
+        let times = Times::of(
+            || run_rounds(manager, rounds, entries, &bench.rt),
+            &bench.rt,
+        )?;
         let count = manager.remove_subscriber(id)?.counted()?;
-        Ok(Measured {
-            times,
-            operations,
-            count: expect(count, operations.saturating_mul(REPEATS as u64))?,
-        })
+        Measured::of(times, rounds as u64 * entries, count)
     }
 }
 
-/// One event in a batch, of a subscriber with 256 descriptors.
-fn toggle_one(capacity: usize, rounds: u32) -> Toggle {
-    Toggle {
-        label: "toggle one",
-        entries: 1,
-        descriptors: 256,
-        skip: 1,
-        capacity,
-        rounds,
-    }
+fn measure<R: Host>(bench: &Bench<R>, before: &str, toggle: Toggle) -> Result<()> {
+    let fixed = Fixed::first(toggle.entries as u32, bench.alloc)?;
+    let measured = take_over_fixed(bench, &toggle, fixed)?;
+    bench.print_sized((before, toggle.capacity, ""), measured)
 }
 
-/// 256 events in a batch, of a subscriber with 512 descriptors.
-fn toggle_in_a_batch(capacity: usize, rounds: u32) -> Toggle {
-    Toggle {
-        label: "toggle in a batch of 256",
-        entries: BATCH,
-        descriptors: 512,
-        skip: 256,
-        capacity,
-        rounds,
-    }
-}
-
-/// The sizes: the capacity of the manager, and the rounds of a repeat with one event and with 256.
-const SIZES: [(Size, usize, u32, u32); 3] = [
-    (Size::Small, 256, 100000, 400),
-    (Size::Middle, 4096, 20000, 80),
-    (Size::Large, 65536, 2000, 8),
-];
-
-/// Measures a toggle at each wanted size, first in a batch of one event and then in one of 256.
-pub fn measure_toggles<R: Host>(bench: &Bench<R>) -> Result<()> {
-    for (size, capacity, rounds, _) in SIZES {
-        if bench.wanted.has_family(ONE) && bench.wanted.has_size(size) {
-            measure(bench, &toggle_one(capacity, bench.rounds(rounds)))?;
+/// Measures a toggle at each wanted size, of one event in a batch, whose subscriber has 256 descriptors.
+pub fn measure_one_by_one<R: Host>(bench: &Bench<R>) -> Result<()> {
+    for (size, capacity, rounds) in [
+        (Size::Small, 256, 100000),
+        (Size::Middle, 4096, 20000),
+        (Size::Large, 65536, 2000),
+    ] {
+        if bench.wanted.has_size(size) {
+            let toggle = Toggle {
+                entries: 1,
+                descriptors: 256,
+                capacity,
+                rounds,
+            };
+            measure(bench, "toggle one, capacity", toggle)?;
         }
     }
-    for (size, capacity, _, rounds) in SIZES {
-        if bench.wanted.has_family(IN_A_BATCH) && bench.wanted.has_size(size) {
-            measure(bench, &toggle_in_a_batch(capacity, bench.rounds(rounds)))?;
+    Ok(())
+}
+
+/// Measures it of 256 events in a batch, whose subscriber has 512 descriptors.
+pub fn measure_batches<R: Host>(bench: &Bench<R>) -> Result<()> {
+    for (size, capacity, rounds) in [
+        (Size::Small, 256, 400),
+        (Size::Middle, 4096, 80),
+        (Size::Large, 65536, 8),
+    ] {
+        if bench.wanted.has_size(size) {
+            let toggle = Toggle {
+                entries: 256,
+                descriptors: 512,
+                capacity,
+                rounds,
+            };
+            measure(bench, "toggle in a batch of 256, capacity", toggle)?;
         }
     }
     Ok(())

@@ -6,18 +6,19 @@
 //! the program ends with 1 and says what is otherwise.
 #![tactic(auto)]
 
-pub mod memory;
 pub mod visit;
 pub mod visitor;
 
-use anyhow::{Result, bail, ensure};
+use anyhow::{Context, Result, ensure};
 use event_loop::EventLoop;
-use memory::resident;
+use measures::arguments::rounds;
+use measures::bench::expect;
+use measures::host::Host;
+use measures::memory::resident;
 use std::alloc::Global;
-use std::env;
-use std::rt::{Env, Files};
+use std::rt::Files;
 use timerfd::TimedPoller;
-use visit::{Host, Place};
+use visit::{MESSAGES, Place};
 use vmm_sys::epoll::Epoll;
 use vmm_sys::eventfd::EventFd;
 
@@ -30,21 +31,19 @@ const SETTLED: u32 = 1000;
 /// How many bytes it may take nevertheless: what the system counts is whole pages, and the stacks of threads.
 const MORE: u64 = 1048576;
 
-/// The argument, or 1000000.
-fn rounds_of<R: Env + AllocGlobal>(rt: &R) -> Result<u32> {
-    match env::args(rt)?.nth(1) {
-        Some(word) => Ok(word.parse()?),
-        None => Ok(ROUNDS),
-    }
-}
-
 /// All rounds; the answer is how many messages were received.
 fn run<R: Host + Files + AllocGlobal>(rt: &R, alloc: Global, rounds: u32) -> Result<u64> {
     let epoll = Epoll::new(*rt, alloc)?;
     let alarm = EventFd::new(&epoll, 0, rt)?;
     let timed = TimedPoller::new(epoll.try_clone()?, alarm, *rt, alloc)?;
     let mut events = EventLoop::new(alloc, timed)?;
-    let mut place = Place::new(rt, alloc, &epoll, &mut events)?;
+    let mut place = Place {
+        rt,
+        alloc,
+        epoll: &epoll,
+        events: &mut events,
+        first: None,
+    };
     let mut received: u64 = 0;
     let mut settled = None;
     for round in 0..rounds {
@@ -61,12 +60,10 @@ fn run<R: Host + Files + AllocGlobal>(rt: &R, alloc: Global, rounds: u32) -> Res
 }
 
 fn main(rt: HostRuntime) -> Result<()> {
-    let rounds = rounds_of(&rt)?;
+    let rounds = rounds(&rt, ROUNDS)?;
     let received = run(&rt, rt.alloc(), rounds)?;
     println!(rt; "visitors: {rounds}")?;
     println!(rt; "messages: {received}")?;
-    if received != u64::from(rounds).saturating_mul(visit::MESSAGES) {
-        bail!("messages were lost");
-    }
+    expect(received, u64::from(rounds).saturating_mul(MESSAGES)).context("messages")?;
     Ok(())
 }

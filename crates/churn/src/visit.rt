@@ -4,19 +4,13 @@ use crate::visitor::Visitor;
 use anyhow::{Result, ensure};
 use channels::{Sender, channel};
 use event_loop::{EventLoop, SubscriberId, SubscriberOps};
+use measures::host::Host;
 use std::alloc::Global;
-use std::sync::Wait;
 use std::thread;
-use std::thread::Threads;
-use std::time::{Clock, Duration};
+use std::time::Duration;
 use timerfd::{TimedPoller, TimerFd};
 use vmm_sys::epoll::Epoll;
 use vmm_sys::eventfd::EventFd;
-
-/// What the program needs of the runtime.
-pub trait Host: Threads + Wait + Clock + Print + Copy + Send + Sync + Drop + 'static {}
-
-impl<R: Threads + Wait + Clock + Print + Copy + Send + Sync + Drop + 'static> Host for R {}
 
 /// How many messages a visitor is sent.
 pub const MESSAGES: u64 = 3;
@@ -33,16 +27,20 @@ pub type Loop<R> = EventLoop<Visitor<R>, TimedPoller<Epoll<R>, R>>;
 /// Where visitors come.
 #[derive(Drop)]
 pub struct Place<'a, R: Host> {
-    rt: &'a R,
-    alloc: Global,
-    epoll: &'a Epoll<R>,
-    events: &'a mut Loop<R>,
-    /// The descriptors of the first visitor.
-    first: Option<[i32; 2]>,
+    /// The runtime.
+    pub rt: &'a R,
+    /// Where memory comes from.
+    pub alloc: Global,
+    /// The table.
+    pub epoll: &'a Epoll<R>,
+    /// The loop.
+    pub events: &'a mut Loop<R>,
+    /// The descriptors of the first visitor, once one has come.
+    pub first: Option<[i32; 2]>,
 }
 
 /// Sends all messages, and closes; whether nothing was refused.
-fn send_all<R: Wait + Clock>(sender: Sender<u64>, rt: &R) -> bool {
+fn send_all<R: Host>(sender: Sender<u64>, rt: &R) -> bool {
     let mut is_sent = true;
     for message in 0..MESSAGES {
         is_sent &= sender.send(message, rt).is_ok();
@@ -50,22 +48,7 @@ fn send_all<R: Wait + Clock>(sender: Sender<u64>, rt: &R) -> bool {
     sender.close(rt).is_ok() && is_sent
 }
 
-impl<'a, R: Host> Place<'a, R> {
-    pub fn new(
-        rt: &'a R,
-        alloc: Global,
-        epoll: &'a Epoll<R>,
-        events: &'a mut Loop<R>,
-    ) -> Result<Place<'a, R>> {
-        Ok(Place {
-            rt,
-            alloc,
-            epoll,
-            events,
-            first: None,
-        })
-    }
-
+impl<R: Host> Place<'_, R> {
     /// A visit; the answer is how many messages the visitor received.
     pub fn visit(&mut self, round: u32) -> Result<u64> {
         let (sender, id) = self.join()?;

@@ -1,7 +1,6 @@
-//! The words that pick what is measured.
+//! The words that a program is given: those that pick what is measured, or a number of rounds.
 
 use anyhow::{Result, bail};
-use std::alloc::Global;
 use std::env;
 use std::rt::Env;
 
@@ -22,15 +21,6 @@ pub enum Size {
     Huge,
 }
 
-/// The number of descriptors of a subscriber that joins and leaves.
-#[derive(Clone, Copy, PartialEq, Eq)]
-pub enum Share {
-    /// One.
-    Single,
-    /// 16.
-    Several,
-}
-
 /// What is measured, and how.
 #[derive(Drop)]
 pub struct Wanted {
@@ -40,20 +30,9 @@ pub struct Wanted {
     pub checked: bool,
     families: Vec<Family>,
     sizes: Vec<Size>,
-    shares: Vec<Share>,
 }
 
 impl Wanted {
-    fn all(alloc: Global) -> Wanted {
-        Wanted {
-            boxed: false,
-            checked: false,
-            families: Vec::new(alloc),
-            sizes: Vec::new(alloc),
-            shares: Vec::new(alloc),
-        }
-    }
-
     fn pick(&mut self, word: &str, number: u64, families: &[Family]) -> Result<()> {
         match word {
             "boxed" => self.boxed = true,
@@ -63,8 +42,6 @@ impl Wanted {
             "middle" => self.sizes.push(Size::Middle)?,
             "large" => self.sizes.push(Size::Large)?,
             "huge" => self.sizes.push(Size::Huge)?,
-            "single" => self.shares.push(Share::Single)?,
-            "several" => self.shares.push(Share::Several)?,
             _ => match families.iter().find(|family| family.0 == word) {
                 Some(family) => self.families.push(*family)?,
                 None => bail!("argument {number} is none of the words"),
@@ -73,10 +50,15 @@ impl Wanted {
         Ok(())
     }
 
-    /// What the arguments pick: `boxed` or `plain`, `checked`, any number of families, sizes and shares; of a kind that none picks,
-    /// all but what is huge. Refused where they can't be read, where memory is, and, by its number, at the first other word.
+    /// What the arguments pick: `boxed` or `plain`, `checked`, any number of families and sizes; of a kind that none picks, all
+    /// but what is huge. Refused where they can't be read, where memory is, and, by its number, at the first other word.
     pub fn from_arguments<R: Env + AllocGlobal>(rt: &R, families: &[Family]) -> Result<Wanted> {
-        let mut wanted = Wanted::all(rt.alloc());
+        let mut wanted = Wanted {
+            boxed: false,
+            checked: false,
+            families: Vec::new(rt.alloc()),
+            sizes: Vec::new(rt.alloc()),
+        };
         let mut number = 0u64;
         for argument in env::args(rt)?.skip(1) {
             number = number.saturating_add(1);
@@ -97,9 +79,12 @@ impl Wanted {
             _ => self.sizes.is_empty() || self.sizes.contains(&size),
         }
     }
+}
 
-    /// Whether the share is wanted.
-    pub fn has_share(&self, share: Share) -> bool {
-        self.shares.is_empty() || self.shares.contains(&share)
+/// The first argument, a number of rounds; without one, `default`. Refused where it is no number, or can't be read.
+pub fn rounds<R: Env + AllocGlobal>(rt: &R, default: u32) -> Result<u32> {
+    match env::args(rt)?.nth(1) {
+        Some(word) => Ok(word.parse()?),
+        None => Ok(default),
     }
 }

@@ -1,7 +1,7 @@
 //! What a measure is given, and how what came of it is printed.
 
 use crate::arguments::Wanted;
-use crate::timing::Times;
+use crate::timing::{REPEATS, Times};
 use anyhow::{Result, ensure};
 use std::alloc::Global;
 
@@ -16,6 +16,17 @@ pub struct Measured {
     pub operations: u64,
     /// What all rounds counted; it is what the work has.
     pub count: u64,
+}
+
+impl Measured {
+    /// What came of repeats with so many operations each. Refused where all of them counted another number.
+    pub fn of(times: Times, operations: u64, count: u64) -> Result<Measured> {
+        Ok(Measured {
+            times,
+            operations,
+            count: expect(count, operations.saturating_mul(u64::from(REPEATS)))?,
+        })
+    }
 }
 
 /// The runtime, and what is wanted.
@@ -56,9 +67,20 @@ impl<R: Print> Bench<R> {
         let middle = measured.times.middle(measured.operations);
         println!(self.rt;
             "{:<44} {:>10}.{} {:>10}.{}",
-            name, least.whole, least.tenths, middle.whole, middle.tenths
+            name,
+            least / 10,
+            least % 10,
+            middle / 10,
+            middle % 10
         )?;
         Ok(())
+    }
+
+    /// Prints a line as `print` does, with a size in the name.
+    pub fn print_sized(&self, name: (&str, u32, &str), measured: Measured) -> Result<()> {
+        let (before, size, behind) = name;
+        let name = format!(in self.alloc; "{before} {size}{behind}")?;
+        self.print(name.as_str(), measured)
     }
 }
 

@@ -31,32 +31,17 @@ impl Times {
         Ok(Times { nanoseconds })
     }
 
-    /// The least time per operation, of `operations` in a repeat.
-    pub fn least(&self, operations: u64) -> Tenths {
-        Tenths::of(self.nanoseconds[0], operations)
+    /// The least time per operation, of `operations` in a repeat, in tenths of a nanosecond.
+    pub fn least(&self, operations: u64) -> u128 {
+        tenths(self.nanoseconds[0], operations)
     }
 
-    /// The middle time per operation, of `operations` in a repeat.
-    pub fn middle(&self, operations: u64) -> Tenths {
-        Tenths::of(self.nanoseconds[2], operations)
+    /// The middle time per operation, of `operations` in a repeat, in tenths of a nanosecond.
+    pub fn middle(&self, operations: u64) -> u128 {
+        tenths(self.nanoseconds[2], operations)
     }
 }
 
-/// Nanoseconds and their tenths.
-#[derive(Clone, Copy)]
-pub struct Tenths {
-    /// The nanoseconds.
-    pub whole: u128,
-    /// The tenths beside them, below 10.
-    pub tenths: u128,
-}
-
-impl Tenths {
-    fn of(nanoseconds: u128, operations: u64) -> Tenths {
-        let tenths = nanoseconds.saturating_mul(10) / (operations.max(1) as u128);
-        Tenths {
-            whole: tenths / 10,
-            tenths: tenths % 10,
-        }
-    }
+fn tenths(nanoseconds: u128, operations: u64) -> u128 {
+    nanoseconds.saturating_mul(10) / (operations.max(1) as u128)
 }

@@ -3,7 +3,6 @@
 use event_manager::{EventOps, EventPoller, EventSet, Events, MutEventSubscriber, Request, Result};
 use std::sync::Wait;
 use vmm_sys::epoll::AsRawFd;
-use vmm_sys::errno::Errno;
 use vmm_sys::eventfd::EventFd;
 
 /// Reads its two counters. At each event of the first it takes the second out, and puts it in again.
@@ -24,29 +23,18 @@ pub struct Device<R> {
 }
 
 impl<R: Wait> Device<R> {
-    /// A device over two counters, which has read nothing.
-    pub fn new(first: EventFd, second: EventFd, rt: R) -> Self {
-        Device {
-            first,
-            second,
-            read: 0,
-            jobs: 0,
-            refused: 0,
-            rt,
-        }
-    }
-
     /// Counts a job at this device.
     pub fn count_job(&mut self) {
         self.jobs = self.jobs.saturating_add(1);
     }
 
-    fn value(&self, is_first: bool) -> std::result::Result<u64, Errno> {
-        if is_first {
+    fn value(&self, is_first: bool) -> u64 {
+        let value = if is_first {
             self.first.read(&self.rt)
         } else {
             self.second.read(&self.rt)
-        }
+        };
+        value.unwrap_or(0)
     }
 
     fn note(&mut self, answers: (Result<()>, Result<()>)) {
@@ -62,8 +50,7 @@ impl<R: Wait> MutEventSubscriber for Device<R> {
 
     fn process<P: EventPoller>(&mut self, events: Events, ops: &mut EventOps<P>) {
         let is_first = events.fd() == self.first.as_raw_fd();
-        let value = self.value(is_first).unwrap_or(0);
-        self.read = self.read.saturating_add(value);
+        self.read = self.read.saturating_add(self.value(is_first));
         if is_first {
             let own = Events::new(&self.second, EventSet::IN);
             self.note(ops.request_both(Request::Remove(own), Request::Add(own)));

@@ -8,50 +8,30 @@
 #![tactic(auto)]
 
 pub mod device;
-pub mod fault;
 pub mod load;
 pub mod parts;
-pub mod progress;
-pub mod rounds;
 pub mod senders;
 pub mod served;
 pub mod work;
 
-use fault::Fault;
-use load::{Host, Loaded, load};
-use rounds::rounds_of;
-use std::process::ExitCode;
-use std::rt::Env;
+use anyhow::Result;
+use load::{Loaded, load};
+use measures::arguments::rounds;
 
-fn print<R: Host>(rt: &R, loaded: Loaded) -> Result<(), Fault> {
+/// How many rounds there are without an argument.
+const ROUNDS: u32 = 10000;
+
+fn main(rt: HostRuntime) -> Result<()> {
+    let rounds = rounds(&rt, ROUNDS)?;
     let Loaded {
-        rounds,
         read,
         fired,
         called,
         taken,
-        guests,
-    } = loaded;
+    } = load(rt, rt.alloc(), rounds)?;
     println!(rt; "rounds: {rounds}")?;
     println!(rt; "written to the devices, and read: {read}")?;
     println!(rt; "jobs sent: {fired}, called: {called}, run: {taken}")?;
-    println!(rt; "guests that joined, and left: {guests}")?;
+    println!(rt; "guests that joined, and left: {rounds}")?;
     Ok(())
-}
-
-fn run<R: Host + Env + AllocGlobal>(rt: R) -> Result<(), Fault> {
-    let alloc = rt.alloc();
-    let rounds = rounds_of(&rt)?;
-    let loaded = load(rt, alloc, rounds)?;
-    print(&rt, loaded)
-}
-
-fn main(rt: HostRuntime) -> ExitCode {
-    match run(rt) {
-        Ok(()) => ExitCode::SUCCESS,
-        Err(fault) => {
-            let _ = eprintln!(rt; "soak: {fault}");
-            ExitCode::FAILURE
-        }
-    }
 }

@@ -1,11 +1,11 @@
 //! What the loop is loaded with.
 
 use crate::device::Device;
-use crate::fault::Fault;
-use crate::progress::Progress;
+use anyhow::Result;
+use measures::host::Host;
+use measures::progress::Progress;
 use std::alloc::Global;
-use std::sync::{Arc, Wait};
-use std::time::Clock;
+use std::sync::Wait;
 use vmm_sys::epoll::Epoll;
 use vmm_sys::errno::Errno;
 use vmm_sys::eventfd::EventFd;
@@ -30,11 +30,8 @@ impl Drop for Pair {
 }
 
 impl Pair {
-    /// Two counters with the value 0. `Descriptor`: one was refused.
-    pub fn new<R: Wait + Clock + Clone + Send + Drop>(
-        epoll: &Epoll<R>,
-        rt: &R,
-    ) -> Result<Pair, Fault> {
+    /// Two counters with the value 0.
+    pub fn new<R: Host>(epoll: &Epoll<R>, rt: &R) -> Result<Pair> {
         Ok(Pair {
             first: EventFd::new(epoll, 0, rt)?,
             second: EventFd::new(epoll, 0, rt)?,
@@ -42,12 +39,19 @@ impl Pair {
     }
 
     /// A device over them. Refused as a copy of a counter is.
-    pub fn device<R: Wait + Copy>(&self, rt: &R) -> Result<Device<R>, Errno> {
-        Ok(Device::new(self.first.try_clone()?, self.second.try_clone()?, *rt))
+    pub fn device<R: Wait + Copy>(&self, rt: &R) -> std::result::Result<Device<R>, Errno> {
+        Ok(Device {
+            first: self.first.try_clone()?,
+            second: self.second.try_clone()?,
+            read: 0,
+            jobs: 0,
+            refused: 0,
+            rt: *rt,
+        })
     }
 
-    /// Writes 1 to each. `Descriptor`: a write was refused.
-    pub fn write<R: Wait>(&self, rt: &R) -> Result<(), Fault> {
+    /// Writes 1 to each.
+    pub fn write<R: Wait>(&self, rt: &R) -> Result<()> {
         self.first.write(1, rt)?;
         self.second.write(1, rt)?;
         Ok(())
@@ -63,7 +67,7 @@ impl Pair {
 
 /// What the loop is loaded with.
 #[derive(Drop)]
-pub struct Parts {
+pub struct Parts<'a> {
     /// The counters of the guest.
     pub guest: Pair,
     /// The counters of each device.
@@ -71,18 +75,18 @@ pub struct Parts {
     /// The number of rounds.
     pub rounds: u32,
     /// Where the threads that load it note how far they have come.
-    pub progress: Arc<Progress>,
+    pub progress: &'a Progress,
 }
 
-impl Parts {
-    /// New ones, of this table. `Descriptor`, `Memory`: one was refused.
-    pub fn new<R: Wait + Clock + Clone + Send + Drop>(
+impl<'a> Parts<'a> {
+    /// New ones, of this table.
+    pub fn new<R: Host>(
         epoll: &Epoll<R>,
         alloc: Global,
         rounds: u32,
-        progress: Arc<Progress>,
+        progress: &'a Progress,
         rt: &R,
-    ) -> Result<Parts, Fault> {
+    ) -> Result<Parts<'a>> {
         let mut pairs = Vec::new(alloc);
         for _ in 0..DEVICES {
             pairs.push(Pair::new(epoll, rt)?)?;

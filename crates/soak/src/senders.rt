@@ -1,11 +1,12 @@
 //! The senders that load the loop, each from a thread of its own.
 
 use crate::device::Device;
-use crate::fault::{Fault, expect};
 use crate::parts::{Pair, Parts};
-use crate::progress::Progress;
 use crate::work::{Reply, Work};
+use anyhow::{Context, Result, bail};
 use event_manager::{JobSender, NamedCounter, RemoteEndpoint, SubscriberId};
+use measures::bench::expect;
+use measures::progress::Progress;
 use std::sync::Wait;
 use std::thread;
 use std::time::{Clock, Duration};
@@ -31,12 +32,11 @@ pub struct Loader<'a> {
     /// What it does in a round.
     pub load: Load,
     /// What all load the loop with.
-    pub parts: &'a Parts,
+    pub parts: &'a Parts<'a>,
 }
 
-impl<R: Wait + Clock + Copy + Drop> JobSender<Device<R>, Work<R>, Result<(), Fault>, R>
-    for Loader<'_> {
-    fn send<N: NamedCounter>(self, endpoint: &Endpoint<N, R>, rt: &R) -> Result<(), Fault> {
+impl<R: Wait + Clock + Copy + Drop> JobSender<Device<R>, Work<R>, Result<()>, R> for Loader<'_> {
+    fn send<N: NamedCounter>(self, endpoint: &Endpoint<N, R>, rt: &R) -> Result<()> {
         let parts = self.parts;
         for _ in 0..parts.rounds {
             match &self.load {
@@ -50,7 +50,7 @@ impl<R: Wait + Clock + Copy + Drop> JobSender<Device<R>, Work<R>, Result<(), Fau
     }
 }
 
-fn write_all<R: Wait>(pairs: &[Pair], rt: &R) -> Result<(), Fault> {
+fn write_all<R: Wait>(pairs: &[Pair], rt: &R) -> Result<()> {
     for pair in pairs {
         pair.write(rt)?;
     }
@@ -61,7 +61,7 @@ fn fire_all<N: NamedCounter, R: Wait + Clock + Drop>(
     endpoint: &Endpoint<N, R>,
     ids: &[SubscriberId],
     rt: &R,
-) -> Result<(), Fault> {
+) -> Result<()> {
     for id in ids {
         let _ticket = endpoint.fire(Work::Count(*id), rt)?;
     }
@@ -77,9 +77,8 @@ fn fire_and_call<N: NamedCounter, R: Wait + Clock + Drop>(
     rt: &R,
 ) -> event_manager::Result<Reply> {
     let _ticket = endpoint.fire(Work::Count(id), rt)?;
-    progress.ask();
     let reply = endpoint.call_blocking(work, rt);
-    progress.answer();
+    progress.step();
     reply
 }
 
@@ -88,7 +87,7 @@ fn fire_and_settle<N: NamedCounter, R: Wait + Clock + Drop>(
     endpoint: &Endpoint<N, R>,
     id: SubscriberId,
     rt: &R,
-) -> Result<(), Fault> {
+) -> Result<()> {
     let _ticket = endpoint.fire(Work::Count(id), rt)?;
     for _ in rt.forever() {
         if endpoint.pending() == Some(0) {
@@ -102,35 +101,35 @@ fn fire_and_settle<N: NamedCounter, R: Wait + Clock + Drop>(
 fn receive_guest<N: NamedCounter, R: Wait + Clock + Copy + Drop>(
     endpoint: &Endpoint<N, R>,
     id: SubscriberId,
-    pair: &Pair,
-    progress: &Progress,
+    parts: &Parts<'_>,
     rt: &R,
-) -> Result<(), Fault> {
+) -> Result<()> {
+    let (pair, progress) = (&parts.guest, parts.progress);
     let guest = Work::Join(pair.device(rt)?);
     let Reply::Joined(joined) = fire_and_call(endpoint, id, guest, progress, rt)? else {
-        return Err(Fault::Reply);
+        bail!("the reply of another job");
     };
     pair.write(rt)?;
     let leave = Work::Leave(joined?);
     let Reply::Left(left) = fire_and_call(endpoint, id, leave, progress, rt)? else {
-        return Err(Fault::Reply);
+        bail!("the reply of another job");
     };
     let (read, refused) = left?;
-    expect("refused requests of a guest", refused, 0)?;
-    expect("read of a guest", read.saturating_add(pair.rest(rt)), 2)
+    expect(refused, 0).context("refused requests of a guest")?;
+    expect(read.saturating_add(pair.rest(rt)), 2).context("read of a guest")?;
+    Ok(())
 }
 
 fn call_all<N: NamedCounter, R: Wait + Clock + Copy + Drop>(
     endpoint: &Endpoint<N, R>,
     device: SubscriberId,
-    parts: &Parts,
+    parts: &Parts<'_>,
     rt: &R,
-) -> Result<(), Fault> {
-    let progress = &parts.progress;
-    receive_guest(endpoint, device, &parts.guest, progress, rt)?;
+) -> Result<()> {
+    receive_guest(endpoint, device, parts, rt)?;
     let count = Work::Count(device);
-    let Reply::Counted(counted) = fire_and_call(endpoint, device, count, progress, rt)? else {
-        return Err(Fault::Reply);
+    let Reply::Counted(counted) = fire_and_call(endpoint, device, count, parts.progress, rt)? else {
+        bail!("the reply of another job");
     };
     counted?;
     fire_and_settle(endpoint, device, rt)

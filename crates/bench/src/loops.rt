@@ -1,18 +1,14 @@
 //! What a delivery costs of several loops at once, each on a thread of its own, over a table of its own.
 
-use crate::calls::Host;
 use anyhow::Result;
 use event_manager::utilities::subscribers::CounterSubscriber;
 use event_manager::{EventLoop, EventPoller, SubscriberOps, ThreadLoop, with_loops};
-use measures::arguments::Family;
 use measures::bench::{Bench, Measured, expect};
+use measures::host::Host;
 use measures::timing::Times;
 use std::alloc::Global;
 use vmm_sys::epoll::Epoll;
 use vmm_sys::eventfd::EventFd;
-
-/// What picks these measures.
-pub const LOOPS: Family = Family("loops");
 
 /// How many runs each loop makes in a repeat in full.
 const RUNS: u32 = 40960;
@@ -55,18 +51,6 @@ fn begin<R: Host>(runs: u32, alloc: Global, rt: &R) -> Result<Delivering<Epoll<R
     })
 }
 
-/// Makes the runs, and answers how many events they delivered.
-fn deliver<P: EventPoller + Drop>(it: Delivering<P>) -> event_manager::Result<u64> {
-    let Delivering {
-        poller,
-        counters,
-        runs,
-    } = it;
-    let mut event_loop = EventLoop::new(*counters.allocator(), poller)?;
-    join(&mut event_loop, counters)?;
-    run_often(&mut event_loop, runs)
-}
-
 /// Lets a subscriber of each counter join.
 fn join<P: EventPoller>(
     event_loop: &mut EventLoop<CounterSubscriber, P>,
@@ -93,8 +77,16 @@ fn run_often<P: EventPoller>(
 impl<P: EventPoller + Drop, R> ThreadLoop<R> for Delivering<P> {
     type Output = event_manager::Result<u64>;
 
+    /// Makes the runs, and answers how many events they delivered.
     fn run(self, _rt: &R) -> event_manager::Result<u64> {
-        deliver(self)
+        let Delivering {
+            poller,
+            counters,
+            runs,
+        } = self;
+        let mut event_loop = EventLoop::new(*counters.allocator(), poller)?;
+        join(&mut event_loop, counters)?;
+        run_often(&mut event_loop, runs)
     }
 }
 
@@ -142,18 +134,11 @@ fn measure_loops_at_once<R: Host>(bench: &Bench<R>, loops: u32) -> Result<Measur
         },
         &bench.rt,
     )?;
-    Ok(Measured {
-        times,
-        operations,
-        count,
-    })
+    Measured::of(times, operations, count)
 }
 
-/// Measures deliveries of several loops, where they are wanted.
+/// Measures deliveries of several loops.
 pub fn measure_loops<R: Host>(bench: &Bench<R>) -> Result<()> {
-    if !bench.wanted.has_family(LOOPS) {
-        return Ok(());
-    }
     for (loops, name) in LOOPS_AT_ONCE {
         bench.print(name, measure_loops_at_once(bench, loops)?)?;
     }

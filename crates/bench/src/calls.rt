@@ -3,34 +3,26 @@
 //! Both wait without a limit, so whoever misses a wake-up or a reply waits for ever. The program's first thread looks on:
 //! where no reply has come for ten seconds, it ends the program with 1 and a line that says so.
 
-use crate::jobs::{CountOne, Counter, count_at};
-use crate::progress::Progress;
+use crate::subscribers::{CountOne, Counter, count_at};
 use anyhow::{Result, bail};
 use event_manager::{
-    ActionOn, Error, EventPoller, JobSender, LoopWithSenders, NamedCounter, RemoteEndpoint,
-    SubscriberId, TrackedManager, with_senders,
+    ActionOn, EventPoller, JobSender, LoopWithSenders, NamedCounter, RemoteEndpoint, SubscriberId,
+    TrackedManager, with_senders,
 };
-use measures::arguments::Family;
-use measures::bench::{Bench, Measured, expect};
-use measures::timing::{REPEATS, Times};
+use measures::bench::{Bench, Measured};
+use measures::fixed::FIRST;
+use measures::host::Host;
+use measures::progress::Progress;
+use measures::timing::Times;
 use std::alloc::Global;
 use std::sync::{Arc, Wait};
 use std::thread;
-use std::thread::Threads;
 use std::time::Clock;
 use vmm_sys::epoll::Epoll;
 use vmm_sys::eventfd::EventFd;
 
-/// What picks this measure.
-pub const CALL: Family = Family("call");
-
 /// How many jobs a repeat sends.
 const JOBS: u32 = 2000;
-
-/// What the measure needs of the runtime.
-pub trait Host: Threads + Wait + Clock + Print + Copy + Send + Sync + Drop + 'static {}
-
-impl<R: Threads + Wait + Clock + Print + Copy + Send + Sync + Drop + 'static> Host for R {}
 
 /// A loop with one counter, which is called so often in each repeat.
 #[derive(Clone, Copy)]
@@ -56,15 +48,11 @@ impl<'a, R: Wait + Clock> LoopWithSenders<Counter, ActionOn<CountOne>, Caller<'a
         manager: &mut TrackedManager<Counter, ActionOn<CountOne>, N, P>,
     ) -> event_manager::Result<Vec<Caller<'a>>> {
         let caller = Caller {
-            id: manager.add_subscriber(Counter { count: 0 })?,
+            id: manager.add_subscriber(Counter::new(FIRST as i32, 0))?,
             rounds: self.rounds,
             progress: self.progress,
         };
-        let mut callers = Vec::new(alloc);
-        match callers.push(caller) {
-            Ok(()) => Ok(callers),
-            Err(_refused) => Err(Error::OutOfMemory),
-        }
+        Ok(vec![in alloc; caller]?)
     }
 }
 
@@ -94,7 +82,7 @@ fn call_often<N: NamedCounter, R: Wait + Clock>(
 ) -> Result<()> {
     for _ in 0..rounds {
         let _ = endpoint.call_blocking(count_at(id), rt)??;
-        progress.count_reply();
+        progress.step();
     }
     Ok(())
 }
@@ -105,11 +93,7 @@ fn measured(sent: Vec<Result<Times>>, taken: u64, rounds: u32) -> Result<Measure
     let Some(times) = sent.pop() else {
         bail!("the caller gave nothing");
     };
-    Ok(Measured {
-        times: times?,
-        operations: rounds as u64,
-        count: expect(taken, REPEATS as u64 * rounds as u64)?,
-    })
+    Measured::of(times?, rounds as u64, taken)
 }
 
 /// Makes the loop over the in-process table, and measures a call beside it.
@@ -134,12 +118,9 @@ fn measure_to_end<R: Host>(
     measured
 }
 
-/// Measures a `call_blocking` from another thread than the loop's, where it is wanted. Refused where a reply
-/// was lost: so the two threads are left alone, and end with the program.
+/// Measures a `call_blocking` from another thread than the loop's. Refused where a reply was lost: so the two threads are left
+/// alone, and end with the program.
 pub fn measure_calls<R: Host>(bench: &Bench<R>) -> Result<()> {
-    if !bench.wanted.has_family(CALL) {
-        return Ok(());
-    }
     let (rt, alloc, rounds) = (bench.rt, bench.alloc, bench.rounds(JOBS));
     let progress = Arc::new(alloc, Progress::new())?;
     let theirs = Arc::try_clone(&progress)?;

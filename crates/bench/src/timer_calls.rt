@@ -1,21 +1,17 @@
 //! What timers cost: those of a table of timers, and a wait beside them.
 
-use crate::lines::{SizedName, print, print_sized};
 use anyhow::Result;
-use measures::arguments::{Family, Size};
-use measures::bench::{Bench, expect};
+use measures::arguments::Size;
+use measures::bench::{Bench, Measured, expect};
+use measures::host::Host;
 use measures::timing::{REPEATS, Times};
 use std::alloc::Global;
-use std::sync::Wait;
-use std::time::{Clock, Duration};
+use std::time::Duration;
 use timerfd::{TimedPoller, TimerFd, TimerTable};
 use vmm_sys::epoll::{AsRawFd, ControlOperation, Epoll, EpollEvent, EventSet};
 use vmm_sys::errno::Errno;
 use vmm_sys::eventfd::EventFd;
 use vmm_sys::poller::Poller;
-
-/// What picks these measures.
-pub const TIMERS: Family = Family("timers");
 
 /// How often a call is made in a repeat.
 const CALLS: u32 = 10000;
@@ -151,112 +147,78 @@ impl Work {
         *count = count.saturating_add(rounds as u64);
     }
 
-    fn name(self, size: u32) -> SizedName {
-        let (before, behind) = match self {
+    /// What stands before the number of timers in the name, and behind it.
+    fn name(self) -> (&'static str, &'static str) {
+        match self {
             Work::DisarmAndArm => ("disarm and arm one of", ""),
             Work::ArmLater => ("re-arm each of", " in turn"),
             Work::Expire => ("one of", " expires and is taken"),
-        };
-        SizedName {
-            before,
-            size,
-            behind,
         }
     }
-}
 
-/// The measures of so many timers.
-#[derive(Drop)]
-struct TimerCalls<'a, R> {
-    bench: &'a Bench<R>,
-    timers: u32,
-}
-
-impl<R: Clock + Print> TimerCalls<'_, R> {
-    fn measure(&self) -> Result<()> {
-        self.measure_filling()?;
-        for work in WORKS {
-            self.measure_work(work)?;
-        }
-        Ok(())
-    }
-
-    /// Counts the timers that are then armed.
-    fn measure_filling(&self) -> Result<()> {
-        let mut tables = disarmed_for_each(self.timers, self.bench.alloc)?;
-        self.fill(tables.as_mut_slice())
-    }
-
-    fn fill(&self, tables: &mut [TimerTable]) -> Result<()> {
-        let timers = self.timers;
-        let mut next = tables.iter_mut();
-        let times = Times::of(
-            || {
-                if let Some(table) = next.next() {
-                    arm_all(table, timers);
-                }
-                Result::<(), Errno>::Ok(())
-            },
-            &self.bench.rt,
-        )?;
-        let count = count_armed(tables, timers);
-        let name = SizedName {
-            before: "arm while filling to",
-            size: timers,
-            behind: " timers",
-        };
-        print_sized(self.bench, name, times, timers as u64, count)
-    }
-
-    /// Measures one work on a table of its own.
-    fn measure_work(&self, work: Work) -> Result<()> {
-        let mut table = armed(self.timers, self.bench.alloc)?;
-        self.measure_over(work, &mut table)
-    }
-
-    fn measure_over(&self, work: Work, table: &mut TimerTable) -> Result<()> {
-        let (timers, rounds) = (self.timers, self.bench.rounds(CALLS));
+    /// Measures it on a table with so many timers.
+    fn measure<R: Host>(
+        self,
+        bench: &Bench<R>,
+        table: &mut TimerTable,
+        timers: u32,
+    ) -> Result<Measured> {
+        let rounds = bench.rounds(CALLS);
         let mut counted = Counted { count: 0, next: 0 };
         let times = Times::of(
             || {
-                work.repeat(table, timers, rounds, &mut counted);
+                self.repeat(table, timers, rounds, &mut counted);
                 Result::<(), Errno>::Ok(())
             },
-            &self.bench.rt,
+            &bench.rt,
         )?;
-        if work == Work::DisarmAndArm {
+        if self == Work::DisarmAndArm {
             let _ = expect(table.next_due().unwrap_or(0), FIRST)?;
         }
-        let (name, count) = (work.name(timers), counted.count);
-        print_sized(self.bench, name, times, rounds as u64, count)
+        Measured::of(times, rounds as u64, counted.count)
     }
 }
 
+/// Measures what arms so many timers, by those that are then armed.
+fn measure_filling<R: Host>(bench: &Bench<R>, timers: u32) -> Result<()> {
+    let mut tables = disarmed_for_each(timers, bench.alloc)?;
+    let measured = fill(bench, tables.as_mut_slice(), timers)?;
+    bench.print_sized(("arm while filling to", timers, " timers"), measured)
+}
+
+/// Arms the timers of one of the tables in each repeat.
+fn fill<R: Host>(bench: &Bench<R>, tables: &mut [TimerTable], timers: u32) -> Result<Measured> {
+    let mut next = tables.iter_mut();
+    let times = Times::of(
+        || {
+            if let Some(table) = next.next() {
+                arm_all(table, timers);
+            }
+            Result::<(), Errno>::Ok(())
+        },
+        &bench.rt,
+    )?;
+    Measured::of(times, timers as u64, count_armed(tables, timers))
+}
+
+/// Measures one work on a table of its own.
+fn measure_work<R: Host>(bench: &Bench<R>, work: Work, timers: u32) -> Result<()> {
+    let mut table = armed(timers, bench.alloc)?;
+    let measured = work.measure(bench, &mut table, timers)?;
+    let (before, behind) = work.name();
+    bench.print_sized((before, timers, behind), measured)
+}
+
 /// Measures waits, each of which reports one counter.
-fn measure_wait<P: Poller, R: Clock + Print>(
-    bench: &Bench<R>,
-    name: &str,
-    poller: &mut P,
-) -> Result<()> {
+fn measure_wait<P: Poller, R: Host>(bench: &Bench<R>, name: &str, poller: &mut P) -> Result<()> {
     let rounds = bench.rounds(CALLS);
     let mut count = 0u64;
     let times = Times::of(|| wait(poller, rounds, &mut count), &bench.rt)?;
-    print(bench, name, times, rounds as u64, count)
+    bench.print(name, Measured::of(times, rounds as u64, count)?)
 }
 
-/// Measures a wait of a table that others share, alone, with an interest in a ready counter.
-fn measure_alone<R: Wait + Clock + Print + Copy + Send + Drop>(
-    bench: &Bench<R>,
-    epoll: &mut Epoll<R>,
-    ready: &EventFd,
-) -> Result<()> {
-    let event = EpollEvent::new(EventSet::IN, 7);
-    epoll.ctl(ControlOperation::Add, ready.as_raw_fd(), event)?;
-    measure_wait(bench, "a wait, 1 counter ready", epoll)
-}
-
-/// Measures one with timers beside it, and with one of them armed.
-fn measure_beside_timers<R: Wait + Clock + Print + Copy + Send + Drop>(
+/// Measures a wait with timers beside it, and with one of them armed.
+fn measure_beside_timers<R: Host>(
     bench: &Bench<R>,
     timed: &mut TimedPoller<Epoll<R>, R>,
 ) -> Result<()> {
@@ -269,30 +231,30 @@ fn measure_beside_timers<R: Wait + Clock + Print + Copy + Send + Drop>(
 }
 
 /// Measures a wait of a table that others share, alone, with timers beside it, and with one of them armed.
-fn measure_waits<R: Wait + Clock + Print + Copy + Send + Drop>(bench: &Bench<R>) -> Result<()> {
+fn measure_waits<R: Host>(bench: &Bench<R>) -> Result<()> {
     let (rt, alloc) = (bench.rt, bench.alloc);
     let mut epoll = Epoll::new(rt, alloc)?;
     let ready = EventFd::new(&epoll, 1, &rt)?;
-    measure_alone(bench, &mut epoll, &ready)?;
+    let event = EpollEvent::new(EventSet::IN, 7);
+    epoll.ctl(ControlOperation::Add, ready.as_raw_fd(), event)?;
+    measure_wait(bench, "a wait, 1 counter ready", &mut epoll)?;
     let counter = EventFd::new(&epoll, 0, &rt)?;
     let mut timed = TimedPoller::new(epoll, counter, rt, alloc)?;
     measure_beside_timers(bench, &mut timed)
 }
 
 /// Measures timers at each wanted size, and waits beside them.
-pub fn measure_timers<R: Wait + Clock + Print + Copy + Send + Drop>(
-    bench: &Bench<R>,
-) -> Result<()> {
-    if !bench.wanted.has_family(TIMERS) {
-        return Ok(());
-    }
+pub fn measure_timers<R: Host>(bench: &Bench<R>) -> Result<()> {
     for (size, timers) in [
         (Size::Small, 16),
         (Size::Large, 4096),
         (Size::Huge, 1_000_000),
     ] {
         if bench.wanted.has_size(size) {
-            TimerCalls { bench, timers }.measure()?;
+            measure_filling(bench, timers)?;
+            for work in WORKS {
+                measure_work(bench, work, timers)?;
+            }
         }
     }
     measure_waits(bench)

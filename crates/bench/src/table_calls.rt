@@ -1,13 +1,12 @@
 //! What the calls of the in-process table cost.
 
-use crate::lines::{SizedName, buffer, print_sized};
 use anyhow::Result;
-use measures::arguments::{Family, Size};
-use measures::bench::{Bench, expect};
+use measures::arguments::Size;
+use measures::bench::{Bench, Measured, expect};
 use measures::fixed::BATCH;
+use measures::host::Host;
 use measures::timing::{REPEATS, Times};
 use std::alloc::Global;
-use std::time::Clock;
 use vmm_sys::epoll::{ControlOperation, EpollEvent, EventSet};
 use vmm_sys::errno::Errno;
 use vmm_sys::table::Table;
@@ -16,14 +15,16 @@ use vmm_sys::table::Table;
 /// 10.
 type Called<T> = std::result::Result<T, Errno>;
 
-/// What picks these measures.
-pub const TABLE: Family = Family("table");
-
 /// How often a call of `ctl` is made in a repeat.
 const CONTROLS: u32 = 10000;
 
 /// How often a repeat waits where one interest is ready.
 const WAITS_FOR_ONE: u32 = 2000;
+
+/// A buffer with room for so many entries.
+pub fn buffer(room: usize, alloc: Global) -> Result<Vec<EpollEvent>> {
+    Ok(vec![in alloc; EpollEvent::new(EventSet::empty(), 0); room]?)
+}
 
 /// A table with so many counters of this value, and no interest.
 fn open_counters(count: u32, value: u64, alloc: Global) -> Result<Table> {
@@ -214,71 +215,36 @@ struct Counted {
     last: u32,
 }
 
-/// The measures of a table of one size.
-#[derive(Drop)]
-struct TableCalls<'a, R> {
-    bench: &'a Bench<R>,
-    interests: u32,
-    /// How often a repeat waits where all are ready.
-    waits: u32,
+/// Measures what fills a table with so many interests, by those that are then reported.
+fn measure_filling<R: Host>(bench: &Bench<R>, interests: u32) -> Result<()> {
+    let mut tables = unwatched(interests, bench.alloc)?;
+    let measured = fill(bench, tables.as_mut_slice(), interests)?;
+    let name = ("Add while filling to", interests, " interests");
+    bench.print_sized(name, measured)
 }
 
-impl<R: Clock + Print> TableCalls<'_, R> {
-    fn measure(&self) -> Result<()> {
-        self.measure_filling()?;
-        for work in WORKS {
-            self.measure_work(work)?;
-        }
-        Ok(())
-    }
+/// Fills one of the tables in each repeat.
+fn fill<R: Host>(bench: &Bench<R>, tables: &mut [Table], interests: u32) -> Result<Measured> {
+    let mut next = tables.iter_mut();
+    let times = Times::of(
+        || match next.next() {
+            Some(table) => add_interests(table, interests),
+            None => Ok(()),
+        },
+        &bench.rt,
+    )?;
+    let count = reported(tables, interests, bench.alloc)?;
+    Measured::of(times, interests as u64, count)
+}
 
-    /// Counts the interests that are then reported.
-    fn measure_filling(&self) -> Result<()> {
-        let mut tables = unwatched(self.interests, self.bench.alloc)?;
-        self.fill(tables.as_mut_slice())
-    }
-
-    fn fill(&self, tables: &mut [Table]) -> Result<()> {
-        let (alloc, interests) = (self.bench.alloc, self.interests);
-        let mut next = tables.iter_mut();
-        let times = Times::of(
-            || match next.next() {
-                Some(table) => add_interests(table, interests),
-                None => Ok(()),
-            },
-            &self.bench.rt,
-        )?;
-        let count = reported(tables, interests, alloc)?;
-        let name = SizedName {
-            before: "Add while filling to",
-            size: interests,
-            behind: " interests",
-        };
-        print_sized(self.bench, name, times, interests as u64, count)
-    }
-
-    /// Measures one work on a table of its own.
-    fn measure_work(&self, work: Work) -> Result<()> {
-        let (alloc, interests) = (self.bench.alloc, self.interests);
-        let mut table = filled(interests, work.value(), alloc)?;
-        let mut buffer = buffer(work.room(interests), alloc)?;
-        self.measure_over(work, &mut table, buffer.as_mut_slice())
-    }
-
-    fn measure_over(&self, work: Work, table: &mut Table, buffer: &mut [EpollEvent]) -> Result<()> {
-        let interests = self.interests;
-        let rounds = self.bench.rounds(work.rounds(self.waits));
-        let last = interests.saturating_sub(1);
-        let mut counted = Counted { count: 0, last };
-        work.prepare(table, interests)?;
-        let times = Times::of(
-            || work.repeat(table, buffer, interests, rounds, &mut counted),
-            &self.bench.rt,
-        )?;
-        let count = work.count(table, buffer, interests, counted)?;
-        let operations = rounds as u64 * work.operations(interests) as u64;
-        print_sized(self.bench, work.name(interests), times, operations, count)
-    }
+/// Measures one work on a table of its own, where a repeat waits so often while all are ready.
+fn measure_work<R: Host>(bench: &Bench<R>, work: Work, interests: u32, waits: u32) -> Result<()> {
+    let rounds = bench.rounds(work.rounds(waits));
+    let mut table = filled(interests, work.value(), bench.alloc)?;
+    let mut buffer = buffer(work.room(interests), bench.alloc)?;
+    let measured = work.measure(bench, &mut table, buffer.as_mut_slice(), interests, rounds)?;
+    let (before, behind) = work.name();
+    bench.print_sized((before, interests, behind), measured)
 }
 
 impl Work {
@@ -316,8 +282,9 @@ impl Work {
         }
     }
 
-    fn name(self, size: u32) -> SizedName {
-        let (before, behind) = match self {
+    /// What stands before the number of interests in the name, and behind it.
+    fn name(self) -> (&'static str, &'static str) {
+        match self {
             Work::Modify => ("Modify each of", " interests in turn"),
             Work::ModifyAndBack => ("Modify one of", " to another set and back"),
             Work::AddAndDelete => ("Add and Delete one beside", ""),
@@ -326,12 +293,28 @@ impl Work {
             Work::WriteToReady => ("a write to one of", " that stay ready"),
             Work::Turn => ("a read and a write of one, all of", " ready"),
             Work::Reverse => ("a write, an entry and a read,", " in reverse"),
-        };
-        SizedName {
-            before,
-            size,
-            behind,
         }
+    }
+
+    /// Measures it on a table with so many interests.
+    fn measure<R: Host>(
+        self,
+        bench: &Bench<R>,
+        table: &mut Table,
+        buffer: &mut [EpollEvent],
+        interests: u32,
+        rounds: u32,
+    ) -> Result<Measured> {
+        let last = interests.saturating_sub(1);
+        let mut counted = Counted { count: 0, last };
+        self.prepare(table, interests)?;
+        let times = Times::of(
+            || self.repeat(table, buffer, interests, rounds, &mut counted),
+            &bench.rt,
+        )?;
+        let count = self.count(table, buffer, interests, counted)?;
+        let operations = rounds as u64 * self.operations(interests) as u64;
+        Measured::of(times, operations, count)
     }
 
     /// Opens the counter that is added and deleted, or makes one ready where none else is.
@@ -394,10 +377,7 @@ impl Work {
 }
 
 /// Measures the calls of a table at each wanted size.
-pub fn measure_tables<R: Clock + Print>(bench: &Bench<R>) -> Result<()> {
-    if !bench.wanted.has_family(TABLE) {
-        return Ok(());
-    }
+pub fn measure_tables<R: Host>(bench: &Bench<R>) -> Result<()> {
     for (size, interests, waits) in [
         (Size::Small, 16, 20000),
         (Size::Middle, 256, 1000),
@@ -405,12 +385,10 @@ pub fn measure_tables<R: Clock + Print>(bench: &Bench<R>) -> Result<()> {
         (Size::Huge, 1_000_000, 5),
     ] {
         if bench.wanted.has_size(size) {
-            let calls = TableCalls {
-                bench,
-                interests,
-                waits,
-            };
-            calls.measure()?;
+            measure_filling(bench, interests)?;
+            for work in WORKS {
+                measure_work(bench, work, interests, waits)?;
+            }
         }
     }
     Ok(())

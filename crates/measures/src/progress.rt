@@ -1,40 +1,40 @@
-//! How far a measure on other threads has come, and the wait for its end.
+//! How far other threads have come, and the wait for their end.
 
 use anyhow::{Result, bail};
 use std::sync::atomic::{AtomicU64, Ordering};
 use std::sync::{Condvar, Mutex, Wait};
 use std::time::{Clock, Duration};
 
-/// How often the measure is looked at, in milliseconds.
+/// How often the threads are looked at, in milliseconds.
 const LOOK: u64 = 1000;
 
-/// How many looks in a row may find no further reply.
+/// How many looks in a row may find no further step.
 const PATIENCE: u32 = 10;
 
-/// How many replies have come, and whether the measure is over.
+/// How many steps the threads have made, and whether all is over.
 #[derive(Drop)]
 pub struct Progress {
-    replies: AtomicU64,
+    steps: AtomicU64,
     over: Mutex<bool>,
     changed: Condvar,
 }
 
 impl Progress {
-    /// None has come yet.
+    /// No step is made yet.
     pub fn new() -> Self {
         Progress {
-            replies: AtomicU64::new(0),
+            steps: AtomicU64::new(0),
             over: Mutex::new(false),
             changed: Condvar::new(),
         }
     }
 
-    /// Counts a reply.
-    pub fn count_reply(&self) {
-        self.replies.fetch_add(1, Ordering::SeqCst);
+    /// Counts a step.
+    pub fn step(&self) {
+        self.steps.fetch_add(1, Ordering::SeqCst);
     }
 
-    /// Notes that the measure is over.
+    /// Notes that all is over.
     pub fn end(&self, rt: &impl Wait) {
         *self.over.lock(rt) = true;
         self.changed.notify_all();
@@ -49,24 +49,24 @@ impl Progress {
         *over
     }
 
-    /// Waits until the measure is over. Refused where no reply comes for some ten seconds: then it may never be over.
+    /// Waits until all is over. Refused where nobody makes a step for some ten seconds: then the threads may wait for ever.
     pub fn wait_for_end<R: Wait + Clock>(&self, rt: &R) -> Result<()> {
         let (mut seen, mut idle) = (0, 0u32);
         for _ in rt.forever() {
             if self.is_over_soon(rt) {
                 return Ok(());
             }
-            let replies = self.replies.load(Ordering::SeqCst);
-            idle = if replies == seen {
+            let steps = self.steps.load(Ordering::SeqCst);
+            idle = if steps == seen {
                 idle.saturating_add(1)
             } else {
                 0
             };
-            seen = replies;
+            seen = steps;
             if idle >= PATIENCE {
                 break;
             }
         }
-        bail!("no reply comes any more, after {seen} of them")
+        bail!("no thread moves any more, after {seen} steps")
     }
 }

@@ -1,24 +1,20 @@
 //! What a message of a channel costs, with the run in which its receiver is told of it and takes it.
 
-use crate::calls::Host;
 use anyhow::{Result, ensure};
 use channels::{Receiver, SendError, Sender, channel};
 use event_manager::{
     EventLoop, EventOps, EventPoller, EventSet, Events, MutEventSubscriber, SubscriberId,
     SubscriberOps,
 };
-use measures::arguments::Family;
 use measures::bench::{Bench, Measured, expect};
-use measures::timing::{REPEATS, Times};
+use measures::host::Host;
+use measures::timing::Times;
 use std::alloc::Global;
 use std::sync::Wait;
 use std::thread;
 use std::time::Clock;
 use vmm_sys::epoll::Epoll;
 use vmm_sys::eventfd::EventFd;
-
-/// What picks these measures.
-pub const MESSAGE: Family = Family("message");
 
 /// How many messages a repeat sends in full: a multiple of each size of a batch.
 const MESSAGES: u32 = 20480;
@@ -134,28 +130,6 @@ fn run_until<R: Host>(
     Ok(())
 }
 
-/// What came of a measure whose repeats sent so many messages each.
-fn counted<R: Host>(taking: &Taking<R>, times: Times, messages: u32) -> Result<Measured> {
-    let operations = u64::from(messages);
-    let count = taking.event_loop.subscriber(taking.id)?.count;
-    Ok(Measured {
-        times,
-        operations,
-        count: expect(count, operations.saturating_mul(u64::from(REPEATS)))?,
-    })
-}
-
-/// Measures a message of batches of this size, all on one thread.
-fn measure_batches<R: Host>(
-    bench: &Bench<R>,
-    taking: &mut Taking<R>,
-    size: u32,
-) -> Result<Measured> {
-    let rounds = bench.rounds(MESSAGES / size.max(1));
-    let times = Times::of(|| send_and_run(taking, size, rounds, &bench.rt), &bench.rt)?;
-    counted(taking, times, rounds.saturating_mul(size))
-}
-
 /// Sends so many messages from another thread, while the loop takes them on this one.
 fn send_beside<R: Host>(taking: &mut Taking<R>, messages: u32, rt: &R) -> Result<()> {
     let Taking {
@@ -174,29 +148,30 @@ fn send_beside<R: Host>(taking: &mut Taking<R>, messages: u32, rt: &R) -> Result
     taken
 }
 
-/// Measures a message of another thread.
-fn measure_beside<R: Host>(bench: &Bench<R>, taking: &mut Taking<R>) -> Result<Measured> {
-    let messages = bench.rounds(MESSAGES);
-    let times = Times::of(|| send_beside(taking, messages, &bench.rt), &bench.rt)?;
-    counted(taking, times, messages)
+/// Measures a message of batches of this size, or one of another thread.
+fn measure_taking<R: Host>(
+    bench: &Bench<R>,
+    taking: &mut Taking<R>,
+    size: Option<u32>,
+) -> Result<Measured> {
+    let each = size.unwrap_or(1);
+    let rounds = bench.rounds(MESSAGES / each.max(1));
+    let times = Times::of(
+        || match size {
+            Some(size) => send_and_run(taking, size, rounds, &bench.rt),
+            None => send_beside(taking, rounds, &bench.rt),
+        },
+        &bench.rt,
+    )?;
+    let count = taking.event_loop.subscriber(taking.id)?.count;
+    Measured::of(times, u64::from(rounds.saturating_mul(each)), count)
 }
 
-/// Makes a loop with a taker, and measures a message to it.
-fn measure<R: Host>(bench: &Bench<R>, size: Option<u32>) -> Result<Measured> {
-    let mut taking = begin(&bench.rt, bench.alloc)?;
-    match size {
-        Some(size) => measure_batches(bench, &mut taking, size),
-        None => measure_beside(bench, &mut taking),
-    }
-}
-
-/// Measures messages, where they are wanted.
+/// Measures messages.
 pub fn measure_messages<R: Host>(bench: &Bench<R>) -> Result<()> {
-    if !bench.wanted.has_family(MESSAGE) {
-        return Ok(());
-    }
     for (size, name) in BATCHES {
-        bench.print(name, measure(bench, size)?)?;
+        let mut taking = begin(&bench.rt, bench.alloc)?;
+        bench.print(name, measure_taking(bench, &mut taking, size)?)?;
     }
     Ok(())
 }
