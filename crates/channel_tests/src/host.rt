@@ -11,6 +11,6 @@ pub trait Host: Threads + Looping + Sync + 'static {}
 impl<R: Threads + Looping + Sync + 'static> Host for R {}
 
 /// What the others need of it.
-pub trait Looping: Wait + Clock + Abort + Copy + Send + Drop {}
+pub trait Looping: Wait + Clock + AllocGlobal + Abort + Copy + Send + Drop {}
 
-impl<R: Wait + Clock + Abort + Copy + Send + Drop> Looping for R {}
+impl<R: Wait + Clock + AllocGlobal + Abort + Copy + Send + Drop> Looping for R {}

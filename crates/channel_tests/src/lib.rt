@@ -30,6 +30,4 @@ mod senders;
 #[cfg(test)]
 mod tracked;
 #[cfg(test)]
-mod wake_ups;
-#[cfg(test)]
 mod watched;

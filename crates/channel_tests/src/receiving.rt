@@ -4,7 +4,6 @@ use crate::expecting::{expect_ok, expect_same, put};
 use crate::host::Looping;
 use crate::rounds::{MESSAGES, SENDERS, takes_of};
 use crate::watched::Watched;
-use std::alloc::Global;
 use test_rounds::rest;
 
 /// The number of a receiver's first step in a round, behind those of the senders.
@@ -23,25 +22,19 @@ pub enum Receiving {
 
 impl Receiving {
     /// Receives a round's messages: what came out, in order.
-    pub fn receive<R: Looping>(
-        self,
-        rt: &R,
-        alloc: Global,
-        watched: Watched<R>,
-        round: u64,
-    ) -> Vec<u64> {
+    pub fn receive<R: Looping>(self, rt: &R, watched: Watched<R>, round: u64) -> Vec<u64> {
         match self {
-            Receiving::Take => take_all(rt, alloc, watched),
-            Receiving::Receive => receive_all(rt, alloc, watched),
-            Receiving::Close => take_and_close(rt, alloc, watched, round),
+            Receiving::Take => take_all(rt, watched),
+            Receiving::Receive => receive_all(rt, watched),
+            Receiving::Close => take_and_close(rt, watched, round),
         }
     }
 }
 
 /// Waits and takes until all senders have closed.
-fn take_all<R: Looping>(rt: &R, alloc: Global, watched: Watched<R>) -> Vec<u64> {
+fn take_all<R: Looping>(rt: &R, watched: Watched<R>) -> Vec<u64> {
     let mut watched = watched;
-    let mut list = Vec::new(alloc);
+    let mut list = Vec::new(rt.alloc());
     for _turn in rt.forever() {
         watched.wait(rt);
         expect_ok(rt, watched.receiver.take(&mut list, rt));
@@ -54,9 +47,9 @@ fn take_all<R: Looping>(rt: &R, alloc: Global, watched: Watched<R>) -> Vec<u64> 
 }
 
 /// As [`take_all`], by one message for each wait.
-fn receive_all<R: Looping>(rt: &R, alloc: Global, watched: Watched<R>) -> Vec<u64> {
+fn receive_all<R: Looping>(rt: &R, watched: Watched<R>) -> Vec<u64> {
     let mut watched = watched;
-    let mut list = Vec::new(alloc);
+    let mut list = Vec::new(rt.alloc());
     for _turn in rt.forever() {
         watched.wait(rt);
         let Some(message) = watched.receiver.recv(rt) else {
@@ -69,10 +62,10 @@ fn receive_all<R: Looping>(rt: &R, alloc: Global, watched: Watched<R>) -> Vec<u6
 }
 
 /// Takes a few times, receives a message, and closes.
-fn take_and_close<R: Looping>(rt: &R, alloc: Global, watched: Watched<R>, round: u64) -> Vec<u64> {
+fn take_and_close<R: Looping>(rt: &R, watched: Watched<R>, round: u64) -> Vec<u64> {
     let Watched { receiver, .. } = watched;
     let mut receiver = receiver;
-    let mut list = Vec::new(alloc);
+    let mut list = Vec::new(rt.alloc());
     let takes = takes_of(round);
     for take in 0..takes {
         rest(round, FIRST_STEP.saturating_add(take));

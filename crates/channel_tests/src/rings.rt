@@ -13,7 +13,7 @@ const FULL: Refusal = Refusal::EventFd(Errno::EAGAIN);
 
 #[test]
 fn a_receiver_is_ready_exactly_while_messages_wait(rt: HostRuntime) {
-    let (sender, mut watched) = open(rt, rt.alloc(), 0);
+    let (sender, mut watched) = open(rt, 0);
     for _round in 0..2 {
         watched.expect_ready(&rt, false);
         send_all(&rt, &sender, &[5, 6]);
@@ -24,14 +24,14 @@ fn a_receiver_is_ready_exactly_while_messages_wait(rt: HostRuntime) {
         watched.expect_ready(&rt, false);
         send_all(&rt, &sender, &[7]);
         watched.expect_ready(&rt, true);
-        watched.expect_taken(&rt, rt.alloc(), &[7]);
+        watched.expect_taken(&rt, &[7]);
     }
     watched.expect_ready(&rt, false);
 }
 
 #[test]
 fn a_batch_rings_once(rt: HostRuntime) {
-    let (sender, mut watched) = open(rt, rt.alloc(), 0);
+    let (sender, mut watched) = open(rt, 0);
     for message in 0..1000 {
         send_all(&rt, &sender, &[message]);
     }
@@ -43,29 +43,29 @@ fn a_batch_rings_once(rt: HostRuntime) {
 
 #[test]
 fn a_full_counter_refuses_a_first_message(rt: HostRuntime) {
-    let (sender, mut watched) = open(rt, rt.alloc(), HIGHEST);
+    let (sender, mut watched) = open(rt, HIGHEST);
     for message in [5, 6] {
         expect_refused(&rt, &sender, message, FULL);
         expect_same(&rt, &watched.receiver.pending(), &Some(0));
     }
     expect_same(&rt, &watched.counter.read(&rt), &Ok(HIGHEST));
     send_all(&rt, &sender, &[7]);
-    watched.expect_taken(&rt, rt.alloc(), &[7]);
+    watched.expect_taken(&rt, &[7]);
 }
 
 #[test]
 fn a_full_counter_refuses_no_message_behind_another(rt: HostRuntime) {
-    let (sender, mut watched) = open(rt, rt.alloc(), 0);
+    let (sender, mut watched) = open(rt, 0);
     send_all(&rt, &sender, &[5]);
     expect_same(&rt, &watched.counter.write(HIGHEST - 1, &rt), &Ok(()));
     send_all(&rt, &sender, &[6, 7]);
-    watched.expect_taken(&rt, rt.alloc(), &[5, 6, 7]);
+    watched.expect_taken(&rt, &[5, 6, 7]);
     watched.expect_ready(&rt, false);
 }
 
 #[test]
 fn a_full_counter_refuses_the_last_close(rt: HostRuntime) {
-    let (sender, watched) = open(rt, rt.alloc(), HIGHEST);
+    let (sender, watched) = open(rt, HIGHEST);
     let Err(refused) = sender.close(&rt) else {
         panic!(rt; "a full counter agrees to a close");
     };

@@ -2,15 +2,15 @@
 
 use crate::ends::expect_next_is;
 use crate::expecting::{expect_ok, expect_same};
-use crate::host::{Host, Looping};
-use crate::watched::{close, expect_refused, interest, is_reported, send_all, wait_for};
+use crate::host::Looping;
+use crate::watched::{
+    close, expect_refused, is_reported, open_counter, open_poller, send_all, wait_for, watch,
+};
 use channels::{Receiver, Refusal, Sender, sync_channel_with_room};
-use std::alloc::Global;
 use std::thread;
-use vmm_sys::epoll::{AsRawFd, ControlOperation, Epoll, RawFd};
+use vmm_sys::epoll::Epoll;
 use vmm_sys::errno::Errno;
 use vmm_sys::eventfd::EventFd;
-use vmm_sys::poller::Poller;
 
 /// The highest value of a counter, at which it refuses to be rung.
 const HIGHEST: u64 = u64::MAX - 1;
@@ -28,14 +28,13 @@ struct Bounded<R> {
 }
 
 /// One with room for so many numbers, whose receiver has this counter.
-fn open_over<R: Looping>(rt: R, alloc: Global, counter: EventFd, most: usize) -> Bounded<R> {
-    let mut epoll = expect_ok(&rt, Epoll::new(rt, alloc));
-    let room = expect_ok(&rt, EventFd::new(&epoll, 0, &rt));
+fn open_over<R: Looping>(rt: R, counter: EventFd, most: usize) -> Bounded<R> {
+    let mut epoll = open_poller(&rt);
+    let room = open_counter(&rt, &epoll, 0);
     let theirs = expect_ok(&rt, room.try_clone());
-    let made = sync_channel_with_room(counter, theirs, most, alloc, &rt);
+    let made = sync_channel_with_room(counter, theirs, most, rt.alloc(), &rt);
     let (sender, receiver) = expect_ok(&rt, made);
-    let fd = room_of(&rt, &sender);
-    expect_ok(&rt, epoll.ctl(ControlOperation::Add, fd, interest()));
+    watch(&rt, &mut epoll, sender.room().expect(&rt, "it has one"));
     Bounded {
         epoll,
         room,
@@ -45,15 +44,9 @@ fn open_over<R: Looping>(rt: R, alloc: Global, counter: EventFd, most: usize) ->
 }
 
 /// One whose receiver nobody watches.
-fn open<R: Looping>(rt: R, alloc: Global, most: usize) -> Bounded<R> {
-    let epoll = expect_ok(&rt, Epoll::new(rt, alloc));
-    let counter = expect_ok(&rt, EventFd::new(&epoll, 0, &rt));
-    open_over(rt, alloc, counter, most)
-}
-
-/// The descriptor of the counter that is ready while there is room.
-fn room_of<R: Looping>(rt: &R, sender: &Sender<u64>) -> RawFd {
-    sender.room().expect(rt, "it has one").as_raw_fd()
+fn open<R: Looping>(rt: R, most: usize) -> Bounded<R> {
+    let epoll = open_poller(&rt);
+    open_over(rt, open_counter(&rt, &epoll, 0), most)
 }
 
 /// Expects that the poller reports room, or nothing.
@@ -63,7 +56,7 @@ fn expect_room<R: Looping>(rt: &R, epoll: &mut Epoll<R>, is_there: bool) {
 
 #[test]
 fn senders_are_told_exactly_while_there_is_room(rt: HostRuntime) {
-    let mut channel = open(rt, rt.alloc(), 2);
+    let mut channel = open(rt, 2);
     expect_room(&rt, &mut channel.epoll, true);
     send_all(&rt, &channel.sender, &[5]);
     expect_room(&rt, &mut channel.epoll, true);
@@ -83,7 +76,7 @@ fn senders_are_told_exactly_while_there_is_room(rt: HostRuntime) {
 
 #[test]
 fn senders_are_told_of_a_receiver_that_closes(rt: HostRuntime) {
-    let mut channel = open(rt, rt.alloc(), 1);
+    let mut channel = open(rt, 1);
     send_all(&rt, &channel.sender, &[5]);
     expect_room(&rt, &mut channel.epoll, false);
     let waiting = channel.receiver.close(&rt);
@@ -94,7 +87,7 @@ fn senders_are_told_of_a_receiver_that_closes(rt: HostRuntime) {
 
 #[test]
 fn no_room_is_none_to_be_told_of(rt: HostRuntime) {
-    let mut channel = open(rt, rt.alloc(), 0);
+    let mut channel = open(rt, 0);
     expect_room(&rt, &mut channel.epoll, false);
     expect_refused(&rt, &channel.sender, 5, Refusal::Full);
     expect_same(&rt, &channel.receiver.recv(&rt), &None);
@@ -103,16 +96,16 @@ fn no_room_is_none_to_be_told_of(rt: HostRuntime) {
 
 #[test]
 fn a_full_counter_refuses_to_tell_of_room(rt: HostRuntime) {
-    let epoll = expect_ok(&rt, Epoll::new(rt, rt.alloc()));
-    let counter = expect_ok(&rt, EventFd::new(&epoll, 0, &rt));
-    let room = expect_ok(&rt, EventFd::new(&epoll, HIGHEST, &rt));
+    let epoll = open_poller(&rt);
+    let counter = open_counter(&rt, &epoll, 0);
+    let room = open_counter(&rt, &epoll, HIGHEST);
     let made = sync_channel_with_room::<u64, _, _>(counter, room, 1, rt.alloc(), &rt);
     expect_same(&rt, &made.err(), &Some(Errno::EAGAIN));
 }
 
 #[test]
 fn a_refused_ring_is_made_again_at_the_next_call(rt: HostRuntime) {
-    let mut channel = open(rt, rt.alloc(), 1);
+    let mut channel = open(rt, 1);
     send_all(&rt, &channel.sender, &[5]);
     expect_same(&rt, &channel.room.write(HIGHEST, &rt), &Ok(()));
     expect_same(&rt, &channel.receiver.recv(&rt), &Some(5));
@@ -129,7 +122,7 @@ fn the_last_end_closes_the_counter_of_room_too(rt: HostRuntime) {
         room,
         sender,
         receiver,
-    } = open(rt, rt.alloc(), 1);
+    } = open(rt, 1);
     room.close(&rt);
     close(&rt, sender);
     expect_next_is(&rt, &epoll, 1);
@@ -157,21 +150,14 @@ fn receive_numbers<R: Looping>(rt: &R, epoll: &mut Epoll<R>, receiver: &mut Rece
     }
 }
 
-/// Sends over a channel with little room, beside who receives.
-fn send_beside<R: Host>(rt: &R, alloc: Global) {
-    let mut theirs = expect_ok(rt, Epoll::new(*rt, alloc));
-    let counter = expect_ok(rt, EventFd::new(&theirs, 0, rt));
-    let mut channel = open_over(*rt, alloc, counter, 2);
-    let fd = channel.receiver.as_raw_fd();
-    expect_ok(rt, theirs.ctl(ControlOperation::Add, fd, interest()));
-    thread::join(
-        rt,
-        || send_numbers(rt, &mut channel.epoll, &channel.sender),
-        || receive_numbers(rt, &mut theirs, &mut channel.receiver),
-    );
-}
-
 #[test]
 fn a_sender_that_waits_for_room_misses_none(rt: HostRuntime) {
-    send_beside(&rt, rt.alloc());
+    let mut theirs = open_poller(&rt);
+    let mut channel = open_over(rt, open_counter(&rt, &theirs, 0), 2);
+    watch(&rt, &mut theirs, &channel.receiver);
+    thread::join(
+        &rt,
+        || send_numbers(&rt, &mut channel.epoll, &channel.sender),
+        || receive_numbers(&rt, &mut theirs, &mut channel.receiver),
+    );
 }

@@ -6,7 +6,6 @@ use crate::receiving::Receiving;
 use crate::rounds::{MESSAGES, ROUNDS, SENDERS, messages_of};
 use crate::watched::{Watched, another, close, open};
 use channels::{Refusal, SendError, Sender};
-use std::alloc::Global;
 use std::process::Abort;
 use std::thread;
 use test_rounds::{Rounds, rest};
@@ -20,9 +19,9 @@ struct Sending {
 
 impl Sending {
     /// Sends in each round, and closes its sender: how many messages of each were agreed to.
-    fn send<R: Looping>(self, rt: &R, alloc: Global, rounds: &Rounds) -> Vec<u64> {
+    fn send<R: Looping>(self, rt: &R, rounds: &Rounds) -> Vec<u64> {
         let Sending { senders, from } = self;
-        let mut agreed = Vec::new(alloc);
+        let mut agreed = Vec::new(rt.alloc());
         for (round, sender) in (0u64..).zip(senders) {
             rounds.begin(rt, round, SENDERS + 1);
             put(rt, &mut agreed, send_round(rt, &sender, round, from));
@@ -54,17 +53,17 @@ fn send_round<R: Looping>(rt: &R, sender: &Sender<u64>, round: u64, from: u64) -
 }
 
 /// The channel of each round: what is received from, and each thread's senders.
-fn open_all<R: Looping>(rt: &R, alloc: Global) -> (Vec<Watched<R>>, Vec<Sending>) {
-    let (mut all, mut threads) = (Vec::new(alloc), Vec::new(alloc));
+fn open_all<R: Looping>(rt: &R) -> (Vec<Watched<R>>, Vec<Sending>) {
+    let (mut all, mut threads) = (Vec::new(rt.alloc()), Vec::new(rt.alloc()));
     for index in 0..SENDERS {
         let thread = Sending {
-            senders: Vec::new(alloc),
+            senders: Vec::new(rt.alloc()),
             from: index * MESSAGES,
         };
         put(rt, &mut threads, thread);
     }
     for _round in 0..ROUNDS {
-        let (sender, watched) = open(*rt, alloc, 0);
+        let (sender, watched) = open(*rt, 0);
         for thread in &mut threads {
             put(rt, &mut thread.senders, another(rt, &sender));
         }
@@ -77,15 +76,14 @@ fn open_all<R: Looping>(rt: &R, alloc: Global) -> (Vec<Watched<R>>, Vec<Sending>
 /// Receives in each round: what came out in each.
 fn receive_rounds<R: Looping>(
     rt: &R,
-    alloc: Global,
     rounds: &Rounds,
     all: Vec<Watched<R>>,
     how: Receiving,
 ) -> Vec<Vec<u64>> {
-    let mut lists = Vec::new(alloc);
+    let mut lists = Vec::new(rt.alloc());
     for (round, watched) in (0u64..).zip(all) {
         rounds.begin(rt, round, SENDERS + 1);
-        put(rt, &mut lists, how.receive(rt, alloc, watched, round));
+        put(rt, &mut lists, how.receive(rt, watched, round));
     }
     lists
 }
@@ -98,34 +96,21 @@ struct Ended {
 }
 
 /// Makes the rounds, beside who looks on.
-fn make_rounds<R: Host>(rt: &R, alloc: Global, how: Receiving) -> Ended {
+fn make_rounds<R: Host>(rt: &R, how: Receiving) -> Ended {
     let rounds = Rounds::new();
-    let (all, threads) = open_all(rt, alloc);
-    let (_, ended) = thread::join(
+    let (all, threads) = open_all(rt);
+    let (_, (agreed, lists)) = thread::join(
         rt,
         || expect_same(rt, &rounds.look_on(rt), &true),
         || {
-            let ended = receive_beside(rt, alloc, &rounds, all, threads, how);
+            let ended = thread::join(
+                rt,
+                || thread::map_vec(rt, threads, &|thread| thread.send(rt, &rounds)),
+                || receive_rounds(rt, &rounds, all, how),
+            );
             rounds.end();
             ended
         },
-    );
-    ended
-}
-
-/// Receives beside the threads that send.
-fn receive_beside<R: Host>(
-    rt: &R,
-    alloc: Global,
-    rounds: &Rounds,
-    all: Vec<Watched<R>>,
-    threads: Vec<Sending>,
-    how: Receiving,
-) -> Ended {
-    let (agreed, lists) = thread::join(
-        rt,
-        || thread::map_vec(rt, threads, &|thread| thread.send(rt, alloc, rounds)),
-        || receive_rounds(rt, alloc, rounds, all, how),
     );
     Ended {
         lists,
@@ -172,19 +157,19 @@ fn expect_numbers<R: Abort>(rt: &R, list: &[u64], from: u64, count: u64) {
 
 #[test]
 fn what_threads_send_is_taken_once_and_in_order(rt: HostRuntime) {
-    let ended = make_rounds(&rt, rt.alloc(), Receiving::Take);
+    let ended = make_rounds(&rt, Receiving::Take);
     ended.expect_none_refused(&rt);
     ended.expect_agreed(&rt);
 }
 
 #[test]
 fn what_threads_send_is_received_once_and_in_order(rt: HostRuntime) {
-    let ended = make_rounds(&rt, rt.alloc(), Receiving::Receive);
+    let ended = make_rounds(&rt, Receiving::Receive);
     ended.expect_none_refused(&rt);
     ended.expect_agreed(&rt);
 }
 
 #[test]
 fn a_close_beside_sends_loses_no_message(rt: HostRuntime) {
-    make_rounds(&rt, rt.alloc(), Receiving::Close).expect_agreed(&rt);
+    make_rounds(&rt, Receiving::Close).expect_agreed(&rt);
 }

@@ -2,14 +2,11 @@
 
 use crate::expecting::{expect_ok, expect_same};
 use crate::host::Looping;
-use crate::watched::{interest, is_reported};
+use crate::watched::{is_reported, open_counter, open_poller, watch};
 use channels::{
     Refusal, Sender, TrackedReceiver, TrackedSender, sync_channel, sync_channel_with_room,
 };
-use std::alloc::Global;
-use vmm_sys::epoll::{AsRawFd, ControlOperation, Epoll};
-use vmm_sys::eventfd::EventFd;
-use vmm_sys::poller::Poller;
+use vmm_sys::epoll::{AsRawFd, Epoll};
 
 /// Both ends of a channel with room for so many numbers, and a poller that watches the receiver.
 #[derive(Drop)]
@@ -19,13 +16,12 @@ struct Tracked<R> {
     receiver: TrackedReceiver<u64>,
 }
 
-fn open<R: Looping>(rt: R, alloc: Global, most: usize) -> Tracked<R> {
-    let mut epoll = expect_ok(&rt, Epoll::new(rt, alloc));
-    let counter = expect_ok(&rt, EventFd::new(&epoll, 0, &rt));
-    let (sender, receiver) = expect_ok(&rt, sync_channel(counter, most, alloc));
+fn open<R: Looping>(rt: R, most: usize) -> Tracked<R> {
+    let mut epoll = open_poller(&rt);
+    let counter = open_counter(&rt, &epoll, 0);
+    let (sender, receiver) = expect_ok(&rt, sync_channel(counter, most, rt.alloc()));
     let receiver = TrackedReceiver::new(receiver);
-    let fd = receiver.as_raw_fd();
-    expect_ok(&rt, epoll.ctl(ControlOperation::Add, fd, interest()));
+    watch(&rt, &mut epoll, &receiver);
     Tracked {
         epoll,
         sender: TrackedSender::new(sender),
@@ -35,7 +31,7 @@ fn open<R: Looping>(rt: R, alloc: Global, most: usize) -> Tracked<R> {
 
 #[test]
 fn what_a_tracked_sender_sends_is_received(rt: HostRuntime) {
-    let mut channel = open(rt, rt.alloc(), 2);
+    let mut channel = open(rt, 2);
     for message in [5, 6] {
         expect_same(&rt, &channel.sender.send(message, &rt), &Ok(()));
     }
@@ -53,7 +49,7 @@ fn what_a_tracked_sender_sends_is_received(rt: HostRuntime) {
 
 #[test]
 fn a_tracked_channel_ends_as_others_do(rt: HostRuntime) {
-    let mut channel = open(rt, rt.alloc(), 2);
+    let mut channel = open(rt, 2);
     expect_same(&rt, &channel.sender.send(5, &rt), &Ok(()));
     expect_same(&rt, &channel.sender.close(&rt).is_ok(), &true);
     expect_same(&rt, &channel.receiver.is_over(&rt), &false);
@@ -64,7 +60,7 @@ fn a_tracked_channel_ends_as_others_do(rt: HostRuntime) {
 
 #[test]
 fn a_tracked_receiver_that_closes_returns_what_waits(rt: HostRuntime) {
-    let mut channel = open(rt, rt.alloc(), 2);
+    let mut channel = open(rt, 2);
     expect_same(&rt, &channel.sender.send(5, &rt), &Ok(()));
     expect_same(
         &rt,
@@ -81,9 +77,9 @@ fn a_tracked_receiver_that_closes_returns_what_waits(rt: HostRuntime) {
 
 #[test]
 fn a_tracked_sender_shows_its_counter_of_room(rt: HostRuntime) {
-    let epoll = expect_ok(&rt, Epoll::new(rt, rt.alloc()));
-    let counter = expect_ok(&rt, EventFd::new(&epoll, 0, &rt));
-    let room = expect_ok(&rt, EventFd::new(&epoll, 0, &rt));
+    let epoll = open_poller(&rt);
+    let counter = open_counter(&rt, &epoll, 0);
+    let room = open_counter(&rt, &epoll, 0);
     let fd = room.as_raw_fd();
     let made = sync_channel_with_room(counter, room, 1, rt.alloc(), &rt);
     let (sender, _receiver): (Sender<u64>, _) = expect_ok(&rt, made);

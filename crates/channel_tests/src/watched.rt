@@ -3,7 +3,7 @@
 use crate::expecting::{expect_ok, expect_same};
 use crate::host::Looping;
 use channels::{Receiver, Refusal, SendError, Sender, channel, sync_channel};
-use std::alloc::{AllocError, Global};
+use std::alloc::AllocError;
 use std::process::Abort;
 use std::time::{Clock, Duration, Instant};
 use vmm_sys::epoll::{AsRawFd, ControlOperation, Epoll, EpollEvent, EventSet};
@@ -14,8 +14,24 @@ use vmm_sys::poller::Poller;
 const PATIENCE: i32 = 5_000;
 
 /// What a descriptor is added with, and reported with.
-pub fn interest() -> EpollEvent {
+fn interest() -> EpollEvent {
     EpollEvent::new(EventSet::IN, 7)
+}
+
+/// A poller over a new table.
+pub fn open_poller<R: Looping>(rt: &R) -> Epoll<R> {
+    expect_ok(rt, Epoll::new(*rt, rt.alloc()))
+}
+
+/// A new counter of this value.
+pub fn open_counter<R: Looping>(rt: &R, epoll: &Epoll<R>, value: u64) -> EventFd {
+    expect_ok(rt, EventFd::new(epoll, value, rt))
+}
+
+/// Adds a descriptor.
+pub fn watch<D: AsRawFd, R: Looping>(rt: &R, epoll: &mut Epoll<R>, descriptor: &D) {
+    let fd = descriptor.as_raw_fd();
+    expect_ok(rt, epoll.ctl(ControlOperation::Add, fd, interest()));
 }
 
 /// The receiver, another handle on its counter, and the poller.
@@ -27,26 +43,27 @@ pub struct Watched<R> {
 }
 
 /// A channel without a bound, over a counter of this value.
-pub fn open<R: Looping>(rt: R, alloc: Global, value: u64) -> (Sender<u64>, Watched<R>) {
-    let (epoll, counter, theirs) = counter_of(&rt, alloc, value);
-    watch(&rt, epoll, counter, channel(theirs, alloc))
+pub fn open<R: Looping>(rt: R, value: u64) -> (Sender<u64>, Watched<R>) {
+    let (epoll, counter, theirs) = counter_of(&rt, value);
+    make_watched(&rt, epoll, counter, channel(theirs, rt.alloc()))
 }
 
 /// A channel with room for so many messages.
-pub fn open_with_room<R: Looping>(rt: R, alloc: Global, most: usize) -> (Sender<u64>, Watched<R>) {
-    let (epoll, counter, theirs) = counter_of(&rt, alloc, 0);
-    watch(&rt, epoll, counter, sync_channel(theirs, most, alloc))
+pub fn open_with_room<R: Looping>(rt: R, most: usize) -> (Sender<u64>, Watched<R>) {
+    let (epoll, counter, theirs) = counter_of(&rt, 0);
+    let made = sync_channel(theirs, most, rt.alloc());
+    make_watched(&rt, epoll, counter, made)
 }
 
 /// A counter of a new table, by two handles.
-fn counter_of<R: Looping>(rt: &R, alloc: Global, value: u64) -> (Epoll<R>, EventFd, EventFd) {
-    let epoll = expect_ok(rt, Epoll::new(*rt, alloc));
-    let counter = expect_ok(rt, EventFd::new(&epoll, value, rt));
+fn counter_of<R: Looping>(rt: &R, value: u64) -> (Epoll<R>, EventFd, EventFd) {
+    let epoll = open_poller(rt);
+    let counter = open_counter(rt, &epoll, value);
     let other = expect_ok(rt, counter.try_clone());
     (epoll, counter, other)
 }
 
-fn watch<R: Looping>(
+fn make_watched<R: Looping>(
     rt: &R,
     epoll: Epoll<R>,
     counter: EventFd,
@@ -54,8 +71,7 @@ fn watch<R: Looping>(
 ) -> (Sender<u64>, Watched<R>) {
     let mut epoll = epoll;
     let (sender, receiver) = expect_ok(rt, made);
-    let fd = receiver.as_raw_fd();
-    expect_ok(rt, epoll.ctl(ControlOperation::Add, fd, interest()));
+    watch(rt, &mut epoll, &receiver);
     let watched = Watched {
         epoll,
         counter,
@@ -76,8 +92,8 @@ impl<R: Looping> Watched<R> {
     }
 
     /// Expects that these messages are taken.
-    pub fn expect_taken(&mut self, rt: &R, alloc: Global, expected: &[u64]) {
-        let mut list = Vec::new(alloc);
+    pub fn expect_taken(&mut self, rt: &R, expected: &[u64]) {
+        let mut list = Vec::new(rt.alloc());
         expect_ok(rt, self.receiver.take(&mut list, rt));
         expect_same(rt, &list.as_slice(), &expected);
     }

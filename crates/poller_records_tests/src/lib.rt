@@ -13,5 +13,3 @@ pub mod first_bad;
 mod random_records;
 #[cfg(test)]
 mod records;
-#[cfg(test)]
-mod replayed;

@@ -1,10 +1,9 @@
 //! Queues of jobs without a manager.
 
-use crate::again;
-use crate::expecting::{Looping, expect_same, mark};
+use crate::expecting::{Host, expect_same};
+use crate::{again, without_memory};
 use event_manager::jobs::{JobQueue, Outcome, Step, replay};
 use event_manager::{Bell, Error, Result};
-use std::alloc::Global;
 use std::sync::Wait;
 use std::time::Clock;
 use vmm_sys::errno::Errno;
@@ -40,18 +39,16 @@ fn jobs_are_sent_to_a_queue_and_taken(rt: HostRuntime) {
         expect_same(&rt, "JobQueue::send", &sent, &(k + 1));
     }
     let mut taken = Vec::new(rt.alloc());
-    mark(&rt);
-    queue.take(&mut taken);
-    mark(&rt);
+    without_memory!(&rt, queue.take(&mut taken));
     expect_same(&rt, "JobQueue::take", &taken.len(), &10);
 }
 
-/// Two sends, a take, a send, a close and a send.
-fn steps<R: Looping>(rt: &R, alloc: Global) -> Vec<Step<char>> {
-    again!(
+/// Does these steps on a new queue, once: two sends, a take, a send, a close and a send.
+fn replay_once<R: Host>(rt: &R) -> Result<Outcome<char>> {
+    let steps = again!(
         rt,
         "vec!",
-        vec![in alloc;
+        vec![in rt.alloc();
             Step::Send('a', Ok(())),
             Step::Send('b', Ok(())),
             Step::Take,
@@ -59,17 +56,13 @@ fn steps<R: Looping>(rt: &R, alloc: Global) -> Vec<Step<char>> {
             Step::Close,
             Step::Send('d', Ok(())),
         ]
-    )
-}
-
-/// Does the steps on a new queue, once.
-fn replay_once<R: Looping>(rt: &R, alloc: Global) -> Result<Outcome<char>> {
-    replay(rt, alloc, steps(rt, alloc))
+    );
+    replay(rt, rt.alloc(), steps)
 }
 
 #[test]
 fn steps_are_done_again(rt: HostRuntime) {
-    let Outcome { answers, taken } = again!(&rt, "replay", replay_once(&rt, rt.alloc()));
+    let Outcome { answers, taken } = again!(&rt, "replay", replay_once(&rt));
     let expected = [Ok(1), Ok(2), Ok(3), Err(Error::ChannelSend)];
     expect_same(&rt, "replay", &answers.as_slice(), &expected.as_slice());
     let expected = [(1, 'a'), (2, 'b')];

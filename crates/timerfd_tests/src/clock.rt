@@ -15,7 +15,7 @@ pub const NUMBER: i32 = 71;
 #[derive(Drop)]
 pub struct Face {
     time: AtomicU64,
-    reads: AtomicU64,
+    pub reads: AtomicU64,
     is_broken: AtomicBool,
     has_number: AtomicBool,
 }
@@ -43,11 +43,6 @@ impl Face {
         self.is_broken.store(true, Ordering::SeqCst);
     }
 
-    /// Expects that it was read so often since the last such call.
-    pub fn expect_reads<R: Abort>(&self, rt: &R, count: u64) {
-        expect_same(rt, &self.reads.swap(0, Ordering::SeqCst), &count);
-    }
-
     fn read(&self) -> io::Result<Duration> {
         self.reads.fetch_add(1, Ordering::SeqCst);
         if !self.is_broken.load(Ordering::SeqCst) {
@@ -58,6 +53,11 @@ impl Face {
         }
         Err(io::Error::other("the clock is broken"))
     }
+}
+
+/// Expects that so many were counted since the last such call.
+pub fn expect_count<R: Abort>(rt: &R, counted: &AtomicU64, count: u64) {
+    expect_same(rt, &counted.swap(0, Ordering::SeqCst), &count);
 }
 
 /// A runtime with such a clock in place of its own.

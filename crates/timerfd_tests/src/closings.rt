@@ -1,11 +1,13 @@
 //! Timers that are closed: by the last of their copies, and their numbers are given again.
 
-use crate::expecting::{expect_ok, expect_same};
+use crate::expecting::{expect_ok, expect_same, put};
 use crate::host::{Host, Looping};
-use crate::timed::{OverTable, arm_again, open, open_timer, ready, watch, watched_timer};
+use crate::timed::{
+    OverTable, arm_again, expect_report, open, open_timer, ready, watch, watched_timer,
+};
 use std::alloc::Global;
 use std::thread;
-use timerfd::{TimerFd, TimerTable};
+use timerfd::TimerTable;
 use vmm_sys::epoll::{AsRawFd, ControlOperation, RawFd};
 use vmm_sys::errno::Errno;
 use vmm_sys::poller::Poller;
@@ -25,12 +27,7 @@ fn expect_next_is<R: Looping>(rt: &R, timed: &OverTable<R>, fd: RawFd) {
 
 /// A wait with room for two reports entries with these words.
 fn expect_words<R: Looping>(rt: &R, timed: &mut OverTable<R>, words: &[u64]) {
-    let mut buffer = [ready(0); 2];
-    let count = expect_ok(rt, timed.wait(0, &mut buffer)).min(buffer.len());
-    expect_same(rt, &count, &words.len());
-    for (reported, word) in buffer.iter().zip(words) {
-        expect_same(rt, &reported.data(), word);
-    }
+    expect_report(rt, timed, 0, 2, words);
 }
 
 #[test]
@@ -118,9 +115,9 @@ fn close_at_once<R: Host>(rt: R, alloc: Global, timed: &OverTable<R>) {
     let timer = open_timer(&rt, timed);
     let mut threads = Vec::new(alloc);
     for _ in 0..3 {
-        let copy: TimerFd = expect_ok(&rt, timer.try_clone());
+        let copy = expect_ok(&rt, timer.try_clone());
         let thread = expect_ok(&rt, thread::spawn(&rt, move || copy.close(&rt)));
-        expect_same(&rt, &threads.push(thread).is_ok(), &true);
+        put(&rt, &mut threads, thread);
     }
     timer.close(&rt);
     for thread in threads {

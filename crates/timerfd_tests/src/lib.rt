@@ -19,8 +19,6 @@ mod host;
 #[cfg(test)]
 mod known;
 #[cfg(test)]
-mod lawful;
-#[cfg(test)]
 mod limits;
 #[cfg(test)]
 mod one_timer;

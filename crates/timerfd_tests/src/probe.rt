@@ -2,7 +2,7 @@
 //! often it was rung.
 
 use crate::clock::Face;
-use crate::expecting::{expect_ok, expect_same};
+use crate::expecting::expect_ok;
 use crate::host::Looping;
 use std::alloc::Global;
 use std::sync::atomic::{AtomicU64, Ordering};
@@ -15,26 +15,11 @@ use vmm_sys::errno::Errno;
 use vmm_sys::eventfd::EventFd;
 use vmm_sys::poller::Poller;
 
-/// How often a counter was rung.
-#[derive(Drop)]
-pub struct Rings(AtomicU64);
-
-impl Rings {
-    pub fn new() -> Self {
-        Rings(AtomicU64::new(0))
-    }
-
-    /// Expects that the counter was rung so often since the last such call.
-    pub fn expect<R: Looping>(&self, rt: &R, count: u64) {
-        expect_same(rt, &self.0.swap(0, Ordering::SeqCst), &count);
-    }
-}
-
 /// A counter of a table, whose rings are counted.
 #[derive(Drop)]
 pub struct Rung<'a> {
     counter: EventFd,
-    rings: &'a Rings,
+    rings: &'a AtomicU64,
     refusal: Option<Errno>,
 }
 
@@ -52,7 +37,7 @@ impl Bell for Rung<'_> {
     ghost rings = { λ v answer. Unit {0} };
 
     fn ring<R: Wait + Clock>(&self, rt: &R) -> Result<(), Errno> {
-        self.rings.0.fetch_add(1, Ordering::SeqCst);
+        self.rings.fetch_add(1, Ordering::SeqCst);
         match self.refusal {
             Some(errno) => Err(errno),
             None => self.counter.ring(rt),
@@ -147,7 +132,7 @@ pub type OverProbe<'a, R> = TimedPoller<Probe<'a, R>, R, Rung<'a>>;
 pub fn open_probe<'a, R: Looping>(
     rt: &R,
     alloc: Global,
-    rings: &'a Rings,
+    rings: &'a AtomicU64,
     refusal: Option<Errno>,
 ) -> OverProbe<'a, R> {
     let epoll = expect_ok(rt, Epoll::new(*rt, alloc));

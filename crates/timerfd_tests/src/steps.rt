@@ -1,13 +1,14 @@
 //! Tests as lists of steps: of two timers over a [`Probe`](crate::probe::Probe), by a clock that the test sets.
 
-use crate::clock::{ByFace, Face};
+use crate::clock::{ByFace, Face, expect_count};
 use crate::expecting::{expect_ok, expect_same};
 use crate::host::Looping;
-use crate::probe::{Deed, OverProbe, Rings, Rung, open_probe};
-use crate::timed::{open_timer, ready, watched_timer};
+use crate::probe::{Deed, OverProbe, Rung, open_probe};
+use crate::timed::{expect_report, open_timer, ready, watched_timer};
 use std::alloc::Global;
 use std::process::Abort;
 use std::sync::Wait;
+use std::sync::atomic::AtomicU64;
 use std::time::Duration;
 use timerfd::TimerFd;
 use vmm_sys::epoll::{AsRawFd, ControlOperation, EpollEvent, EventSet};
@@ -71,33 +72,13 @@ pub enum Step<'a> {
 #[derive(Drop)]
 struct Setup<'a, R> {
     face: &'a Face,
-    rings: &'a Rings,
+    rings: &'a AtomicU64,
     timed: OverProbe<'a, R>,
     first: TimerFd<Rung<'a>>,
     other: TimerFd<Rung<'a>>,
 }
 
 impl<'a, R: Looping> Setup<'a, R> {
-    /// A new poller, whose counter refuses to be rung by this number, if any.
-    fn open(
-        rt: &R,
-        alloc: Global,
-        face: &'a Face,
-        rings: &'a Rings,
-        refusal: Option<Errno>,
-    ) -> Self {
-        let mut timed = open_probe(rt, alloc, rings, refusal);
-        let first = watched_timer(rt, &mut timed, 1);
-        let other = open_timer(rt, &timed);
-        Setup {
-            face,
-            rings,
-            timed,
-            first,
-            other,
-        }
-    }
-
     /// The timer.
     fn timer(&self, which: Which) -> &TimerFd<Rung<'a>> {
         match which {
@@ -111,8 +92,8 @@ impl<'a, R: Looping> Setup<'a, R> {
         match step {
             Step::Time(time) => self.face.set(time),
             Step::Damage(has_number) => self.face.damage(has_number),
-            Step::Reads(count) => self.face.expect_reads(rt, count),
-            Step::Rings(count) => self.rings.expect(rt, count),
+            Step::Reads(count) => expect_count(rt, &self.face.reads, count),
+            Step::Rings(count) => expect_count(rt, self.rings, count),
             Step::Arm(which, duration) => self.arm(rt, which, duration, None),
             Step::ArmAgain(which, duration, interval) => {
                 self.arm(rt, which, duration, Some(Duration::from_nanos(interval)));
@@ -170,12 +151,7 @@ impl<'a, R: Looping> Setup<'a, R> {
 
     /// Expects that a wait of so many milliseconds reports these words.
     fn report(&mut self, rt: &R, ms: i32, words: &[u64]) {
-        let mut buffer = [ready(0); ROOM];
-        let count = expect_ok(rt, self.timed.wait(ms, &mut buffer)).min(ROOM);
-        expect_same(rt, &count, &words.len());
-        for (entry, word) in buffer[..count].iter().zip(words) {
-            expect_same(rt, entry, &ready(*word));
-        }
+        expect_report(rt, &mut self.timed, ms, ROOM, words);
     }
 
     /// While the next wait lasts a timer is armed.
@@ -204,9 +180,16 @@ pub fn run_with_refusal<R: Wait + Abort + Copy + Send + Drop>(
     refusal: Option<Errno>,
     steps: &[Step<'_>],
 ) {
-    let (face, rings) = (Face::new(0), Rings::new());
+    let (face, rings) = (Face::new(0), AtomicU64::new(0));
     let rt = ByFace::new(&face, host);
-    let mut setup = Setup::open(&rt, alloc, &face, &rings, refusal);
+    let mut timed = open_probe(&rt, alloc, &rings, refusal);
+    let mut setup = Setup {
+        face: &face,
+        rings: &rings,
+        first: watched_timer(&rt, &mut timed, 1),
+        other: open_timer(&rt, &timed),
+        timed,
+    };
     for step in steps {
         setup.make(&rt, *step);
     }

@@ -1,6 +1,6 @@
 //! A poller with timers over a table, and what is done with it.
 
-use crate::expecting::expect_ok;
+use crate::expecting::{expect_ok, expect_same};
 use crate::host::Looping;
 use std::alloc::Global;
 use std::process::Abort;
@@ -53,6 +53,23 @@ where
     let timer = open_timer(rt, timed);
     watch(rt, timed, &timer, word);
     timer
+}
+
+/// Expects that a wait of so many milliseconds, with room for 4 entries or fewer, reports these words, each for `IN`.
+pub fn expect_report<P: Poller, R: Abort>(
+    rt: &R,
+    poller: &mut P,
+    ms: i32,
+    room: usize,
+    words: &[u64],
+) {
+    let mut buffer = [ready(0); 4];
+    let room = room.min(buffer.len());
+    let count = expect_ok(rt, poller.wait(ms, &mut buffer[..room])).min(room);
+    expect_same(rt, &count, &words.len());
+    for (entry, word) in buffer[..count].iter().zip(words) {
+        expect_same(rt, entry, &ready(*word));
+    }
 }
 
 /// Arms the timer: it is due after so many nanoseconds, and again after each interval.

@@ -1,12 +1,11 @@
 //! The turns of timers and of what the poller below reports, where there is little room.
 
 use crate::clock::{ByFace, Face};
-use crate::expecting::{expect_ok, expect_same};
+use crate::expecting::expect_ok;
 use crate::host::Looping;
-use crate::timed::{OverTable, open, ready, watch, watched_timer};
+use crate::timed::{OverTable, expect_report, open, watch, watched_timer};
 use std::time::Duration;
 use vmm_sys::eventfd::EventFd;
-use vmm_sys::poller::Poller;
 
 /// Opens timers with the words from 1 up that are due at 1, and a counter of the table below with the next word, which is ready.
 fn fill<R: Looping>(rt: &R, timed: &mut OverTable<R>, timers: u64) {
@@ -21,13 +20,7 @@ fn fill<R: Looping>(rt: &R, timed: &mut OverTable<R>, timers: u64) {
 /// Expects that waits with so much room report these words in turn, each for `IN`.
 fn expect_reports<R: Looping>(rt: &R, timed: &mut OverTable<R>, room: usize, reports: &[&[u64]]) {
     for words in reports {
-        let mut buffer = [ready(0); 3];
-        let room = room.min(buffer.len());
-        let count = expect_ok(rt, timed.wait(0, &mut buffer[..room])).min(room);
-        expect_same(rt, &count, &words.len());
-        for (entry, word) in buffer[..count].iter().zip(*words) {
-            expect_same(rt, entry, &ready(*word));
-        }
+        expect_report(rt, timed, 0, room, words);
     }
 }
 

@@ -1,15 +1,16 @@
 //! What is closed: a counter or a line by the last of its handles, and its number is given again.
 
 use crate::expecting::{expect_ok, expect_same};
-use crate::fixture::{Host, entry, no_event, want};
-use std::alloc::Global;
+use crate::fixture::{
+    ADD, DELETE, Host, entry, input, no_event, open_counter, open_poller, want, wanted_counter,
+    wanted_line,
+};
 use std::process::Abort;
 use std::thread;
 use vmm_sys::counter::Counter;
-use vmm_sys::epoll::{AsRawFd, ControlOperation, Epoll, EpollEvent, EventSet, RawFd};
+use vmm_sys::epoll::{AsRawFd, Epoll, EventSet, RawFd};
 use vmm_sys::errno::Errno;
 use vmm_sys::eventfd::EventFd;
-use vmm_sys::line::Line;
 use vmm_sys::poller::Poller;
 use vmm_sys::table::Table;
 
@@ -24,8 +25,8 @@ fn calls_on_descriptors_that_are_closed(rt: HostRuntime) {
     let mut table = Table::new(rt.alloc());
     for number in 0..4 {
         expect_same(&rt, &table.add_counter(1), &Ok(number));
-        let event = EpollEvent::new(EventSet::IN, u64::from(number.unsigned_abs()));
-        expect_ok(&rt, table.ctl(ControlOperation::Add, number, event));
+        let event = input(u64::from(number.unsigned_abs()));
+        expect_ok(&rt, table.ctl(ADD, number, event));
     }
     for (fd, answer) in [
         (2, Ok(())),
@@ -49,7 +50,7 @@ fn expect_refused<R: Abort>(rt: &R, table: &mut Table, fd: RawFd) {
     expect_same(rt, &table.write(fd, 1), &Err(Errno::EBADF));
     expect_same(rt, &table.read(fd), &Err(Errno::EBADF));
     expect_same(rt, &table.set_line(fd, EventSet::IN), &Err(Errno::EBADF));
-    let deleted = table.ctl(ControlOperation::Delete, fd, no_event());
+    let deleted = table.ctl(DELETE, fd, no_event());
     expect_same(rt, &deleted, &Err(Errno::EBADF));
 }
 
@@ -65,10 +66,9 @@ fn expect_words<P: Poller, R: Abort>(rt: &R, poller: &mut P, words: &[u64]) {
 
 #[test]
 fn a_copy_keeps_a_counter_open(rt: HostRuntime) {
-    let mut epoll = expect_ok(&rt, Epoll::new(rt, rt.alloc()));
-    let counter = expect_ok(&rt, EventFd::new(&epoll, 1, &rt));
+    let mut epoll = open_poller(&rt);
+    let counter = wanted_counter(&rt, &mut epoll, 1);
     let copy = expect_ok(&rt, counter.try_clone());
-    want(&rt, &mut epoll, &counter, EventSet::IN);
     counter.close(&rt);
     expect_words(&rt, &mut epoll, &[0]);
     expect_same(&rt, &copy.read(&rt), &Ok(1));
@@ -81,10 +81,9 @@ fn a_copy_keeps_a_counter_open(rt: HostRuntime) {
 
 #[test]
 fn a_copy_keeps_a_line_open(rt: HostRuntime) {
-    let mut epoll = expect_ok(&rt, Epoll::new(rt, rt.alloc()));
-    let line = expect_ok(&rt, Line::new(&epoll, &rt));
+    let mut epoll = open_poller(&rt);
+    let line = wanted_line(&rt, &mut epoll);
     let copy = expect_ok(&rt, line.try_clone());
-    want(&rt, &mut epoll, &line, EventSet::IN);
     line.close(&rt);
     expect_ok(&rt, copy.set(EventSet::IN, &rt));
     expect_words(&rt, &mut epoll, &[0]);
@@ -96,19 +95,18 @@ fn a_copy_keeps_a_line_open(rt: HostRuntime) {
 
 // The number that is given next, and is closed again.
 fn expect_next_is<R: Host>(rt: &R, epoll: &Epoll<R>, fd: RawFd) {
-    let next = expect_ok(rt, EventFd::new(epoll, 0, rt));
+    let next = open_counter(rt, epoll, 0);
     expect_same(rt, &next.as_raw_fd(), &fd);
     next.close(rt);
 }
 
 #[test]
 fn a_number_that_is_given_again_has_no_interest(rt: HostRuntime) {
-    let mut epoll = expect_ok(&rt, Epoll::new(rt, rt.alloc()));
-    let first = expect_ok(&rt, EventFd::new(&epoll, 1, &rt));
-    want(&rt, &mut epoll, &first, EventSet::IN);
+    let mut epoll = open_poller(&rt);
+    let first = wanted_counter(&rt, &mut epoll, 1);
     // As a channel closes the counter that it was given.
     Counter::close(first, &rt);
-    let second = expect_ok(&rt, EventFd::new(&epoll, 1, &rt));
+    let second = open_counter(&rt, &epoll, 1);
     expect_same(&rt, &second.as_raw_fd(), &0);
     expect_words(&rt, &mut epoll, &[]);
     want(&rt, &mut epoll, &second, EventSet::IN);
@@ -119,17 +117,14 @@ fn a_number_that_is_given_again_has_no_interest(rt: HostRuntime) {
 
 #[test]
 fn the_last_handle_closes_by_its_close_alone(rt: HostRuntime) {
-    let mut epoll = expect_ok(&rt, Epoll::new(rt, rt.alloc()));
-    let counter = expect_ok(&rt, EventFd::new(&epoll, 1, &rt));
-    let copy = expect_ok(&rt, counter.try_clone());
-    want(&rt, &mut epoll, &counter, EventSet::IN);
-    drop(copy);
+    let mut epoll = open_poller(&rt);
+    let counter = wanted_counter(&rt, &mut epoll, 1);
+    drop(expect_ok(&rt, counter.try_clone()));
     expect_words(&rt, &mut epoll, &[0]);
     counter.close(&rt);
     expect_words(&rt, &mut epoll, &[]);
-    let counter = expect_ok(&rt, EventFd::new(&epoll, 1, &rt));
+    let counter = wanted_counter(&rt, &mut epoll, 1);
     let copy = expect_ok(&rt, counter.try_clone());
-    want(&rt, &mut epoll, &counter, EventSet::IN);
     counter.close(&rt);
     drop(copy);
     expect_words(&rt, &mut epoll, &[0]);
@@ -138,35 +133,30 @@ fn the_last_handle_closes_by_its_close_alone(rt: HostRuntime) {
 
 #[test]
 fn handles_that_are_closed_at_once_close_once(rt: HostRuntime) {
-    let epoll = expect_ok(&rt, Epoll::new(rt, rt.alloc()));
+    let epoll = open_poller(&rt);
     for _round in 0..ROUNDS {
-        close_at_once(rt, rt.alloc(), &epoll);
+        close_at_once(&rt, &epoll);
         expect_next_is(&rt, &epoll, 0);
     }
 }
 
 // Each handle of a counter is closed by a thread of its own.
-fn close_at_once<R: Host>(rt: R, alloc: Global, epoll: &Epoll<R>) {
-    let counter = expect_ok(&rt, EventFd::new(epoll, 0, &rt));
-    let mut threads = Vec::new(alloc);
+fn close_at_once<R: Host>(rt: &R, epoll: &Epoll<R>) {
+    let counter = open_counter(rt, epoll, 0);
+    let mut handles = Vec::new(rt.alloc());
     for _ in 1..HANDLES {
-        let copy = expect_ok(&rt, counter.try_clone());
-        let thread = expect_ok(&rt, thread::spawn(&rt, move || copy.close(&rt)));
-        expect_same(&rt, &threads.push(thread).is_ok(), &true);
+        expect_ok(rt, handles.push(expect_ok(rt, counter.try_clone())));
     }
-    counter.close(&rt);
-    for thread in threads {
-        thread.join(&rt);
-    }
+    expect_ok(rt, handles.push(counter));
+    let closed = thread::map_vec(rt, handles, &|handle: EventFd| handle.close(rt));
+    expect_ok(rt, closed);
 }
 
 #[test]
 fn what_is_opened_and_closed_leaves_no_number_behind(rt: HostRuntime) {
-    let mut epoll = expect_ok(&rt, Epoll::new(rt, rt.alloc()));
+    let mut epoll = open_poller(&rt);
     for _ in 0..100_000 {
-        let counter = expect_ok(&rt, EventFd::new(&epoll, 1, &rt));
-        want(&rt, &mut epoll, &counter, EventSet::IN);
-        counter.close(&rt);
+        wanted_counter(&rt, &mut epoll, 1).close(&rt);
     }
     expect_next_is(&rt, &epoll, 0);
 }

@@ -1,4 +1,4 @@
-//! A shared table for tests of what ends a wait.
+//! A shared table and its descriptors, some of them for tests of what ends a wait.
 
 use crate::expecting::{expect_ok, expect_same};
 use std::process::Abort;
@@ -13,9 +13,21 @@ use vmm_sys::line::Line;
 use vmm_sys::poller::Poller;
 
 /// What the tests on threads need of the runtime.
-pub(crate) trait Host: Threads + Wait + Clock + Abort + Copy + Send + Sync + Drop + 'static {}
+pub(crate) trait Host: Threads
+    + Wait
+    + Clock
+    + AllocGlobal
+    + Abort
+    + Copy
+    + Send
+    + Sync
+    + Drop
+    + 'static {}
 
-impl<R: Threads + Wait + Clock + Abort + Copy + Send + Sync + Drop + 'static> Host for R {}
+impl<R> Host for R
+where
+    R: Threads + Wait + Clock + AllocGlobal + Abort + Copy + Send + Sync + Drop + 'static,
+{}
 
 pub(crate) fn pause<R: Host>(rt: &R, ms: u64) {
     thread::sleep(rt, Duration::from_millis(ms));
@@ -23,7 +35,11 @@ pub(crate) fn pause<R: Host>(rt: &R, ms: u64) {
 
 pub(crate) const HIGHEST: u64 = 18446744073709551614;
 
-const MODIFY: ControlOperation = ControlOperation::Modify;
+pub(crate) const ADD: ControlOperation = ControlOperation::Add;
+
+pub(crate) const MODIFY: ControlOperation = ControlOperation::Modify;
+
+pub(crate) const DELETE: ControlOperation = ControlOperation::Delete;
 
 /// A call after which a [`Fixture`] has one descriptor ready; with what of it is then ready, where there is a choice.
 #[derive(Clone, Copy)]
@@ -47,20 +63,17 @@ pub(crate) struct Fixture {
 }
 
 impl Fixture {
-    pub(crate) fn new<R: Host>(rt: &R, epoll: &mut Epoll<R>) -> Fixture {
-        let empty = expect_ok(rt, EventFd::new(&*epoll, 0, rt));
-        let full = expect_ok(rt, EventFd::new(&*epoll, HIGHEST, rt));
-        let line = expect_ok(rt, Line::new(&*epoll, rt));
-        let unwanted = expect_ok(rt, EventFd::new(&*epoll, 1, rt));
-        want(rt, epoll, &empty, EventSet::IN);
-        want(rt, epoll, &full, EventSet::OUT);
-        want(rt, epoll, &line, EventSet::IN);
-        Fixture {
-            empty,
-            full,
-            line,
-            unwanted,
-        }
+    /// Those of a new table, and its poller.
+    pub(crate) fn open<R: Host>(rt: &R) -> (Epoll<R>, Fixture) {
+        let mut epoll = open_poller(rt);
+        let fixture = Fixture {
+            empty: wanted_counter(rt, &mut epoll, 0),
+            full: open_counter(rt, &epoll, HIGHEST),
+            line: wanted_line(rt, &mut epoll),
+            unwanted: open_counter(rt, &epoll, 1),
+        };
+        want(rt, &mut epoll, &fixture.full, EventSet::OUT);
+        (epoll, fixture)
     }
 
     /// Makes the call; the answer is the one entry that a wait then reports.
@@ -122,9 +135,9 @@ impl Fixture {
             self.empty.write(u64::MAX, rt).err(),
             self.full.write(1, rt).err(),
             self.empty.read(rt).err(),
-            epoll.ctl(ControlOperation::Add, empty, none).err(),
+            epoll.ctl(ADD, empty, none).err(),
             epoll.ctl(MODIFY, unwanted, none).err(),
-            epoll.ctl(ControlOperation::Delete, 99, none).err(),
+            epoll.ctl(DELETE, 99, none).err(),
             EventFd::new(&*epoll, u64::MAX, rt).err(),
         ]
     }
@@ -132,6 +145,10 @@ impl Fixture {
 
 pub(crate) fn no_event() -> EpollEvent {
     EpollEvent::new(EventSet::empty(), 0)
+}
+
+pub(crate) fn input(word: u64) -> EpollEvent {
+    EpollEvent::new(EventSet::IN, word)
 }
 
 /// The entry of a descriptor, whose word is its number.
@@ -147,6 +164,33 @@ pub(crate) fn want<R: Host, D: AsRawFd>(
     set: EventSet,
 ) {
     let event = entry(descriptor, set);
-    let added = epoll.ctl(ControlOperation::Add, descriptor.as_raw_fd(), event);
-    expect_ok(rt, added);
+    expect_ok(rt, epoll.ctl(ADD, descriptor.as_raw_fd(), event));
+}
+
+/// A poller over a new table.
+pub(crate) fn open_poller<R: Host>(rt: &R) -> Epoll<R> {
+    expect_ok(rt, Epoll::new(*rt, rt.alloc()))
+}
+
+/// A new counter of this value.
+pub(crate) fn open_counter<R: Host>(rt: &R, epoll: &Epoll<R>, value: u64) -> EventFd {
+    expect_ok(rt, EventFd::new(epoll, value, rt))
+}
+
+pub(crate) fn open_line<R: Host>(rt: &R, epoll: &Epoll<R>) -> Line {
+    expect_ok(rt, Line::new(epoll, rt))
+}
+
+/// A new counter of this value, which is wanted for `IN`.
+pub(crate) fn wanted_counter<R: Host>(rt: &R, epoll: &mut Epoll<R>, value: u64) -> EventFd {
+    let counter = open_counter(rt, epoll, value);
+    want(rt, epoll, &counter, EventSet::IN);
+    counter
+}
+
+/// A new line, which is wanted for `IN`.
+pub(crate) fn wanted_line<R: Host>(rt: &R, epoll: &mut Epoll<R>) -> Line {
+    let line = open_line(rt, epoll);
+    want(rt, epoll, &line, EventSet::IN);
+    line
 }

@@ -1,28 +1,17 @@
 //! The poller that follows a script; and a thousand of each thing: no call is refused for want of memory, and none is lost.
 
 use crate::expecting::{expect_ok, expect_same};
-use crate::fixture::{Host, no_event, want};
-use std::alloc::Global;
+use crate::fixture::{
+    ADD, DELETE, MODIFY, input, no_event, open_poller, wanted_counter, wanted_line,
+};
 use std::process::Abort;
-use vmm_sys::epoll::{ControlOperation, Epoll, EpollEvent, EventSet, RawFd};
+use vmm_sys::epoll::{EventSet, RawFd};
 use vmm_sys::errno::Errno;
-use vmm_sys::eventfd::EventFd;
-use vmm_sys::line::Line;
 use vmm_sys::poller::Poller;
 use vmm_sys::script_poller::ScriptPoller;
 use vmm_sys::table::Table;
 
-const ADD: ControlOperation = ControlOperation::Add;
-
-const MODIFY: ControlOperation = ControlOperation::Modify;
-
-const DELETE: ControlOperation = ControlOperation::Delete;
-
 const MANY: u64 = 1000;
-
-fn input(word: u64) -> EpollEvent {
-    EpollEvent::new(EventSet::IN, word)
-}
 
 #[test]
 fn a_thousand_descriptors_of_a_table(rt: HostRuntime) {
@@ -46,27 +35,16 @@ fn open_ready<R: Abort>(rt: &R, table: &mut Table, number: u64) -> RawFd {
 
 #[test]
 fn a_thousand_descriptors_of_a_shared_table(rt: HostRuntime) {
-    let mut epoll = expect_ok(&rt, Epoll::new(rt, rt.alloc()));
+    let mut epoll = open_poller(&rt);
     let mut counters = Vec::new(rt.alloc());
     let mut lines = Vec::new(rt.alloc());
     for _ in 0..MANY / 2 {
-        expect_ok(&rt, counters.push(ready_counter(&rt, &mut epoll)));
-        expect_ok(&rt, lines.push(ready_line(&rt, &mut epoll)));
+        expect_ok(&rt, counters.push(wanted_counter(&rt, &mut epoll, 1)));
+        let line = wanted_line(&rt, &mut epoll);
+        expect_ok(&rt, line.set(EventSet::IN, &rt));
+        expect_ok(&rt, lines.push(line));
     }
     expect_all_in_turn(&rt, &mut epoll);
-}
-
-fn ready_counter<R: Host>(rt: &R, epoll: &mut Epoll<R>) -> EventFd {
-    let counter = expect_ok(rt, EventFd::new(epoll, 1, rt));
-    want(rt, epoll, &counter, EventSet::IN);
-    counter
-}
-
-fn ready_line<R: Host>(rt: &R, epoll: &mut Epoll<R>) -> Line {
-    let line = expect_ok(rt, Line::new(epoll, rt));
-    expect_ok(rt, line.set(EventSet::IN, rt));
-    want(rt, epoll, &line, EventSet::IN);
-    line
 }
 
 // Waits with room for 300 report the thousand in the order of their words, round and round.

@@ -14,9 +14,9 @@ mod fixture;
 #[cfg(test)]
 mod hundreds;
 #[cfg(test)]
-mod lawful;
-#[cfg(test)]
 mod missed;
+#[cfg(test)]
+mod random;
 #[cfg(test)]
 mod random_calls;
 #[cfg(test)]

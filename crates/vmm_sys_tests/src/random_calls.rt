@@ -1,13 +1,10 @@
 //! Threads that make calls of one table at random, each beside what it knows of its own descriptors.
 
 use crate::expecting::{expect_ok, expect_same};
-use crate::fixture::{Host, no_event};
-use rand_core::Rng;
-use rand_pcg::Pcg32;
-use std::alloc::Global;
+use crate::fixture::{Host, no_event, open_counter, open_line, open_poller};
+use crate::random::Random;
 use std::process::Abort;
 use std::thread;
-use std::thread::JoinHandle;
 use vmm_sys::epoll::{AsRawFd, ControlOperation, Epoll, EpollEvent, EventSet, RawFd};
 use vmm_sys::errno::Errno;
 use vmm_sys::eventfd::EventFd;
@@ -62,13 +59,13 @@ struct Member<R> {
     line: Line,
     value: u64,
     known: [Known; 2],
-    random: Pcg32,
+    random: Random,
 }
 
 impl<R: Host> Member<R> {
     fn new(rt: &R, epoll: &Epoll<R>, number: u64) -> Member<R> {
-        let counter = expect_ok(rt, EventFd::new(epoll, 0, rt));
-        let line = expect_ok(rt, Line::new(epoll, rt));
+        let counter = open_counter(rt, epoll, 0);
+        let line = open_line(rt, epoll);
         let known = |fd, state| Known {
             fd,
             state,
@@ -84,21 +81,12 @@ impl<R: Host> Member<R> {
             line,
             value: 0,
             known,
-            random: Pcg32::new(number, number),
+            random: Random::new(number),
         }
     }
 
-    /// A number below the limit, which isn't 0.
-    fn below(&mut self, limit: u32) -> u32 {
-        self.random.next_u32().checked_rem(limit).unwrap_or(0)
-    }
-
-    fn set(&mut self) -> EventSet {
-        EventSet::from_bits_retain(self.random.next_u32() & SETS)
-    }
-
     fn write(&mut self, rt: &R) {
-        let more = u64::from(self.below(3));
+        let more = u64::from(self.random.below(3));
         expect_same(rt, &self.counter.write(more, rt), &Ok(()));
         self.value = self.value.saturating_add(more);
         self.know_value();
@@ -123,20 +111,15 @@ impl<R: Host> Member<R> {
     }
 
     fn set_line(&mut self, rt: &R) {
-        let set = self.set();
+        let set = self.random.set(SETS);
         expect_same(rt, &self.line.set(set, rt), &Ok(()));
         let [_, line] = &mut self.known;
         line.state = set;
     }
 
     fn change(&mut self, rt: &R) {
-        let set = self.set();
-        let op = match self.below(3) {
-            0 => ControlOperation::Add,
-            1 => ControlOperation::Modify,
-            _ => ControlOperation::Delete,
-        };
-        let at = self.below(2) as usize;
+        let (op, set) = (self.random.operation(), self.random.set(SETS));
+        let at = self.random.below(2) as usize;
         let Some(known) = self.known.get_mut(at) else {
             return;
         };
@@ -148,8 +131,7 @@ impl<R: Host> Member<R> {
     /// Waits with room for some entries, and expects of its own descriptors what it knows.
     fn wait(&mut self, rt: &R) {
         let mut buffer = [no_event(); 3];
-        let room = 1usize.saturating_add(self.below(3) as usize);
-        let room = room.min(buffer.len());
+        let room = self.random.room().min(buffer.len());
         let count = expect_ok(rt, self.poller.wait(0, &mut buffer[..room])).min(room);
         let known = self.known;
         for own in &known {
@@ -158,7 +140,7 @@ impl<R: Host> Member<R> {
     }
 
     fn make_call(&mut self, rt: &R) {
-        match self.below(8) {
+        match self.random.below(8) {
             0 => self.write(rt),
             1 => self.read(rt),
             2 => self.set_line(rt),
@@ -191,16 +173,6 @@ fn expect_reported<R: Abort>(rt: &R, own: &Known, report: &[EpollEvent], had_roo
     expect_same(rt, &(least <= times && times <= most), &true);
 }
 
-fn start_all<R: Host>(rt: R, alloc: Global, epoll: &Epoll<R>) -> Vec<JoinHandle<Member<R>>> {
-    let mut started = Vec::new(alloc);
-    for number in 0..THREADS {
-        let member = Member::new(&rt, epoll, number);
-        let thread = expect_ok(&rt, thread::spawn(&rt, move || member.make_calls(&rt)));
-        expect_same(&rt, &started.push(thread).is_ok(), &true);
-    }
-    started
-}
-
 /// Expects that a wait with room for all reports just what its threads know to be ready.
 fn expect_all<R: Host>(rt: &R, epoll: &mut Epoll<R>, members: &[Member<R>]) {
     let mut buffer = [no_event(); 8];
@@ -217,11 +189,11 @@ fn expect_all<R: Host>(rt: &R, epoll: &mut Epoll<R>, members: &[Member<R>]) {
 
 #[test]
 fn calls_at_random_answer_what_their_threads_know(rt: HostRuntime) {
-    let mut epoll = expect_ok(&rt, Epoll::new(rt, rt.alloc()));
+    let mut epoll = open_poller(&rt);
     let mut members = Vec::new(rt.alloc());
-    for thread in start_all(rt, rt.alloc(), &epoll) {
-        let member = thread.join(&rt);
-        expect_same(&rt, &members.push(member).is_ok(), &true);
+    for number in 0..THREADS {
+        expect_ok(&rt, members.push(Member::new(&rt, &epoll, number)));
     }
-    expect_all(&rt, &mut epoll, members.as_slice());
+    let ended = thread::map_vec(&rt, members, &|member: Member<_>| member.make_calls(&rt));
+    expect_all(&rt, &mut epoll, expect_ok(&rt, ended).as_slice());
 }

@@ -2,8 +2,7 @@
 
 use crate::expecting::{expect_ok, expect_same};
 use crate::fixture::no_event;
-use rand_core::Rng;
-use rand_pcg::Pcg32;
+use crate::random::Random;
 use std::alloc::Global;
 use std::process::Abort;
 use vmm_sys::epoll::{ControlOperation, EpollEvent, EventSet, RawFd};
@@ -56,7 +55,7 @@ impl Known {
         let number = closed.unwrap_or(self.values.len());
         let fd = expect_ok(rt, RawFd::try_from(number));
         if closed.is_none() {
-            expect_same(rt, &self.values.push(None).is_ok(), &true);
+            expect_ok(rt, self.values.push(None));
         }
         self.set_value(fd, Some(value));
         fd
@@ -94,9 +93,7 @@ impl Known {
         let is_there = self.interests.iter().any(|it| it.fd == wanted.fd);
         match (op, is_there) {
             (ControlOperation::Add, true) => return Err(Errno::EEXIST),
-            (ControlOperation::Add, false) => {
-                expect_same(rt, &self.interests.push(wanted).is_ok(), &true);
-            }
+            (ControlOperation::Add, false) => expect_ok(rt, self.interests.push(wanted)),
             (_, false) => return Err(Errno::ENOENT),
             (ControlOperation::Modify, true) => {
                 for it in self.interests.iter_mut() {
@@ -125,12 +122,12 @@ impl Known {
         let mut chosen: Vec<Wanted> = Vec::new(alloc);
         for it in self.interests.iter() {
             if chosen.len() < room && !self.ready(*it).is_empty() {
-                expect_same(rt, &chosen.push(*it).is_ok(), &true);
+                expect_ok(rt, chosen.push(*it));
             }
         }
         for it in chosen.iter() {
             self.interests.retain(|other| other.fd != it.fd);
-            expect_same(rt, &self.interests.push(*it).is_ok(), &true);
+            expect_ok(rt, self.interests.push(*it));
         }
         chosen
     }
@@ -141,21 +138,17 @@ impl Known {
 struct Tried {
     table: Table,
     known: Known,
-    random: Pcg32,
+    random: Random,
     alloc: Global,
 }
 
 impl Tried {
-    fn below(&mut self, limit: u32) -> u32 {
-        self.random.next_u32().checked_rem(limit).unwrap_or(0)
-    }
-
     fn fd(&mut self) -> RawFd {
-        RawFd::try_from(self.below(NUMBERS)).unwrap_or(0)
+        RawFd::try_from(self.random.below(NUMBERS)).unwrap_or(0)
     }
 
     fn set(&mut self) -> EventSet {
-        match self.below(3) {
+        match self.random.below(3) {
             0 => EventSet::IN,
             1 => EventSet::OUT,
             _ => EventSet::empty(),
@@ -163,12 +156,7 @@ impl Tried {
     }
 
     fn change<R: Abort>(&mut self, rt: &R) {
-        let op = match self.below(4) {
-            0 => ControlOperation::Modify,
-            1 => ControlOperation::Delete,
-            _ => ControlOperation::Add,
-        };
-        let (fd, set) = (self.fd(), self.set());
+        let (op, fd, set) = (self.random.operation(), self.fd(), self.set());
         let event = EpollEvent::new(set, u64::from(fd.unsigned_abs()));
         let answer = self.known.change(rt, op, Wanted { fd, set });
         expect_same(rt, &self.table.ctl(op, fd, event), &answer);
@@ -176,9 +164,7 @@ impl Tried {
 
     fn wait<R: Abort>(&mut self, rt: &R) {
         let mut buffer = [no_event(); 3];
-        let room = 1usize
-            .saturating_add(self.below(3) as usize)
-            .min(buffer.len());
+        let room = self.random.room().min(buffer.len());
         let chosen = self.known.wait(rt, self.alloc, room);
         let count = self.table.wait(&mut buffer[..room]);
         expect_same(rt, &count, &Ok(chosen.len()));
@@ -189,8 +175,8 @@ impl Tried {
     }
 
     fn make_call<R: Abort>(&mut self, rt: &R) {
-        let (fd, value) = (self.fd(), u64::from(self.below(2)));
-        match self.below(8) {
+        let (fd, value) = (self.fd(), u64::from(self.random.below(2)));
+        match self.random.below(8) {
             0 => {
                 let number = self.known.open(rt, value);
                 expect_same(rt, &self.table.add_counter(value), &Ok(number));
@@ -213,7 +199,7 @@ fn calls_at_random_answer_as_the_definition_says(rt: HostRuntime) {
     let mut tried = Tried {
         table: Table::new(rt.alloc()),
         known: Known::new(rt.alloc()),
-        random: Pcg32::new(1, 1),
+        random: Random::new(1),
         alloc: rt.alloc(),
     };
     for _call in 0..CALLS {

@@ -1,33 +1,29 @@
 //! A table that pollers, counters, lines and their copies share; each call is one step of it.
 
 use crate::expecting::{expect_ok, expect_same};
-use crate::fixture::{HIGHEST, Host, entry, no_event, want};
+use crate::fixture::{
+    ADD, DELETE, HIGHEST, Host, MODIFY, entry, input, no_event, open_counter, open_line,
+    open_poller, want, wanted_counter, wanted_line,
+};
 use crate::waits::{expect_set, report_of};
-use std::alloc::Global;
 use std::process::Abort;
 use std::sync::Arc;
 use std::sync::atomic::{AtomicBool, Ordering};
 use std::thread;
 use vmm_sys::counter::{Bell, Counter};
-use vmm_sys::epoll::{AsRawFd, ControlOperation, Epoll, EpollEvent, EventSet};
+use vmm_sys::epoll::{AsRawFd, Epoll, EpollEvent, EventSet};
 use vmm_sys::errno::Errno;
 use vmm_sys::eventfd::EventFd;
 use vmm_sys::line::Line;
 use vmm_sys::poller::Poller;
 
-const ADD: ControlOperation = ControlOperation::Add;
-
-const MODIFY: ControlOperation = ControlOperation::Modify;
-
-const DELETE: ControlOperation = ControlOperation::Delete;
-
 #[test]
 fn pollers_of_one_table_see_what_the_others_did(rt: HostRuntime) {
-    let mut epoll = expect_ok(&rt, Epoll::new(rt, rt.alloc()));
+    let mut epoll = open_poller(&rt);
     let mut other = expect_ok(&rt, epoll.try_clone());
-    let counter = expect_ok(&rt, EventFd::new(&epoll, 1, &rt));
+    let counter = open_counter(&rt, &epoll, 1);
     want(&rt, &mut other, &counter, EventSet::IN);
-    let line = expect_ok(&rt, Line::new(&other, &rt));
+    let line = open_line(&rt, &other);
     expect_ok(&rt, line.set(EventSet::IN, &rt));
     want(&rt, &mut epoll, &line, EventSet::IN);
     let both = [entry(&counter, EventSet::IN), entry(&line, EventSet::IN)];
@@ -44,8 +40,8 @@ fn all_ready<P: Poller, R: Abort>(rt: &R, poller: &mut P) -> [EpollEvent; 2] {
 #[test]
 fn a_new_poller_has_a_table_of_its_own(rt: HostRuntime) {
     for value in 0..2 {
-        let epoll = expect_ok(&rt, Epoll::new(rt, rt.alloc()));
-        let counter = expect_ok(&rt, EventFd::new(&epoll, value, &rt));
+        let epoll = open_poller(&rt);
+        let counter = open_counter(&rt, &epoll, value);
         expect_same(&rt, &counter.as_raw_fd(), &0);
         expect_same(&rt, &counter.read(&rt).ok().unwrap_or(0), &value);
     }
@@ -53,9 +49,9 @@ fn a_new_poller_has_a_table_of_its_own(rt: HostRuntime) {
 
 #[test]
 fn changes_of_interests(rt: HostRuntime) {
-    let mut epoll = expect_ok(&rt, Epoll::new(rt, rt.alloc()));
-    expect_ok(&rt, EventFd::new(&epoll, 1, &rt));
-    let input = EpollEvent::new(EventSet::IN, 5);
+    let mut epoll = open_poller(&rt);
+    open_counter(&rt, &epoll, 1);
+    let input = input(5);
     let output = EpollEvent::new(EventSet::OUT, 6);
     let once = EpollEvent::new(EventSet::from_bits_retain(0x4000_0001), 5);
     // Each change with its answer, and what a wait then reports.
@@ -80,42 +76,37 @@ fn changes_of_interests(rt: HostRuntime) {
 #[test]
 fn those_reported_go_to_the_back(rt: HostRuntime) {
     for ms in [-1, 0, 60_000] {
-        expect_order_of_service(rt, rt.alloc(), ms);
+        expect_order_of_service(rt, ms);
     }
 }
 
 // Each of five ready counters is reported in turn, two at a time.
-fn expect_order_of_service<R: Host>(rt: R, alloc: Global, ms: i32) {
-    let mut epoll = expect_ok(&rt, Epoll::new(rt, alloc));
+fn expect_order_of_service<R: Host>(rt: R, ms: i32) {
+    let mut epoll = open_poller(&rt);
     for _ in 0..5 {
-        let counter = expect_ok(&rt, EventFd::new(&epoll, 1, &rt));
-        want(&rt, &mut epoll, &counter, EventSet::IN);
+        wanted_counter(&rt, &mut epoll, 1);
     }
     for (first, second) in [(0, 1), (2, 3), (4, 0), (1, 2)] {
-        let report = report_of(rt, alloc, &epoll, ms);
+        let report = report_of(rt, &epoll, ms);
         expect_same(&rt, &report.answer, &Ok(2));
-        expect_same(
-            &rt,
-            &report.buffer.map(|entry| entry.data()),
-            &[first, second],
-        );
+        expect_same(&rt, &report.buffer, &[input(first), input(second)]);
     }
 }
 
 #[test]
 fn a_refused_opening_opens_nothing(rt: HostRuntime) {
-    let epoll = expect_ok(&rt, Epoll::new(rt, rt.alloc()));
+    let epoll = open_poller(&rt);
     let refused = EventFd::new(&epoll, u64::MAX, &rt);
     expect_same(&rt, &refused.err(), &Some(Errno::EINVAL));
-    let line = expect_ok(&rt, Line::new(&epoll, &rt));
+    let line = open_line(&rt, &epoll);
     expect_same(&rt, &line.as_raw_fd(), &0);
 }
 
 #[test]
 fn counters_of_one_table_are_apart(rt: HostRuntime) {
-    let epoll = expect_ok(&rt, Epoll::new(rt, rt.alloc()));
-    let first = expect_ok(&rt, EventFd::new(&epoll, 2, &rt));
-    let second = expect_ok(&rt, EventFd::new(&epoll, 1, &rt));
+    let epoll = open_poller(&rt);
+    let first = open_counter(&rt, &epoll, 2);
+    let second = open_counter(&rt, &epoll, 1);
     expect_ok(&rt, first.write(5, &rt));
     expect_ok(&rt, first.write(7, &rt));
     expect_same(&rt, &second.read(&rt), &Ok(1));
@@ -126,8 +117,8 @@ fn counters_of_one_table_are_apart(rt: HostRuntime) {
 
 #[test]
 fn a_counter_is_rung_by_a_1_and_cleared_by_a_read(rt: HostRuntime) {
-    let epoll = expect_ok(&rt, Epoll::new(rt, rt.alloc()));
-    let counter = expect_ok(&rt, EventFd::new(&epoll, 0, &rt));
+    let epoll = open_poller(&rt);
+    let counter = open_counter(&rt, &epoll, 0);
     for rings in 1..=3 {
         for _ring in 0..rings {
             expect_same(&rt, &counter.ring(&rt), &Ok(()));
@@ -139,8 +130,8 @@ fn a_counter_is_rung_by_a_1_and_cleared_by_a_read(rt: HostRuntime) {
 
 #[test]
 fn a_refused_write_leaves_the_value(rt: HostRuntime) {
-    let mut epoll = expect_ok(&rt, Epoll::new(rt, rt.alloc()));
-    let counter = expect_ok(&rt, EventFd::new(&epoll, HIGHEST, &rt));
+    let mut epoll = open_poller(&rt);
+    let counter = open_counter(&rt, &epoll, HIGHEST);
     want(&rt, &mut epoll, &counter, EventSet::OUT);
     expect_same(&rt, &counter.write(1, &rt), &Err(Errno::EAGAIN));
     expect_same(&rt, &epoll.wait(0, &mut [no_event()]), &Ok(0));
@@ -151,9 +142,9 @@ fn a_refused_write_leaves_the_value(rt: HostRuntime) {
 
 #[test]
 fn a_counter_never_waits_for_its_value(rt: HostRuntime) {
-    let epoll = expect_ok(&rt, Epoll::new(rt, rt.alloc()));
-    let empty = expect_ok(&rt, EventFd::new(&epoll, 0, &rt));
-    let full = expect_ok(&rt, EventFd::new(&epoll, HIGHEST, &rt));
+    let epoll = open_poller(&rt);
+    let empty = open_counter(&rt, &epoll, 0);
+    let full = open_counter(&rt, &epoll, HIGHEST);
     let over = expect_ok(&rt, Arc::new(rt.alloc(), AtomicBool::new(false)));
     let theirs = expect_ok(&rt, Arc::try_clone(&over));
     let started = thread::spawn(&rt, move || {
@@ -172,11 +163,9 @@ fn a_counter_never_waits_for_its_value(rt: HostRuntime) {
 
 #[test]
 fn lines_of_one_table_are_apart(rt: HostRuntime) {
-    let mut epoll = expect_ok(&rt, Epoll::new(rt, rt.alloc()));
-    let first = expect_ok(&rt, Line::new(&epoll, &rt));
-    let second = expect_ok(&rt, Line::new(&epoll, &rt));
-    want(&rt, &mut epoll, &first, EventSet::IN);
-    want(&rt, &mut epoll, &second, EventSet::IN);
+    let mut epoll = open_poller(&rt);
+    wanted_line(&rt, &mut epoll);
+    let second = wanted_line(&rt, &mut epoll);
     let both = EventSet::from_bits_retain(0x5);
     // What the second line is set to, and what of it is reported.
     for (set, count, reported) in [
@@ -192,9 +181,9 @@ fn lines_of_one_table_are_apart(rt: HostRuntime) {
 
 #[test]
 fn a_copy_of_a_counter_has_its_value(rt: HostRuntime) {
-    let epoll = expect_ok(&rt, Epoll::new(rt, rt.alloc()));
-    expect_ok(&rt, EventFd::new(&epoll, 7, &rt));
-    let counter = expect_ok(&rt, EventFd::new(&epoll, 0, &rt));
+    let epoll = open_poller(&rt);
+    open_counter(&rt, &epoll, 7);
+    let counter = open_counter(&rt, &epoll, 0);
     let copy = expect_ok(&rt, counter.try_clone());
     expect_same(&rt, &copy.as_raw_fd(), &counter.as_raw_fd());
     expect_ok(&rt, counter.write(2, &rt));
@@ -205,10 +194,9 @@ fn a_copy_of_a_counter_has_its_value(rt: HostRuntime) {
 
 #[test]
 fn what_a_copy_of_a_line_sets_is_reported(rt: HostRuntime) {
-    let mut epoll = expect_ok(&rt, Epoll::new(rt, rt.alloc()));
-    expect_ok(&rt, Line::new(&epoll, &rt));
-    let line = expect_ok(&rt, Line::new(&epoll, &rt));
-    want(&rt, &mut epoll, &line, EventSet::IN);
+    let mut epoll = open_poller(&rt);
+    open_line(&rt, &epoll);
+    let line = wanted_line(&rt, &mut epoll);
     let copy = expect_ok(&rt, line.try_clone());
     expect_same(&rt, &copy.as_raw_fd(), &line.as_raw_fd());
     expect_ok(&rt, copy.set(EventSet::IN, &rt));
@@ -247,8 +235,8 @@ const ROUNDS: u64 = 20_000;
 
 #[test]
 fn what_is_written_is_read_or_left(rt: HostRuntime) {
-    let epoll = expect_ok(&rt, Epoll::new(rt, rt.alloc()));
-    let counter = expect_ok(&rt, EventFd::new(&epoll, 0, &rt));
+    let epoll = open_poller(&rt);
+    let counter = open_counter(&rt, &epoll, 0);
     let by_one = |k| match k < 2 {
         true => write_often(&rt, &counter),
         false => read_often(&rt, &counter),

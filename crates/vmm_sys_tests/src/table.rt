@@ -1,15 +1,11 @@
 //! The table, as one owner uses it: worked rows of its calls, and the numbers of its errors. What they answer is proved.
 
 use crate::expecting::{expect_ok, expect_same};
-use crate::fixture::{HIGHEST, no_event};
+use crate::fixture::{ADD, DELETE, HIGHEST, MODIFY, input, no_event};
 use std::process::Abort;
 use vmm_sys::epoll::{ControlOperation, EpollEvent, EventSet};
 use vmm_sys::errno::Errno;
 use vmm_sys::table::Table;
-
-const ADD: ControlOperation = ControlOperation::Add;
-
-const MODIFY: ControlOperation = ControlOperation::Modify;
 
 const IN: EventSet = EventSet::IN;
 
@@ -90,7 +86,7 @@ fn a_full_counter_of_a_table(rt: HostRuntime) {
 fn open<R: Abort>(rt: &R, table: &mut Table, values: &[u64]) {
     for &value in values {
         let fd = expect_ok(rt, table.add_counter(value));
-        let wanted = EpollEvent::new(IN, fd.max(0) as u64);
+        let wanted = input(fd.max(0) as u64);
         expect_ok(rt, table.ctl(ADD, fd, wanted));
     }
 }
@@ -100,7 +96,7 @@ fn expect_each<R: Abort>(rt: &R, table: &mut Table, fds: &[u64]) {
     for &fd in fds {
         let mut buffer = [no_event()];
         expect_same(rt, &table.wait(&mut buffer), &Ok(1));
-        expect_same(rt, &buffer, &[EpollEvent::new(IN, fd)]);
+        expect_same(rt, &buffer, &[input(fd)]);
     }
 }
 
@@ -111,8 +107,7 @@ fn one_that_is_not_ready_is_passed_over(rt: HostRuntime) {
     for (first, second) in [(1, 2), (3, 4), (5, 1)] {
         let mut buffer = [no_event(); 2];
         expect_same(&rt, &table.wait(&mut buffer), &Ok(2));
-        let reported = [EpollEvent::new(IN, first), EpollEvent::new(IN, second)];
-        expect_same(&rt, &buffer, &reported);
+        expect_same(&rt, &buffer, &[input(first), input(second)]);
     }
 }
 
@@ -129,7 +124,7 @@ fn one_is_added_and_one_deleted_between_the_waits(rt: HostRuntime) {
     open(&rt, &mut table, &[1, 1, 1, 1]);
     expect_each(&rt, &mut table, &[0]);
     open(&rt, &mut table, &[1]);
-    expect_ok(&rt, table.ctl(ControlOperation::Delete, 1, no_event()));
+    expect_ok(&rt, table.ctl(DELETE, 1, no_event()));
     expect_each(&rt, &mut table, &[2, 3]);
 }
 

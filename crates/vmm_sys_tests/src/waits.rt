@@ -23,6 +23,14 @@ pub(crate) struct Report {
     pub(crate) took: Duration,
 }
 
+impl Report {
+    /// Expects this event alone.
+    fn expect<R: Host>(&self, rt: &R, event: EpollEvent) {
+        let expected = (Ok(1), [event, no_event()]);
+        expect_same(rt, &(self.answer, self.buffer), &expected);
+    }
+}
+
 /// A thread that waits once.
 #[derive(Drop)]
 pub(crate) struct Waiter {
@@ -31,9 +39,9 @@ pub(crate) struct Waiter {
 }
 
 impl Waiter {
-    pub(crate) fn start<R: Host>(rt: R, alloc: Global, epoll: &Epoll<R>, ms: i32) -> Waiter {
+    pub(crate) fn start<R: Host>(rt: R, epoll: &Epoll<R>, ms: i32) -> Waiter {
         let epoll = expect_ok(&rt, epoll.try_clone());
-        let over = expect_ok(&rt, Arc::new(alloc, AtomicBool::new(false)));
+        let over = expect_ok(&rt, Arc::new(rt.alloc(), AtomicBool::new(false)));
         let theirs = expect_ok(&rt, Arc::try_clone(&over));
         let started = thread::spawn(&rt, move || {
             let report = wait_once(&rt, epoll, ms);
@@ -56,8 +64,8 @@ impl Waiter {
 }
 
 /// What a thread is answered that waits once.
-pub(crate) fn report_of<R: Host>(rt: R, alloc: Global, epoll: &Epoll<R>, ms: i32) -> Report {
-    Waiter::start(rt, alloc, epoll, ms).report(&rt)
+pub(crate) fn report_of<R: Host>(rt: R, epoll: &Epoll<R>, ms: i32) -> Report {
+    Waiter::start(rt, epoll, ms).report(&rt)
 }
 
 /// Ends the test unless the flag is soon set.
@@ -92,62 +100,53 @@ const LONG: i32 = 60_000;
 
 #[test]
 fn an_add_ends_waits(rt: HostRuntime) {
-    expect_to_end_waits(rt, rt.alloc(), Change::Add(EventSet::IN));
-    expect_to_end_waits(rt, rt.alloc(), Change::Add(EventSet::OUT));
+    expect_to_end_waits(rt, Change::Add(EventSet::IN));
+    expect_to_end_waits(rt, Change::Add(EventSet::OUT));
 }
 
 #[test]
 fn a_modify_ends_waits(rt: HostRuntime) {
-    expect_to_end_waits(rt, rt.alloc(), Change::Modify(EventSet::IN));
-    expect_to_end_waits(rt, rt.alloc(), Change::Modify(EventSet::OUT));
+    expect_to_end_waits(rt, Change::Modify(EventSet::IN));
+    expect_to_end_waits(rt, Change::Modify(EventSet::OUT));
 }
 
 #[test]
 fn a_write_ends_waits(rt: HostRuntime) {
-    expect_to_end_waits(rt, rt.alloc(), Change::Write);
+    expect_to_end_waits(rt, Change::Write);
 }
 
 #[test]
 fn a_read_ends_waits(rt: HostRuntime) {
-    expect_to_end_waits(rt, rt.alloc(), Change::Read);
+    expect_to_end_waits(rt, Change::Read);
 }
 
 #[test]
 fn a_set_ends_waits(rt: HostRuntime) {
     for set in [EventSet::IN, EventSet::ERROR, EventSet::HANG_UP] {
-        expect_to_end_waits(rt, rt.alloc(), Change::Set(set));
+        expect_to_end_waits(rt, Change::Set(set));
     }
 }
 
 // The change ends three waits, without a limit and with a long one, which answer what is ready.
-fn expect_to_end_waits<R: Host>(rt: R, alloc: Global, change: Change) {
-    let mut epoll = expect_ok(&rt, Epoll::new(rt, alloc));
-    let fixture = Fixture::new(&rt, &mut epoll);
-    let waiters = start_three(rt, alloc, &epoll);
+fn expect_to_end_waits<R: Host>(rt: R, change: Change) {
+    let (mut epoll, fixture) = Fixture::open(&rt);
+    let waiters = start_three(rt, &epoll);
     pause(&rt, TO_SLEEP);
     for waiter in &waiters {
         assert!(rt; !waiter.is_over());
     }
     let event = fixture.make(&rt, &mut epoll, change);
-    expect_reports(&rt, waiters, event);
+    for waiter in waiters {
+        waiter.report(&rt).expect(&rt, event);
+    }
 }
 
-fn start_three<R: Host>(rt: R, alloc: Global, epoll: &Epoll<R>) -> Vec<Waiter> {
-    let mut waiters = Vec::new(alloc);
+fn start_three<R: Host>(rt: R, epoll: &Epoll<R>) -> Vec<Waiter> {
+    let mut waiters = Vec::new(rt.alloc());
     for ms in [-1, LONG, -1] {
-        let waiter = Waiter::start(rt, alloc, epoll, ms);
-        expect_ok(&rt, waiters.push(waiter));
+        expect_ok(&rt, waiters.push(Waiter::start(rt, epoll, ms)));
     }
     waiters
-}
-
-// Each is soon answered with this event alone.
-fn expect_reports<R: Host>(rt: &R, waiters: Vec<Waiter>, event: EpollEvent) {
-    for waiter in waiters {
-        let report = waiter.report(rt);
-        expect_same(rt, &report.answer, &Ok(1));
-        expect_same(rt, &report.buffer, &[event, no_event()]);
-    }
 }
 
 /// What the calls of [`Fixture::make_refused`] are answered.
@@ -163,9 +162,8 @@ const REFUSALS: [Option<Errno>; 7] = [
 
 #[test]
 fn refused_calls_end_no_wait(rt: HostRuntime) {
-    let mut epoll = expect_ok(&rt, Epoll::new(rt, rt.alloc()));
-    let fixture = Fixture::new(&rt, &mut epoll);
-    let waiter = Waiter::start(rt, rt.alloc(), &epoll, 400);
+    let (mut epoll, fixture) = Fixture::open(&rt);
+    let waiter = Waiter::start(rt, &epoll, 400);
     for _ in 0..15 {
         pause(&rt, 20);
         expect_same(&rt, &fixture.make_refused(&rt, &mut epoll), &REFUSALS);
@@ -177,10 +175,9 @@ fn refused_calls_end_no_wait(rt: HostRuntime) {
 
 #[test]
 fn a_timed_wait_ends_by_the_clock(rt: HostRuntime) {
-    let mut epoll = expect_ok(&rt, Epoll::new(rt, rt.alloc()));
-    Fixture::new(&rt, &mut epoll);
+    let (epoll, _fixture) = Fixture::open(&rt);
     for ms in [1, 100] {
-        let report = report_of(rt, rt.alloc(), &epoll, ms);
+        let report = report_of(rt, &epoll, ms);
         expect_same(&rt, &report.answer, &Ok(0));
         assert!(rt; report.took >= Duration::from_millis(ms as u64));
     }
@@ -188,29 +185,24 @@ fn a_timed_wait_ends_by_the_clock(rt: HostRuntime) {
 
 #[test]
 fn a_wait_with_limit_0_does_not_sleep(rt: HostRuntime) {
-    let mut epoll = expect_ok(&rt, Epoll::new(rt, rt.alloc()));
-    Fixture::new(&rt, &mut epoll);
-    let report = report_of(rt, rt.alloc(), &epoll, 0);
+    let (epoll, _fixture) = Fixture::open(&rt);
+    let report = report_of(rt, &epoll, 0);
     expect_same(&rt, &report.answer, &Ok(0));
 }
 
 #[test]
 fn a_wait_does_not_sleep_where_something_is_ready(rt: HostRuntime) {
-    let mut epoll = expect_ok(&rt, Epoll::new(rt, rt.alloc()));
-    let fixture = Fixture::new(&rt, &mut epoll);
+    let (mut epoll, fixture) = Fixture::open(&rt);
     let event = fixture.make(&rt, &mut epoll, Change::Write);
-    for ms in [-1, 0, 60_000] {
-        let report = report_of(rt, rt.alloc(), &epoll, ms);
-        expect_same(&rt, &report.answer, &Ok(1));
-        expect_same(&rt, &report.buffer, &[event, no_event()]);
+    for ms in [-1, 0, LONG] {
+        report_of(rt, &epoll, ms).expect(&rt, event);
     }
 }
 
 #[test]
 fn changes_do_not_put_a_limit_off(rt: HostRuntime) {
-    let mut epoll = expect_ok(&rt, Epoll::new(rt, rt.alloc()));
-    let fixture = Fixture::new(&rt, &mut epoll);
-    let waiter = Waiter::start(rt, rt.alloc(), &epoll, 1000);
+    let (epoll, fixture) = Fixture::open(&rt);
+    let waiter = Waiter::start(rt, &epoll, 1000);
     // Five seconds, in which the changes never stop for as long as the limit.
     for _ in 0..1000 {
         if waiter.is_over() {
@@ -225,10 +217,9 @@ fn changes_do_not_put_a_limit_off(rt: HostRuntime) {
 
 #[test]
 fn limits_of_hours_are_not_cut(rt: HostRuntime) {
-    let mut epoll = expect_ok(&rt, Epoll::new(rt, rt.alloc()));
-    let fixture = Fixture::new(&rt, &mut epoll);
-    let hour = Waiter::start(rt, rt.alloc(), &epoll, 3_600_000);
-    let longest = Waiter::start(rt, rt.alloc(), &epoll, i32::MAX);
+    let (mut epoll, fixture) = Fixture::open(&rt);
+    let hour = Waiter::start(rt, &epoll, 3_600_000);
+    let longest = Waiter::start(rt, &epoll, i32::MAX);
     pause(&rt, 300);
     assert!(rt; !hour.is_over());
     assert!(rt; !longest.is_over());
