@@ -1,10 +1,10 @@
 //! Courses of calls of a manager and of its endpoint, each ended by a close.
 
-use crate::expecting::{Host, expect_noted, expect_ok, expect_pending, expect_run, expect_same};
 use event_manager::{
     Error, EventManager, EventPoller, EventSet, Events, Ledgers, NamedCounter, RemoteEndpoint,
     Result, Ticket, WithLedgers, with_ledgers,
 };
+use fixtures::expecting::{Looping, expect_noted, expect_ok, expect_same};
 use fixtures::making::make;
 use fixtures::noting::{Noting, add_noting};
 use fixtures::parts::{Parts, on_table};
@@ -69,7 +69,7 @@ enum Course<'a> {
 }
 
 /// Sends jobs that note 1, 2, 3 and so on, so many: each must have the ticket of its number.
-fn fire_counting<N: NamedCounter, R: Host>(
+fn fire_counting<N: NamedCounter, R: Looping>(
     rt: &R,
     endpoint: &Endpoint<N, R>,
     notes: &Notes,
@@ -81,20 +81,24 @@ fn fire_counting<N: NamedCounter, R: Host>(
 }
 
 /// Expects this answer of a job: the number of its ticket.
-fn expect_fire<N: NamedCounter, R: Host>(rt: &R, endpoint: &Endpoint<N, R>, answer: Result<u64>) {
+fn expect_fire<N: NamedCounter, R: Looping>(
+    rt: &R,
+    endpoint: &Endpoint<N, R>,
+    answer: Result<u64>,
+) {
     let number = endpoint.fire(Work::Own(1), rt).map(|t| t.number());
     expect_same(rt, &number, &answer);
 }
 
 /// Expects that a job and a call are refused with this, and that no job waits then.
-fn expect_refusals<N: NamedCounter, R: Host>(rt: &R, endpoint: &Endpoint<N, R>, refusal: Error) {
+fn expect_refusals<N: NamedCounter, R: Looping>(rt: &R, endpoint: &Endpoint<N, R>, refusal: Error) {
     expect_fire(rt, endpoint, Err(refusal));
     expect_same(rt, &endpoint.call_blocking(Work::Own(1), rt), &Err(refusal));
-    expect_pending(rt, endpoint, 0);
+    expect_same(rt, &endpoint.pending(), &Some(0));
 }
 
 /// Sends two jobs by an endpoint that is then dropped.
-fn fire_and_drop<N: NamedCounter, P: EventPoller, R: Host>(
+fn fire_and_drop<N: NamedCounter, P: EventPoller, R: Looping>(
     rt: &R,
     manager: &Loop<N, P, R>,
     notes: &Notes,
@@ -104,7 +108,7 @@ fn fire_and_drop<N: NamedCounter, P: EventPoller, R: Host>(
 }
 
 /// Follows a course in which jobs are sent and run by one endpoint.
-fn send_and_run<N: NamedCounter, P: EventPoller, R: Host>(
+fn send_and_run<N: NamedCounter, P: EventPoller, R: Looping>(
     rt: &R,
     manager: &mut Loop<N, P, R>,
     endpoint: &Endpoint<N, R>,
@@ -112,15 +116,15 @@ fn send_and_run<N: NamedCounter, P: EventPoller, R: Host>(
     count: u64,
 ) {
     fire_counting(rt, endpoint, notes, count);
-    expect_pending(rt, endpoint, count as usize);
-    expect_run(rt, manager, -1, Ok(1));
+    expect_same(rt, &endpoint.pending(), &Some(count as usize));
+    expect_same(rt, &manager.run_with_timeout(-1, rt), &Ok(1));
     expect_same(rt, &count_of(rt, notes), &Some(count as usize));
-    expect_run(rt, manager, 0, Ok(0));
-    expect_pending(rt, endpoint, 0);
+    expect_same(rt, &manager.run_with_timeout(0, rt), &Ok(0));
+    expect_same(rt, &endpoint.pending(), &Some(0));
 }
 
 /// Sends three jobs by two endpoints of the manager in turn, and runs.
-fn send_in_turn<N: NamedCounter, P: EventPoller, R: Host>(
+fn send_in_turn<N: NamedCounter, P: EventPoller, R: Looping>(
     rt: &R,
     manager: &mut Loop<N, P, R>,
     first: &Endpoint<N, R>,
@@ -129,17 +133,17 @@ fn send_in_turn<N: NamedCounter, P: EventPoller, R: Host>(
     let second = expect_ok(rt, first.try_clone());
     for (number, endpoint) in [(1, first), (2, &second), (3, first)] {
         expect_same(rt, &fire_note(rt, endpoint, notes, number), &Ok(number));
-        expect_pending(rt, first, number as usize);
-        expect_pending(rt, &second, number as usize);
+        expect_same(rt, &first.pending(), &Some(number as usize));
+        expect_same(rt, &second.pending(), &Some(number as usize));
     }
-    expect_run(rt, manager, -1, Ok(1));
+    expect_same(rt, &manager.run_with_timeout(-1, rt), &Ok(1));
     expect_same(rt, &count_of(rt, notes), &Some(3));
-    expect_pending(rt, first, 0);
-    expect_pending(rt, &second, 0);
+    expect_same(rt, &first.pending(), &Some(0));
+    expect_same(rt, &second.pending(), &Some(0));
 }
 
 /// Kicks a manager with a subscriber that has no event.
-fn kick<N: NamedCounter, P: EventPoller, R: Host>(
+fn kick<N: NamedCounter, P: EventPoller, R: Looping>(
     rt: &R,
     manager: &mut Loop<N, P, R>,
     endpoint: &Endpoint<N, R>,
@@ -148,15 +152,15 @@ fn kick<N: NamedCounter, P: EventPoller, R: Host>(
 ) {
     expect_ok(rt, add_noting(rt, manager, silent, DELIVERED, notes));
     expect_same(rt, &endpoint.kick(rt), &Ok(()));
-    expect_run(rt, manager, 5000, Ok(1));
-    expect_run(rt, manager, 0, Ok(0));
+    expect_same(rt, &manager.run_with_timeout(5000, rt), &Ok(1));
+    expect_same(rt, &manager.run_with_timeout(0, rt), &Ok(0));
     expect_same(rt, &endpoint.kick(rt), &Ok(()));
-    expect_run(rt, manager, -1, Ok(1));
+    expect_same(rt, &manager.run_with_timeout(-1, rt), &Ok(1));
     expect_noted(rt, notes, &[]);
 }
 
 /// Follows a course over a table.
-fn follow_over_table<N: NamedCounter, P: EventPoller, R: Host>(
+fn follow_over_table<N: NamedCounter, P: EventPoller, R: Looping>(
     rt: &R,
     manager: &mut Loop<N, P, R>,
     endpoint: &Endpoint<N, R>,
@@ -170,21 +174,21 @@ fn follow_over_table<N: NamedCounter, P: EventPoller, R: Host>(
         OverTable::Waiting => fire_counting(rt, endpoint, notes, 2),
         OverTable::DroppedEndpoint => {
             fire_and_drop(rt, manager, notes);
-            expect_run(rt, manager, -1, Ok(1));
+            expect_same(rt, &manager.run_with_timeout(-1, rt), &Ok(1));
             expect_noted(rt, notes, &[1, 2]);
         }
         OverTable::Full => {
             let refusal = Error::EventFd(Errno::EAGAIN);
             expect_refusals(rt, endpoint, refusal);
             expect_same(rt, &endpoint.kick(rt), &Err(refusal));
-            expect_run(rt, manager, -1, Ok(1));
+            expect_same(rt, &manager.run_with_timeout(-1, rt), &Ok(1));
             expect_fire(rt, endpoint, Ok(1));
         }
     }
 }
 
 /// Follows the course.
-fn follow<N: NamedCounter, P: EventPoller, R: Host>(
+fn follow<N: NamedCounter, P: EventPoller, R: Looping>(
     rt: &R,
     manager: &mut Loop<N, P, R>,
     endpoint: &Endpoint<N, R>,
@@ -198,28 +202,28 @@ fn follow<N: NamedCounter, P: EventPoller, R: Host>(
         Course::BehindRead(counter) => {
             expect_ok(rt, fire_note(rt, endpoint, notes, RAN));
             expect_same(rt, &counter.read(rt), &Ok(1));
-            expect_run(rt, manager, -1, Ok(1));
+            expect_same(rt, &manager.run_with_timeout(-1, rt), &Ok(1));
             expect_noted(rt, notes, &[RAN]);
         }
         Course::BehindKick(counter) => {
-            expect_run(rt, manager, -1, Ok(1));
+            expect_same(rt, &manager.run_with_timeout(-1, rt), &Ok(1));
             expect_same(rt, &endpoint.kick(rt), &Ok(()));
-            expect_run(rt, manager, -1, Ok(1));
+            expect_same(rt, &manager.run_with_timeout(-1, rt), &Ok(1));
             expect_same(rt, &counter.read(rt), &Ok(1));
         }
         Course::OneRun(count, noted) => {
             let own = Events::new_raw(3, EventSet::IN);
             expect_ok(rt, add_noting(rt, manager, own, DELIVERED, notes));
             expect_ok(rt, fire_note(rt, endpoint, notes, RAN));
-            expect_run(rt, manager, -1, Ok(*count));
+            expect_same(rt, &manager.run_with_timeout(-1, rt), &Ok(*count));
             expect_noted(rt, notes, noted);
-            expect_pending(rt, endpoint, 0);
+            expect_same(rt, &endpoint.pending(), &Some(0));
         }
     }
 }
 
 /// Sends one job more where jobs wait: its ticket.
-fn send_more<N: NamedCounter, R: Host>(
+fn send_more<N: NamedCounter, R: Looping>(
     rt: &R,
     endpoint: &Endpoint<N, R>,
     course: &Course<'_>,
@@ -234,7 +238,7 @@ fn send_more<N: NamedCounter, R: Host>(
 }
 
 /// Expects of endpoints of a closed manager that each send is refused and a kick agreed, and that no job is left.
-fn expect_closed<N: NamedCounter, R: Host>(
+fn expect_closed<N: NamedCounter, R: Looping>(
     rt: &R,
     endpoints: &[Endpoint<N, R>; 2],
     notes: &Notes,
@@ -245,7 +249,7 @@ fn expect_closed<N: NamedCounter, R: Host>(
         if let Some(shown) = shown {
             let refused = endpoint.fire_after(shown, Work::Own(2), rt).err();
             expect_same(rt, &refused, &Some(Error::ChannelSend));
-            expect_pending(rt, endpoint, 0);
+            expect_same(rt, &endpoint.pending(), &Some(0));
         }
     }
     let [endpoint, _] = endpoints;
@@ -254,7 +258,7 @@ fn expect_closed<N: NamedCounter, R: Host>(
 }
 
 /// Two endpoints of the manager.
-fn endpoints_of<N: NamedCounter, P: EventPoller, R: Host>(
+fn endpoints_of<N: NamedCounter, P: EventPoller, R: Looping>(
     rt: &R,
     manager: &Loop<N, P, R>,
 ) -> [Endpoint<N, R>; 2] {
@@ -266,7 +270,7 @@ fn endpoints_of<N: NamedCounter, P: EventPoller, R: Host>(
 
 /// Follows the course by the first endpoint, and closes the manager, of which so many tickets were then issued and jobs taken:
 /// the last ticket, if it may be shown.
-fn follow_and_close<N: NamedCounter, P: EventPoller + Drop, R: Host>(
+fn follow_and_close<N: NamedCounter, P: EventPoller + Drop, R: Looping>(
     rt: &R,
     manager: Loop<N, P, R>,
     endpoints: &[Endpoint<N, R>; 2],
@@ -292,7 +296,7 @@ struct Run<'a, R, P> {
     counts: (u64, u64),
 }
 
-impl<R: Host, P: EventPoller + Drop> WithLedgers for Run<'_, R, P> {
+impl<R: Looping, P: EventPoller + Drop> WithLedgers for Run<'_, R, P> {
     type Output = ();
 
     fn run<N: NamedCounter + Send + Sync>(self, counter: N, ledgers: Ledgers<N>) {
@@ -312,7 +316,7 @@ impl<R: Host, P: EventPoller + Drop> WithLedgers for Run<'_, R, P> {
 
 /// Runs the course over these parts, and closes: so many tickets must then be issued and jobs taken, no job be left, and
 /// each send be refused.
-fn expect_over<R: Host, P: EventPoller + Drop>(
+fn expect_over<R: Looping, P: EventPoller + Drop>(
     rt: &R,
     parts: Parts<P>,
     course: &Course<'_>,
@@ -331,7 +335,7 @@ fn expect_over<R: Host, P: EventPoller + Drop>(
 }
 
 /// The same over a new table, where the endpoint's counter has this value.
-fn expect_course<R: Host + Send>(
+fn expect_course<R: Looping + Send>(
     rt: R,
     alloc: Global,
     value: u64,
@@ -403,7 +407,7 @@ fn a_close_asks_the_poller_for_nothing(rt: HostRuntime) {
 type Report<'a> = &'a [(u64, EventSet)];
 
 /// The parts over a script of these reports, whose endpoint has descriptor 0 and this value.
-fn on_script<R: Host + Send>(
+fn on_script<R: Looping + Send>(
     rt: &R,
     alloc: Global,
     reports: &[Report<'_>],

@@ -1,10 +1,10 @@
 //! A job that joins a subscriber.
 
-use crate::expecting::{Host, expect_noted, expect_ok, expect_run};
 use event_manager::{
     AddSubscriber, EventManager, EventPoller, EventSet, Events, NamedCounter, RemoteEndpoint,
     Result,
 };
+use fixtures::expecting::{Looping, expect_noted, expect_ok, expect_same};
 use fixtures::making::{WithEndpoint, with_endpoint};
 use fixtures::noting::{Noting, make_noting};
 use fixtures::parts::on_table;
@@ -19,7 +19,7 @@ struct Joining<'a, R> {
     notes: &'a Notes,
 }
 
-impl<R: Host> WithEndpoint for Joining<'_, R> {
+impl<R: Looping> WithEndpoint for Joining<'_, R> {
     type Subscriber = Noting<R>;
 
     type Job = AddSubscriber<Noting<R>>;
@@ -32,12 +32,12 @@ impl<R: Host> WithEndpoint for Joining<'_, R> {
         endpoint: &RemoteEndpoint<Noting<R>, AddSubscriber<Noting<R>>, N>,
     ) -> Result<()> {
         let Joining { rt, own, notes } = self;
-        expect_run(rt, manager, 0, Ok(0));
+        expect_same(rt, &manager.run_with_timeout(0, rt), &Ok(0));
         let subscriber = expect_ok(rt, make_noting(rt, own, 1, notes));
         expect_ok(rt, endpoint.fire(AddSubscriber(subscriber), rt));
-        expect_run(rt, manager, -1, Ok(1));
+        expect_same(rt, &manager.run_with_timeout(-1, rt), &Ok(1));
         expect_noted(rt, notes, &[]);
-        expect_run(rt, manager, 0, Ok(1));
+        expect_same(rt, &manager.run_with_timeout(0, rt), &Ok(1));
         expect_noted(rt, notes, &[1]);
         Ok(())
     }
