@@ -3,12 +3,10 @@
 use event_manager::{Call, Events, Request};
 use fixtures::asking::{Asking, adds, wanted};
 use fixtures::driving::{driven, id_of};
-use fixtures::expecting::{expect, expect_ok, expect_same};
+use fixtures::expecting::{Looping, expect, expect_ok, expect_same};
 use fixtures::parts::silent_parts;
 use std::alloc::Global;
 use std::process::Abort;
-use std::sync::Wait;
-use std::time::Clock;
 use vmm_sys::epoll::{EpollEvent, EventSet};
 use vmm_sys::script_poller::ScriptPoller;
 
@@ -77,7 +75,7 @@ fn calls_beside<R: Abort>(rt: &R, alloc: Global, neighbour: Option<Asking>) -> V
 }
 
 /// Expects that the owner of 3 and 4 is given their events beside this neighbour, which has so many events.
-fn expect_beside<R: Wait + Clock + Abort + Copy + Send + Drop>(
+fn expect_beside<R: Looping + Send>(
     rt: R,
     alloc: Global,
     neighbour: Option<Asking>,

@@ -6,10 +6,9 @@ use event_manager::{
 };
 use fixtures::expecting::{Host, Looping};
 use fixtures::parts::Parts;
-use fixtures::waits::LOOKS;
+use fixtures::waits::{LOOKS, holds_within};
 use std::sync::atomic::{AtomicBool, AtomicU64, Ordering};
 use std::thread;
-use std::time::Duration;
 use vmm_sys::epoll::{ControlOperation, EpollEvent};
 use vmm_sys::errno::Errno;
 
@@ -18,13 +17,9 @@ const PATIENCE: u32 = 2;
 
 /// Looks on until it is over. Ends the test where it lasts too long.
 fn look_on<R: Looping>(rt: &R, is_over: &AtomicBool) {
-    for _look in 0..LOOKS.saturating_mul(PATIENCE) {
-        if is_over.load(Ordering::SeqCst) {
-            return;
-        }
-        thread::sleep(rt, Duration::from_millis(1));
-    }
-    panic!(rt; "a loop and its senders do not end");
+    let looks = LOOKS.saturating_mul(PATIENCE);
+    let has_ended = holds_within(rt, looks, || is_over.load(Ordering::SeqCst));
+    assert!(rt; has_ended, "a loop and its senders do not end");
 }
 
 /// As [`with_senders`] over these parts. Ends the test where that doesn't end.

@@ -1,6 +1,7 @@
 //! Loops and their senders: who runs when, what ends a loop, and what its senders then get.
 
 use crate::ending::{Counted, Course, beside_senders};
+use crate::rounds::Round;
 use event_manager::{
     Error, EventPoller, EventSet, Events, JobSender, LoopWithSenders, NamedCounter, NoJob,
     RemoteEndpoint, Result, TrackedManager,
@@ -188,40 +189,17 @@ fn a_loop_runs_behind_its_begin_and_serves_who_joined_there(rt: HostRuntime) {
     expect_same(&rt, &ended.ran, &Ok(()));
 }
 
-/// A sender that sends nothing.
-#[derive(Drop)]
-struct Nobody;
-
-impl<R: Looping> JobSender<Idle, NoJob, (), R> for Nobody {
-    fn send<N: NamedCounter>(self, _endpoint: &RemoteEndpoint<Idle, NoJob, N>, _rt: &R) {}
-}
-
-/// A loop without senders, whose batches have no room.
-#[derive(Drop)]
-struct WithoutRoom;
-
-impl<R: Looping> LoopWithSenders<Idle, NoJob, Nobody, R> for WithoutRoom {
-    fn capacity(&self) -> usize {
-        0
-    }
-
-    fn begin<N: NamedCounter, P: EventPoller>(
-        &mut self,
-        _rt: &R,
-        alloc: Global,
-        _manager: &mut TrackedManager<Idle, NoJob, N, P>,
-    ) -> Result<Vec<Nobody>> {
-        Ok(Vec::new(alloc))
-    }
-}
-
 #[test]
 fn a_loop_has_the_capacity_of_its_body_and_gives_its_poller_back(rt: HostRuntime) {
     let epoll = expect_ok(&rt, Epoll::new(rt, rt.alloc()));
     let event_fd = expect_ok(&rt, EventFd::new(&epoll, 0, &rt));
     let other = expect_ok(&rt, event_fd.try_clone());
     let parts = Parts::new(rt.alloc(), epoll, event_fd);
-    let ended = expect_ok(&rt, beside_senders(&rt, parts, &mut WithoutRoom));
+    let mut body = Round {
+        senders: 0,
+        capacity: 0,
+    };
+    let ended = expect_ok(&rt, beside_senders(&rt, parts, &mut body));
     expect_same(&rt, &ended.ran, &Err(Error::Epoll(Errno::EINVAL)));
     let mut poller = ended.poller;
     expect_ok(&rt, other.write(1, &rt));

@@ -1,10 +1,9 @@
 //! A counter of the tests' own, which no table has, and the poller that watches it.
 
 use fixtures::parts::Parts;
-use fixtures::waits::LOOKS;
+use fixtures::waits::{LOOKS, holds_within};
 use std::alloc::{AllocError, Global};
 use std::sync::{Arc, Condvar, CondvarTimeouts, Mutex, Wait};
-use std::thread;
 use std::time::{Clock, Duration};
 use vmm_sys::counter::{Bell, Counter};
 use vmm_sys::epoll::{AsRawFd, ControlOperation, EpollEvent, EventSet, RawFd};
@@ -55,13 +54,7 @@ pub struct OwnCounter {
 impl OwnCounter {
     /// Waits until a wait sleeps, and says whether one does.
     pub fn wait_for_sleeper<R: Wait + Clock>(&self, rt: &R) -> bool {
-        for _look in 0..LOOKS {
-            if self.shared.state.lock(rt).sleeping > 0 {
-                return true;
-            }
-            thread::sleep(rt, Duration::from_millis(1));
-        }
-        false
+        holds_within(rt, LOOKS, || self.shared.state.lock(rt).sleeping > 0)
     }
 
     /// How often it was cleared.

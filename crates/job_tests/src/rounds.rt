@@ -19,7 +19,7 @@ const ROUNDS: u64 = 200;
 
 /// A sender that lets others run a few times, and ends.
 #[derive(Drop)]
-struct Brief {
+pub struct Brief {
     turns: u64,
 }
 
@@ -32,13 +32,18 @@ impl<R: Looping> JobSender<Idle, NoJob, u64, R> for Brief {
     }
 }
 
-/// A loop beside so many of them.
+/// A loop beside so many of them, whose batches have so much room.
 #[derive(Drop)]
-struct Round {
-    senders: u64,
+pub struct Round {
+    pub senders: u64,
+    pub capacity: usize,
 }
 
 impl<R: Looping> LoopWithSenders<Idle, NoJob, Brief, R> for Round {
+    fn capacity(&self) -> usize {
+        self.capacity
+    }
+
     fn begin<N: NamedCounter, P: EventPoller>(
         &mut self,
         rt: &R,
@@ -62,7 +67,11 @@ fn make_round<R: Host>(rt: &R, alloc: Global, epoll: &mut Epoll<R>, senders: u64
         course: &Course::new(),
     };
     let parts = Parts::new(alloc, poller, event_fd);
-    let ended = expect_ok(rt, beside_senders(rt, parts, &mut Round { senders }));
+    let mut body = Round {
+        senders,
+        capacity: 256,
+    };
+    let ended = expect_ok(rt, beside_senders(rt, parts, &mut body));
     expect_same(rt, &ended.ran, &Ok(()));
     expect_same(rt, &(ended.sent.len() as u64), &senders);
     for (turns, sent) in (0u64..).zip(ended.sent.iter()) {

@@ -2,35 +2,18 @@
 
 use crate::ending::beside_senders;
 use event_manager::{
-    Action, ActionOn, Error, EventOps, EventPoller, Events, JobSender, LoopWithSenders,
-    MutEventSubscriber, NamedCounter, RemoteEndpoint, Result, Senders, SubscriberId,
-    TrackedManager,
+    Action, ActionOn, Error, EventPoller, JobSender, LoopWithSenders, NamedCounter, RemoteEndpoint,
+    Result, Senders, SubscriberId, TrackedManager,
 };
 use fixtures::expecting::{Looping, expect_ok, expect_same};
-use fixtures::parts::on_table;
+use fixtures::parts::{Holding, on_table};
 use fixtures::waits::wait_until_pending;
 use std::alloc::Global;
 use std::sync::Wait;
 use std::time::Clock;
 
-/// Has a value, and may be stopped.
-#[derive(Drop)]
-struct Stoppable {
-    value: u64,
-    is_stopped: bool,
-}
-
-impl MutEventSubscriber for Stoppable {
-    ghost use Rattle.std.specs.Prelude.{◌≡◌, []};
-
-    ghost begins = { λ v exchanges w. exchanges ≡ [] };
-
-    ghost serves = { λ v event exchanges w. exchanges ≡ [] };
-
-    fn process<P: EventPoller>(&mut self, _events: Events, _ops: &mut EventOps<P>) {}
-
-    fn init<P: EventPoller>(&mut self, _ops: &mut EventOps<P>) {}
-}
+/// A value, and whether its subscriber is stopped.
+type Stoppable = Holding<(u64, bool)>;
 
 /// What is done to a subscriber.
 #[derive(Clone, Copy)]
@@ -47,14 +30,14 @@ impl Action<Stoppable> for Change {
     ghost use Rattle.std.specs.Prelude.{◌≡◌};
 
     // Which change it makes is seen by what the caller is answered next.
-    ghost does = { λ self v reply w. reply ≡ v.value };
+    ghost does = { λ self v reply w. reply ≡ v.0.0 };
 
     fn act<R: Wait + Clock>(self, subscriber: &mut Stoppable, _rt: &R) -> u64 {
-        let value = subscriber.value;
+        let (value, _is_stopped) = subscriber.0;
         match self {
-            Change::Set(to) => subscriber.value = to,
+            Change::Set(to) => subscriber.0.0 = to,
             Change::Read => {}
-            Change::Stop => subscriber.is_stopped = true,
+            Change::Stop => subscriber.0.1 = true,
         }
         value
     }
@@ -98,7 +81,7 @@ fn is_stopped<N: NamedCounter, P: EventPoller>(
     id: SubscriberId,
 ) -> Result<bool> {
     match manager.subscriber(id) {
-        Ok(subscriber) => Ok(subscriber.is_stopped),
+        Ok(subscriber) => Ok(subscriber.0.1),
         Err(error) => Err(error),
     }
 }
@@ -110,11 +93,7 @@ impl<R: Looping> LoopWithSenders<Stoppable, ActionOn<Change>, Caller, R> for Cal
         alloc: Global,
         manager: &mut TrackedManager<Stoppable, ActionOn<Change>, N, P>,
     ) -> Result<Vec<Caller>> {
-        let joined = manager.add_subscriber(Stoppable {
-            value: 0,
-            is_stopped: false,
-        });
-        let id = expect_ok(rt, joined);
+        let id = expect_ok(rt, manager.add_subscriber(Holding((0, false))));
         let ids = expect_ok(rt, manager.ids(alloc));
         expect_same(rt, &ids.as_slice(), &[id].as_slice());
         self.id = Some(id);

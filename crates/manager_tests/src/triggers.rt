@@ -1,6 +1,6 @@
 //! What a trigger writes, and how long the counter is then ready.
 
-use crate::steps::three_counters_of;
+use crate::steps::{expect_values, three_counters_of};
 use event_manager::utilities::subscribers::{
     CounterInnerMutSubscriber, CounterSubscriber, CounterSubscriberWithData,
 };
@@ -31,12 +31,6 @@ fn a_trigger_writes_1_where_there_is_room(rt: HostRuntime) {
         let (event_fd, same) = counter_twice(rt, rt.alloc(), before);
         CounterSubscriber::new(same).trigger_event(&rt);
         expect_same(&rt, &event_fd.read(&rt), &Ok(after));
-    }
-}
-
-#[test]
-fn a_shared_trigger_writes_1_where_there_is_room(rt: HostRuntime) {
-    for (before, after) in ROWS {
         let (event_fd, same) = counter_twice(rt, rt.alloc(), before);
         CounterInnerMutSubscriber::new(same).trigger_event(&rt);
         expect_same(&rt, &event_fd.read(&rt), &Ok(after));
@@ -66,24 +60,17 @@ fn expect_ready<R: Host>(rt: &R, epoll: &mut Epoll<R>, count: usize) {
 #[test]
 fn a_counter_is_ready_from_trigger_to_clear(rt: HostRuntime) {
     let (mut epoll, event_fds) = wanted_counters(rt, rt.alloc());
-    let [event_fd, _second, _third] = event_fds;
+    let [event_fd, second, _third] = event_fds;
     let mut subscriber = CounterSubscriber::new(event_fd);
+    let shared = CounterInnerMutSubscriber::new(second);
     expect_ready(&rt, &mut epoll, 0);
     subscriber.trigger_event(&rt);
     expect_ready(&rt, &mut epoll, 1);
+    shared.trigger_event(&rt);
+    expect_ready(&rt, &mut epoll, 2);
     subscriber.clear_event(&rt);
-    expect_ready(&rt, &mut epoll, 0);
-}
-
-#[test]
-fn a_shared_counter_is_ready_from_trigger_to_clear(rt: HostRuntime) {
-    let (mut epoll, event_fds) = wanted_counters(rt, rt.alloc());
-    let [event_fd, _second, _third] = event_fds;
-    let subscriber = CounterInnerMutSubscriber::new(event_fd);
-    expect_ready(&rt, &mut epoll, 0);
-    subscriber.trigger_event(&rt);
     expect_ready(&rt, &mut epoll, 1);
-    subscriber.clear_event(&rt);
+    shared.clear_event(&rt);
     expect_ready(&rt, &mut epoll, 0);
 }
 
@@ -94,6 +81,5 @@ fn a_trigger_of_all_makes_three_counters_ready(rt: HostRuntime) {
     expect_ready(&rt, &mut epoll, 0);
     subscriber.trigger_all_counters(&rt);
     expect_ready(&rt, &mut epoll, 3);
-    let values = expect_ok(&rt, subscriber.get_all_counter_values());
-    expect_same(&rt, &values.as_slice(), &[0, 0, 0].as_slice());
+    expect_values(&rt, &subscriber, [0, 0, 0]);
 }
