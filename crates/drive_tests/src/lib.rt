@@ -5,11 +5,7 @@ pub mod apart;
 pub mod both;
 pub mod by_laws;
 pub mod driven_again;
-#[cfg(test)]
-mod expecting;
 pub mod going_on;
-#[cfg(test)]
-mod in_order;
 pub mod leaving;
 #[cfg(test)]
 mod lists;

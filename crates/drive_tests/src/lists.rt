@@ -1,40 +1,22 @@
 //! Lists of calls, and what they reply.
 
-use crate::expecting::{expect_ok, expect_same};
 use event_manager::{
     Call, Error, EventOps, EventPoller, Events, MutEventSubscriber, Reply, Request, Result,
 };
 use fixtures::asking::wanted;
 use fixtures::driving::{id_of, replies_to};
-use fixtures::parts::silent_parts;
+use fixtures::expecting::{Looping, expect_ok, expect_same};
+use fixtures::parts::{Holding, silent_parts};
 use std::alloc::Global;
 use std::process::Abort;
 use std::rc::Rc;
-use std::sync::Wait;
-use std::time::Clock;
 use vmm_sys::errno::Errno;
 use vmm_sys::script_poller::ScriptPoller;
-
-/// Asks for nothing, and changes nothing.
-#[derive(PartialEq, Debug, Drop)]
-struct Quiet(u64);
-
-impl MutEventSubscriber for Quiet {
-    ghost use Rattle.std.specs.Prelude.{◌≡◌, []};
-
-    ghost begins = { λ v exchanges w. (exchanges ≡ []) × (w ≡ v) };
-
-    ghost serves = { λ v event exchanges w. (exchanges ≡ []) × (w ≡ v) };
-
-    fn process<P: EventPoller>(&mut self, _events: Events, _ops: &mut EventOps<P>) {}
-
-    fn init<P: EventPoller>(&mut self, _ops: &mut EventOps<P>) {}
-}
 
 /// The replies of a new manager to the calls, over a poller that reports nothing.
 fn replies_over_nothing<R, S>(rt: R, alloc: Global, calls: Vec<Call<S>>) -> Vec<Reply<S>>
 where
-    R: Wait + Clock + Abort + Copy + Send + Drop,
+    R: Looping + Send,
     S: MutEventSubscriber + Drop,
 {
     let parts = expect_ok(&rt, silent_parts(rt, alloc, ScriptPoller::new(alloc)));
@@ -47,20 +29,20 @@ fn ids_go_up_and_an_id_that_left_is_unknown(rt: HostRuntime) {
     let second = expect_ok(&rt, id_of(rt.alloc(), 2));
     let requests = expect_ok(&rt, vec![in rt.alloc(); Request::Remove(wanted(3))]);
     let calls = vec![in rt.alloc();
-        Call::Add(Quiet(11)),
+        Call::Add(Holding(11)),
         Call::Remove(first),
-        Call::Add(Quiet(12)),
+        Call::Add(Holding(12)),
         Call::Remove(first),
-        Call::Set(second, Quiet(13)),
+        Call::Set(second, Holding(13)),
         Call::Ask(first, requests),
     ];
     let replies = replies_over_nothing(rt, rt.alloc(), expect_ok(&rt, calls));
     let expected = vec![in rt.alloc();
         Reply::Added(Ok(first)),
-        Reply::Removed(Ok(Quiet(11))),
+        Reply::Removed(Ok(Holding(11))),
         Reply::Added(Ok(second)),
         Reply::Removed(Err(Error::InvalidId)),
-        Reply::Set(Ok(Quiet(12))),
+        Reply::Set(Ok(Holding(12))),
         Reply::Asked(Err(Error::InvalidId)),
     ];
     expect_same(&rt, &replies, &expect_ok(&rt, expected));
@@ -116,10 +98,10 @@ fn three_hundred_calls_have_three_hundred_replies(rt: HostRuntime) {
     let (mut calls, mut expected) = (Vec::new(rt.alloc()), Vec::new(rt.alloc()));
     for number in 1..=150 {
         let id = expect_ok(&rt, id_of(rt.alloc(), number));
-        expect_ok(&rt, calls.push(Call::Add(Quiet(number))));
+        expect_ok(&rt, calls.push(Call::Add(Holding(number))));
         expect_ok(&rt, expected.push(Reply::Added(Ok(id))));
         expect_ok(&rt, calls.push(Call::Remove(id)));
-        expect_ok(&rt, expected.push(Reply::Removed(Ok(Quiet(number)))));
+        expect_ok(&rt, expected.push(Reply::Removed(Ok(Holding(number)))));
     }
     expect_same(&rt, &replies_over_nothing(rt, rt.alloc(), calls), &expected);
 }
@@ -149,7 +131,7 @@ fn two_hundred_requests_have_their_answers_in_order(rt: HostRuntime) {
     let (requests, answers) = requests_and_answers(&rt, rt.alloc());
     expect_same(&rt, &answers.len(), &200);
     let id = expect_ok(&rt, id_of(rt.alloc(), 1));
-    let calls = vec![in rt.alloc(); Call::Add(Quiet(11)), Call::Ask(id, requests)];
+    let calls = vec![in rt.alloc(); Call::Add(Holding(11)), Call::Ask(id, requests)];
     let replies = replies_over_nothing(rt, rt.alloc(), expect_ok(&rt, calls));
     let expected = vec![in rt.alloc(); Reply::Added(Ok(id)), Reply::Asked(Ok(answers))];
     expect_same(&rt, &replies, &expect_ok(&rt, expected));

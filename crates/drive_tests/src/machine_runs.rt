@@ -5,16 +5,16 @@ ghost use Rattle.event_manager.specs.Wants.{WantApart};
 ghost use Rattle.drive_tests.specs.Devices.{wants};
 
 use crate::apart::{Device, Machine, run_machine};
-use crate::expecting::{expect_ok, expect_same};
 use event_manager::{
     EventManager, EventPoller, Events, Ledgers, NamedCounter, Result, WithLedgers, with_ledgers,
 };
+use fixtures::expecting::{expect_ok, expect_same};
 use fixtures::parts::silent_endpoint;
+use fixtures::scripts::script_of;
 use std::alloc::Global;
 use std::sync::Wait;
 use std::time::Clock;
-use vmm_sys::epoll::{EpollEvent, EventSet, RawFd};
-use vmm_sys::script_poller::ScriptPoller;
+use vmm_sys::epoll::{EventSet, RawFd};
 
 /// A device of this descriptor, which has served nothing.
 fn device_on(fd: RawFd) -> Device
@@ -60,12 +60,7 @@ impl<P: EventPoller + Drop, R: Wait + Clock + Drop> WithLedgers for MachineRun<P
 
 #[test]
 fn a_machine_is_served(rt: HostRuntime) {
-    let mut report = Vec::new(rt.alloc());
-    for word in 3..7 {
-        expect_ok(&rt, report.push(EpollEvent::new(EventSet::IN, word)));
-    }
-    let mut poller = ScriptPoller::new(rt.alloc());
-    expect_ok(&rt, poller.push_report(report));
+    let poller = expect_ok(&rt, script_of(rt.alloc(), &[3, 4, 5, 6]));
     let counter = expect_ok(&rt, silent_endpoint(rt, rt.alloc()));
     let alloc = rt.alloc();
     let ran = with_ledgers(counter, MachineRun { alloc, poller, rt });

@@ -1,12 +1,13 @@
 //! A list of calls that is driven over a script, and again over the record of that.
 
-use crate::driven_again::{Counters, drive_over_record};
-use crate::expecting::{expect, expect_ok, expect_same};
+use crate::driven_again::Counters;
 use event_manager::utilities::subscribers::CounterSubscriber;
 use event_manager::{
-    Call, EventManager, Ledgers, NamedCounter, Reply, Result, WithLedgers, drive, with_ledgers,
+    Call, EventManager, EventPoller, Ledgers, NamedCounter, Reply, Result, WithLedgers, drive,
+    with_ledgers,
 };
 use fixtures::driving::{id_of, seen_in};
+use fixtures::expecting::{expect, expect_ok, expect_same};
 use fixtures::scripts::script_of;
 use poller_records::recording_poller::RecordingPoller;
 use poller_records::replay_poller::ReplayPoller;
@@ -16,7 +17,6 @@ use std::sync::Wait;
 use std::time::Clock;
 use vmm_sys::epoll::Epoll;
 use vmm_sys::eventfd::EventFd;
-use vmm_sys::script_poller::ScriptPoller;
 
 /// Calls for a new manager over this poller, which is handed out with their replies.
 #[derive(Drop)]
@@ -27,8 +27,8 @@ struct Driving<P, R> {
     calls: Vec<Call<CounterSubscriber>>,
 }
 
-impl<R: Wait + Clock + Drop> WithLedgers for Driving<RecordingPoller<ScriptPoller>, R> {
-    type Output = Result<(Vec<Reply<CounterSubscriber>>, RecordingPoller<ScriptPoller>)>;
+impl<P: EventPoller + Drop, R: Wait + Clock + Drop> WithLedgers for Driving<P, R> {
+    type Output = Result<(Vec<Reply<CounterSubscriber>>, P)>;
 
     fn run<N: NamedCounter + Send + Sync>(self, counter: N, ledgers: Ledgers<N>) -> Self::Output {
         let Driving {
@@ -40,26 +40,8 @@ impl<R: Wait + Clock + Drop> WithLedgers for Driving<RecordingPoller<ScriptPolle
         let mut manager: Counters<N, _> = EventManager::new(alloc, poller, counter, ledgers)?;
         let mut replies = Vec::new(alloc);
         drive(&mut manager, calls, &mut replies, &rt)?;
-        let (_closed, _left, recording) = manager.into_parts(&rt);
-        Ok((replies, recording))
-    }
-}
-
-impl<R: Wait + Clock + Drop> WithLedgers for Driving<ReplayPoller, R> {
-    type Output = Result<(Vec<Reply<CounterSubscriber>>, ReplayPoller)>;
-
-    fn run<N: NamedCounter + Send + Sync>(self, counter: N, ledgers: Ledgers<N>) -> Self::Output {
-        let Driving {
-            rt,
-            alloc,
-            poller,
-            calls,
-        } = self;
-        let mut manager: Counters<N, _> = EventManager::new(alloc, poller, counter, ledgers)?;
-        let mut replies = Vec::new(alloc);
-        drive_over_record::<ScriptPoller, _, _>(&mut manager, calls, &mut replies, &rt)?;
-        let (_closed, _left, replay) = manager.into_parts(&rt);
-        Ok((replies, replay))
+        let (_closed, _left, poller) = manager.into_parts(&rt);
+        Ok((replies, poller))
     }
 }
 

@@ -1,15 +1,14 @@
 //! A subscriber that asks for nothing after its `init` is given the same beside any neighbour as alone.
 
-use crate::expecting::{expect, expect_ok, expect_same};
 use event_manager::{Call, Events, Request};
 use fixtures::asking::{Asking, adds, wanted};
 use fixtures::driving::{driven, id_of};
+use fixtures::expecting::{Looping, expect, expect_ok, expect_same};
 use fixtures::parts::silent_parts;
+use fixtures::scripts::push_events;
 use std::alloc::Global;
 use std::process::Abort;
-use std::sync::Wait;
-use std::time::Clock;
-use vmm_sys::epoll::{EpollEvent, EventSet};
+use vmm_sys::epoll::EventSet;
 use vmm_sys::script_poller::ScriptPoller;
 
 const IN: EventSet = EventSet::IN;
@@ -17,27 +16,23 @@ const IN: EventSet = EventSet::IN;
 const OUT: EventSet = EventSet::OUT;
 
 /// Three reports, of descriptors from 3 to 8.
-const REPORTS: [&[(EventSet, u64)]; 3] = [
+const REPORTS: [&[(u64, EventSet)]; 3] = [
     &[
-        (IN, 3),
-        (IN, 5),
-        (IN, (7 << 32) + 4),
-        (IN, 6),
-        (IN, (1 << 32) + 3),
+        (3, IN),
+        (5, IN),
+        ((7 << 32) + 4, IN),
+        (6, IN),
+        ((1 << 32) + 3, IN),
     ],
-    &[(IN, 5), (OUT, 3), (IN, 6)],
-    &[(OUT, 4), (IN, 8), (IN, 3)],
+    &[(5, IN), (3, OUT), (6, IN)],
+    &[(4, OUT), (8, IN), (3, IN)],
 ];
 
 /// The poller that gives these reports.
 fn three_reports<R: Abort>(rt: &R, alloc: Global) -> ScriptPoller {
     let mut script = ScriptPoller::new(alloc);
     for events in REPORTS {
-        let mut report = Vec::new(alloc);
-        for &(set, word) in events {
-            expect_ok(rt, report.push(EpollEvent::new(set, word)));
-        }
-        expect_ok(rt, script.push_report(report));
+        expect_ok(rt, push_events(&mut script, alloc, events));
     }
     script
 }
@@ -77,7 +72,7 @@ fn calls_beside<R: Abort>(rt: &R, alloc: Global, neighbour: Option<Asking>) -> V
 }
 
 /// Expects that the owner of 3 and 4 is given their events beside this neighbour, which has so many events.
-fn expect_beside<R: Wait + Clock + Abort + Copy + Send + Drop>(
+fn expect_beside<R: Looping + Send>(
     rt: R,
     alloc: Global,
     neighbour: Option<Asking>,

@@ -1,45 +1,44 @@
 //! A job that joins a subscriber.
 
-use crate::expecting::{Host, expect_noted, expect_ok, expect_run};
 use event_manager::{
-    AddSubscriber, EventManager, EventPoller, EventSet, Events, NamedCounter, RemoteEndpoint,
-    Result,
+    AddSubscriber, EventPoller, EventSet, Events, Ledgers, NamedCounter, WithLedgers, with_ledgers,
 };
-use fixtures::making::{WithEndpoint, with_endpoint};
+use fixtures::expecting::{Looping, expect_noted, expect_ok, expect_same};
+use fixtures::making::make;
 use fixtures::noting::{Noting, make_noting};
-use fixtures::parts::on_table;
+use fixtures::parts::{Parts, on_table};
 use fixtures::work::{Notes, new_notes};
 use vmm_sys::eventfd::EventFd;
 
 /// A job adds a subscriber of this descriptor, which has an event at each run.
 #[derive(Drop)]
-struct Joining<'a, R> {
+struct Joining<'a, R, P> {
     rt: &'a R,
+    parts: Parts<P, ()>,
     own: Events,
     notes: &'a Notes,
 }
 
-impl<R: Host> WithEndpoint for Joining<'_, R> {
-    type Subscriber = Noting<R>;
-
-    type Job = AddSubscriber<Noting<R>>;
-
+impl<R: Looping, P: EventPoller + Drop> WithLedgers for Joining<'_, R, P> {
     type Output = ();
 
-    fn run<N: NamedCounter, P: EventPoller>(
-        self,
-        manager: &mut EventManager<Noting<R>, AddSubscriber<Noting<R>>, N, P>,
-        endpoint: &RemoteEndpoint<Noting<R>, AddSubscriber<Noting<R>>, N>,
-    ) -> Result<()> {
-        let Joining { rt, own, notes } = self;
-        expect_run(rt, manager, 0, Ok(0));
+    fn run<N: NamedCounter + Send + Sync>(self, counter: N, ledgers: Ledgers<N>) {
+        let Joining {
+            rt,
+            parts,
+            own,
+            notes,
+        } = self;
+        let made = make::<Noting<R>, AddSubscriber<Noting<R>>, N, P>(parts, counter, ledgers);
+        let mut manager = expect_ok(rt, made);
+        let endpoint = expect_ok(rt, manager.remote_endpoint());
+        expect_same(rt, &manager.run_with_timeout(0, rt), &Ok(0));
         let subscriber = expect_ok(rt, make_noting(rt, own, 1, notes));
         expect_ok(rt, endpoint.fire(AddSubscriber(subscriber), rt));
-        expect_run(rt, manager, -1, Ok(1));
+        expect_same(rt, &manager.run_with_timeout(-1, rt), &Ok(1));
         expect_noted(rt, notes, &[]);
-        expect_run(rt, manager, 0, Ok(1));
+        expect_same(rt, &manager.run_with_timeout(0, rt), &Ok(1));
         expect_noted(rt, notes, &[1]);
-        Ok(())
     }
 }
 
@@ -48,10 +47,12 @@ fn a_job_joins_a_subscriber(rt: HostRuntime) {
     let notes = expect_ok(&rt, new_notes(rt.alloc()));
     let parts = expect_ok(&rt, on_table(rt, rt.alloc(), 0));
     let event_fd = expect_ok(&rt, EventFd::new(&parts.poller, 0, &rt));
+    let (counter, parts) = parts.split();
     let body = Joining {
         rt: &rt,
+        parts,
         own: Events::new(&event_fd, EventSet::OUT),
         notes: &notes,
     };
-    expect_ok(&rt, with_endpoint(parts, body));
+    with_ledgers(counter, body);
 }

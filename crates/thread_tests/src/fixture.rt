@@ -1,7 +1,7 @@
 //! The job that the senders send, and what it counts in.
 
-use crate::host::expect_ok;
 use event_manager::{EventPoller, Job, MutEventSubscriber, Registry, RemoteEndpoint};
+use fixtures::expecting::{Looping, expect_ok, expect_same};
 use fixtures::parts::Idle;
 use std::alloc::Global;
 use std::hint;
@@ -9,6 +9,7 @@ use std::process::Abort;
 use std::sync::atomic::{AtomicBool, AtomicU64, Ordering};
 use std::sync::{Arc, Wait};
 use std::time::Clock;
+use test_rounds::Rounds;
 
 /// What a sender, the jobs and who looks on share.
 #[derive(Drop)]
@@ -76,4 +77,14 @@ pub fn spin(turns: u64) {
     for _ in 0..turns {
         hint::spin_loop();
     }
+}
+
+/// How many rounds there are at least, however busy the machine is.
+const LEAST_ROUNDS: u64 = 100;
+
+/// Looks on until the rounds have ended. Expects that they do, and that there were many.
+pub fn look_on<R: Looping>(rt: &R, rounds: &Rounds) {
+    expect_same(rt, &rounds.look_on(rt), &true);
+    let counted = rounds.counted();
+    assert!(rt; counted >= LEAST_ROUNDS, "{counted} rounds show nothing");
 }

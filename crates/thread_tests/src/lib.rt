@@ -7,8 +7,6 @@ mod closing;
 #[cfg(test)]
 mod fixture;
 #[cfg(test)]
-mod host;
-#[cfg(test)]
 mod senders;
 #[cfg(test)]
 mod sending;

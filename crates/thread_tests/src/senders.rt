@@ -6,10 +6,10 @@
 
 ghost use Rattle.std.specs.Prelude.{◌≡◌};
 
-use crate::host::{Host, expect_ok, expect_same};
 use event_manager::{
     Closed, EventManager, Ledgers, Named, NamedCounter, Naming, RemoteEndpoint, Result, Ticket,
 };
+use fixtures::expecting::{Host, expect_ok, expect_same};
 use fixtures::making::make;
 use fixtures::parts::{Idle, OnTable, on_table};
 use fixtures::waits::wait_until_pending;
@@ -43,21 +43,6 @@ struct Sending<'a, N: NamedCounter> {
     ended: AtomicU64,
 }
 
-/// Sends a job that notes this after the shown ticket, if any: its ticket.
-fn send_after<N: NamedCounter, R: Host>(
-    rt: &R,
-    endpoint: &Sender<N>,
-    shown: &Option<Ticket<N>>,
-    notes: &Notes,
-    number: u64,
-) -> Result<Ticket<N>> {
-    let job = Work::Note(expect_ok(rt, notes.clone()), number);
-    match shown {
-        Some(shown) => endpoint.fire_after(shown, job, rt),
-        None => endpoint.fire(job, rt),
-    }
-}
-
 /// Keeps a ticket among all.
 fn keep<N: NamedCounter, R: Host>(rt: &R, sending: &Sending<'_, N>, ticket: Option<Ticket<N>>) {
     if let Some(ticket) = ticket {
@@ -65,7 +50,7 @@ fn keep<N: NamedCounter, R: Host>(rt: &R, sending: &Sending<'_, N>, ticket: Opti
     }
 }
 
-/// Sends so many jobs, each after the one before, and keeps their tickets.
+/// Sends so many jobs, each after the one before, keeps their tickets, and counts itself as ended.
 fn send_many<N: NamedCounter, R: Host>(
     rt: &R,
     endpoint: &Sender<N>,
@@ -75,24 +60,15 @@ fn send_many<N: NamedCounter, R: Host>(
 ) {
     let mut shown = None;
     for number in 1..=count {
-        let ticket = send_after(rt, endpoint, &shown, notes, number).ok();
+        let job = Work::Note(expect_ok(rt, notes.clone()), number);
+        let sent = match &shown {
+            Some(shown) => endpoint.fire_after(shown, job, rt),
+            None => endpoint.fire(job, rt),
+        };
         keep(rt, sending, shown);
-        shown = ticket;
+        shown = sent.ok();
     }
     keep(rt, sending, shown);
-}
-
-/// Sends as the sender of this index, and counts it as ended.
-fn send_as<N: NamedCounter, R: Host>(
-    rt: &R,
-    endpoint: &Sender<N>,
-    sending: &Sending<'_, N>,
-    sender: usize,
-    count: u64,
-) {
-    if let Some(notes) = sending.notes.get(sender) {
-        send_many(rt, endpoint, sending, notes, count);
-    }
     sending.ended.fetch_add(1, Ordering::SeqCst);
 }
 
@@ -108,20 +84,13 @@ fn send_all<N: NamedCounter + Send + Sync, R: Host>(
         rt,
         alloc,
         sending.notes.len(),
-        &|sender| { send_as(rt, endpoint, sending, sender, count) },
+        &|sender| {
+            if let Some(notes) = sending.notes.get(sender) {
+                send_many(rt, endpoint, sending, notes, count);
+            }
+        },
     );
     expect_same(rt, &sent.is_ok(), &true);
-}
-
-/// Runs once when so many jobs wait.
-fn run_behind<N: NamedCounter, R: Host>(
-    rt: &R,
-    manager: &mut Loop<N, R>,
-    endpoint: &Sender<N>,
-    total: usize,
-) {
-    expect_same(rt, &wait_until_pending(rt, endpoint, total), &true);
-    expect_same(rt, &manager.run(rt), &Ok(1));
 }
 
 /// Runs until so many senders have ended and no job waits.
@@ -150,7 +119,11 @@ fn run_planned<N: NamedCounter, R: Host>(
 ) {
     match plan.runs_beside {
         true => run_beside(rt, manager, endpoint, &sending.ended, sending.notes.len()),
-        false => run_behind(rt, manager, endpoint, total_of(sending, plan)),
+        false => {
+            let total = total_of(sending, plan);
+            expect_same(rt, &wait_until_pending(rt, endpoint, total), &true);
+            expect_same(rt, &manager.run(rt), &Ok(1));
+        }
     }
 }
 
@@ -176,16 +149,6 @@ fn send_beside_loop<N: NamedCounter + Send + Sync, R: Host>(
     expect_same(rt, &endpoint.pending(), &Some(0));
 }
 
-/// Expects that these are all the tickets, or that they aren't.
-fn expect_gathered<N: NamedCounter, R: Host>(
-    rt: &R,
-    closed: &mut Closed<N>,
-    tickets: &mut Vec<Ticket<N>>,
-    are_all: bool,
-) {
-    expect_same(rt, &closed.gather(tickets), &are_all);
-}
-
 /// Expects that so many tickets were issued and jobs taken, that these are all, and not so without the last of them.
 fn expect_all<N: NamedCounter, R: Host>(
     rt: &R,
@@ -195,12 +158,12 @@ fn expect_all<N: NamedCounter, R: Host>(
 ) {
     expect_same(rt, &(closed.issued(), closed.taken()), &(count, count));
     let last = tickets.pop();
-    expect_gathered(rt, closed, tickets, false);
+    expect_same(rt, &closed.gather(tickets), &false);
     expect_same(rt, &(tickets.len() as u64), &count.saturating_sub(1));
     if let Some(last) = last {
         let _ = tickets.push(last);
     }
-    expect_gathered(rt, closed, tickets, true);
+    expect_same(rt, &closed.gather(tickets), &true);
 }
 
 /// Senders of a manager of these parts, and its close.
@@ -234,12 +197,16 @@ fn send_on<N: Naming + Send + Sync, R: Host>(
     expect_all(rt, &mut closed, &mut sending.tickets.lock(rt), total);
 }
 
-/// Expects of as many senders as there are notes that all they send is run, in the order of each.
-fn expect_sent<R: Host>(rt: &R, alloc: Global, notes: &[Notes], plan: Plan) {
+/// Expects of so many senders that all they send is run, in the order of each.
+fn expect_sent<R: Host>(rt: &R, alloc: Global, senders: usize, plan: Plan) {
+    let mut notes = Vec::new(alloc);
+    for _sender in 0..senders {
+        expect_ok(rt, notes.push(expect_ok(rt, new_notes(alloc))));
+    }
     let parts = expect_ok(rt, on_table(*rt, alloc, 0));
     let tickets = Blank::new(9223372036854775808);
-    send_on::<Brand, R>(rt, parts, notes, plan, tickets, Blank::new(1));
-    for noted in notes {
+    send_on::<Brand, R>(rt, parts, &notes, plan, tickets, Blank::new(1));
+    for noted in &notes {
         expect_same(rt, &count_of(rt, noted), &Some(plan.count as usize));
     }
 }
@@ -250,12 +217,7 @@ fn two_threads_send_fifty_each(rt: HostRuntime) {
         count: 50,
         runs_beside: false,
     };
-    let alloc = rt.alloc();
-    let notes = [
-        expect_ok(&rt, new_notes(alloc)),
-        expect_ok(&rt, new_notes(alloc)),
-    ];
-    expect_sent(&rt, alloc, &notes, plan);
+    expect_sent(&rt, rt.alloc(), 2, plan);
 }
 
 #[test]
@@ -264,11 +226,5 @@ fn three_threads_send_a_thousand_each(rt: HostRuntime) {
         count: 1000,
         runs_beside: true,
     };
-    let alloc = rt.alloc();
-    let notes = [
-        expect_ok(&rt, new_notes(alloc)),
-        expect_ok(&rt, new_notes(alloc)),
-        expect_ok(&rt, new_notes(alloc)),
-    ];
-    expect_sent(&rt, alloc, &notes, plan);
+    expect_sent(&rt, rt.alloc(), 3, plan);
 }

@@ -2,14 +2,14 @@
 
 ghost use Rattle.std.specs.Prelude.{◌≡◌};
 
-use crate::host::{Host, Looping, expect_ok, expect_same};
 use crate::watched::{Drops, Guest, Reporter, Task, Watched};
 use event_manager::{
     Error, EventPoller, JobSender, Ledgers, LoopWithSenders, Named, NamedCounter, Naming,
     RemoteEndpoint, Result, Senders, SubscriberOps, Ticket, TrackedManager, with_senders,
 };
+use fixtures::expecting::{Host, Looping, expect_ok, expect_same};
 use fixtures::making::make;
-use fixtures::parts::{OnTable, Parts, on_table};
+use fixtures::parts::{Holding, OnTable, Parts, on_table};
 use fixtures::waits::{wait_until_ended, wait_until_pending};
 use std::alloc::Global;
 use std::marker::Brand;
@@ -265,7 +265,7 @@ fn close_beside<N: Naming + Send + Sync, R: Host>(
         rt,
         make::<Guest<R>, Task<R>, Named<N, EventFd>, _>(parts, Named::new(counter), ledgers),
     );
-    let guest = Guest(Some(expect_ok(rt, Watched::new(drops, *rt))));
+    let guest = Holding(Some(expect_ok(rt, Watched::new(drops, *rt))));
     expect_ok(rt, manager.add_subscriber(guest));
     let endpoint = expect_ok(rt, manager.remote_endpoint());
     thread::join(

@@ -1,12 +1,13 @@
 //! Values whose drop is counted, and lasts until another thread has looked on; what may hold one.
 
-use event_manager::{EventOps, EventPoller, Events, Job, MutEventSubscriber, Registry};
+use event_manager::{EventPoller, Events, Job, MutEventSubscriber, Registry};
+use fixtures::parts::Holding;
+use fixtures::waits::holds_within;
 use fixtures::work::LIMIT;
 use std::alloc::{AllocError, Global};
 use std::sync::atomic::{AtomicBool, AtomicU64, Ordering};
 use std::sync::{Arc, Wait};
-use std::thread;
-use std::time::{Clock, Duration};
+use std::time::Clock;
 use vmm_sys::epoll::{ControlOperation, EpollEvent, EventSet};
 use vmm_sys::errno::Errno;
 
@@ -32,13 +33,7 @@ impl Drops {
 
     /// Waits until one has begun, and says whether one has.
     pub fn wait_for_one<R: Clock>(&self, rt: &R) -> bool {
-        for _turn in 0..LIMIT {
-            if self.count() > 0 {
-                return true;
-            }
-            thread::sleep(rt, Duration::from_millis(1));
-        }
-        false
+        holds_within(rt, LIMIT, || self.count() > 0)
     }
 
     pub fn let_end(&self) {
@@ -48,12 +43,7 @@ impl Drops {
     /// Counts one more, and waits until it may end.
     fn begin<R: Clock>(&self, rt: &R) {
         self.begun.fetch_add(1, Ordering::SeqCst);
-        for _turn in 0..LIMIT {
-            if self.may_end.load(Ordering::SeqCst) {
-                break;
-            }
-            thread::sleep(rt, Duration::from_millis(1));
-        }
+        holds_within(rt, LIMIT, || self.may_end.load(Ordering::SeqCst));
     }
 }
 
@@ -106,21 +96,8 @@ impl<S: MutEventSubscriber, R: Clock + Drop> Job<S> for Task<R> {
     }
 }
 
-/// A subscriber that holds a value, and asks for nothing.
-#[derive(Drop)]
-pub struct Guest<R: Clock + Drop>(pub Option<Watched<R>>);
-
-impl<R: Clock + Drop> MutEventSubscriber for Guest<R> {
-    ghost use Rattle.std.specs.Prelude.{◌≡◌, []};
-
-    ghost begins = { λ v exchanges w. exchanges ≡ [] };
-
-    ghost serves = { λ v event exchanges w. exchanges ≡ [] };
-
-    fn process<P: EventPoller>(&mut self, _events: Events, _ops: &mut EventOps<P>) {}
-
-    fn init<P: EventPoller>(&mut self, _ops: &mut EventOps<P>) {}
-}
+/// A subscriber that holds a value.
+pub type Guest<R> = Holding<Option<Watched<R>>>;
 
 /// A poller that agrees to all, and reports the descriptor 0 at each wait.
 #[derive(Drop)]
