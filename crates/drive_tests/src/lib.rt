@@ -5,6 +5,8 @@ pub mod apart;
 pub mod both;
 pub mod by_laws;
 pub mod driven_again;
+#[cfg(test)]
+mod expecting;
 pub mod going_on;
 pub mod leaving;
 #[cfg(test)]

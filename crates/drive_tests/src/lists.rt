@@ -1,11 +1,11 @@
 //! Lists of calls, and what they reply.
 
+use crate::expecting::{Looping, expect_ok, expect_same};
 use event_manager::{
     Call, Error, EventOps, EventPoller, Events, MutEventSubscriber, Reply, Request, Result,
 };
 use fixtures::asking::wanted;
 use fixtures::driving::{id_of, replies_to};
-use fixtures::expecting::{Looping, expect_ok, expect_same};
 use fixtures::parts::{Holding, silent_parts};
 use std::alloc::Global;
 use std::process::Abort;

@@ -5,10 +5,10 @@ ghost use Rattle.event_manager.specs.Wants.{WantApart};
 ghost use Rattle.drive_tests.specs.Devices.{wants};
 
 use crate::apart::{Device, Machine, run_machine};
+use crate::expecting::{expect_ok, expect_same};
 use event_manager::{
     EventManager, EventPoller, Events, Ledgers, NamedCounter, Result, WithLedgers, with_ledgers,
 };
-use fixtures::expecting::{expect_ok, expect_same};
 use fixtures::parts::silent_endpoint;
 use fixtures::scripts::script_of;
 use std::alloc::Global;

@@ -1,13 +1,13 @@
 //! A list of calls that is driven over a script, and again over the record of that.
 
 use crate::driven_again::Counters;
+use crate::expecting::{expect, expect_ok, expect_same};
 use event_manager::utilities::subscribers::CounterSubscriber;
 use event_manager::{
     Call, EventManager, EventPoller, Ledgers, NamedCounter, Reply, Result, WithLedgers, drive,
     with_ledgers,
 };
 use fixtures::driving::{id_of, seen_in};
-use fixtures::expecting::{expect, expect_ok, expect_same};
 use fixtures::scripts::script_of;
 use poller_records::recording_poller::RecordingPoller;
 use poller_records::replay_poller::ReplayPoller;

@@ -1,12 +1,12 @@
 //! A loop of one meter, beside one who sends actions.
 
+use crate::expecting::{expect_ok, expect_same};
 use crate::going_on::{Advance, Meter, run_meters};
 use event_manager::{
     ActionOn, EventPoller, Events, JobSender, LoopWithSenders, NamedCounter, RemoteEndpoint,
     Result, SubscriberId, TrackedManager,
 };
 use fixtures::asking::wanted;
-use fixtures::expecting::{expect_ok, expect_same};
 use fixtures::parts::{Parts, on_table};
 use std::alloc::Global;
 use std::process::Abort;

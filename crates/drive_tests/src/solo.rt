@@ -1,9 +1,9 @@
 //! A subscriber that asks for nothing after its `init` is given the same beside any neighbour as alone.
 
+use crate::expecting::{Looping, expect, expect_ok, expect_same};
 use event_manager::{Call, Events, Request};
 use fixtures::asking::{Asking, adds, wanted};
 use fixtures::driving::{driven, id_of};
-use fixtures::expecting::{Looping, expect, expect_ok, expect_same};
 use fixtures::parts::silent_parts;
 use fixtures::scripts::push_events;
 use std::alloc::Global;

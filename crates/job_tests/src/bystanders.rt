@@ -1,6 +1,6 @@
 //! Threads that sleep in waits of a table: who tells of a change there has to wake them, and is held up for a while.
 
-use fixtures::expecting::{Host, expect_ok};
+use crate::expecting::{Host, expect_ok};
 use std::alloc::Global;
 use std::sync::Arc;
 use std::sync::atomic::{AtomicBool, Ordering};

@@ -2,11 +2,11 @@
 //! close, that wakes it.
 
 use crate::ending::beside_senders;
+use crate::expecting::{Host, Looping, expect_noted, expect_ok, expect_same};
 use event_manager::{
     Error, EventPoller, JobSender, LoopWithSenders, NamedCounter, RemoteEndpoint, Result, Senders,
     TrackedManager,
 };
-use fixtures::expecting::{Host, Looping, expect_noted, expect_ok, expect_same};
 use fixtures::parts::{Idle, on_table};
 use fixtures::waits::wait_until_pending;
 use fixtures::work::{Notes, Work, new_notes};

@@ -1,10 +1,10 @@
 //! Courses of calls of a manager and of its endpoints, each ended by a close.
 
+use crate::expecting::{Looping, expect_noted, expect_ok, expect_same};
 use event_manager::{
     Error, EventManager, EventPoller, EventSet, Events, Ledgers, NamedCounter, RemoteEndpoint,
     Result, Ticket, WithLedgers, with_ledgers,
 };
-use fixtures::expecting::{Looping, expect_noted, expect_ok, expect_same};
 use fixtures::making::make;
 use fixtures::noting::{Noting, add_noting};
 use fixtures::parts::{Parts, on_table};

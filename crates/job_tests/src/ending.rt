@@ -1,10 +1,10 @@
 //! A loop and its senders, looked at from outside with a bound, and a poller whose waits have one.
 
+use crate::expecting::{Host, Looping};
 use event_manager::{
     Counter, Ended, EventPoller, Events, Job, JobSender, LoopWithSenders, MutEventSubscriber,
     Result, with_senders,
 };
-use fixtures::expecting::{Host, Looping};
 use fixtures::parts::Parts;
 use fixtures::waits::{LOOKS, holds_within};
 use std::sync::atomic::{AtomicBool, AtomicU64, Ordering};

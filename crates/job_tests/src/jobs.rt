@@ -1,9 +1,9 @@
 //! The queue of jobs, and the account of a list of sends, takes and closes.
 
+use crate::expecting::{expect_ok, expect_same};
 use crate::heard::send_heard;
 use event_manager::jobs::{JobQueue, Step, replay};
 use event_manager::{Bell, Error};
-use fixtures::expecting::{expect_ok, expect_same};
 use std::alloc::Global;
 use std::process::Abort;
 use std::sync::Wait;

@@ -1,9 +1,9 @@
 //! A job that joins a subscriber.
 
+use crate::expecting::{Looping, expect_noted, expect_ok, expect_same};
 use event_manager::{
     AddSubscriber, EventPoller, EventSet, Events, Ledgers, NamedCounter, WithLedgers, with_ledgers,
 };
-use fixtures::expecting::{Looping, expect_noted, expect_ok, expect_same};
 use fixtures::making::make;
 use fixtures::noting::{Noting, make_noting};
 use fixtures::parts::{Parts, on_table};

@@ -10,6 +10,8 @@ mod callers;
 mod courses;
 #[cfg(test)]
 mod ending;
+#[cfg(test)]
+mod expecting;
 pub mod heard;
 #[cfg(test)]
 mod jobs;

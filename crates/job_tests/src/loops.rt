@@ -1,12 +1,12 @@
 //! Loops and their senders: who runs when, what ends a loop, and what its senders then get.
 
 use crate::ending::{Counted, Course, beside_senders};
+use crate::expecting::{Host, Looping, expect_ok, expect_same};
 use crate::rounds::Round;
 use event_manager::{
     Error, EventPoller, EventSet, Events, JobSender, LoopWithSenders, NamedCounter, NoJob,
     RemoteEndpoint, Result, TrackedManager,
 };
-use fixtures::expecting::{Host, Looping, expect_ok, expect_same};
 use fixtures::noting::{Noting, make_noting};
 use fixtures::parts::{Idle, Parts, on_table, silent_parts};
 use fixtures::waits::{is_counted_within, wait_until_counted, wait_until_noted};

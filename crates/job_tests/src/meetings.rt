@@ -2,13 +2,13 @@
 //! answered.
 
 use crate::ending::beside_senders;
+use crate::expecting::{Host, Looping, expect_noted, expect_ok, expect_same};
 use crate::own_counter::{HIGHEST, OwnCounter, OwnPoller, own_parts};
 use event_manager::{
     Counter, Error, EventPoller, EventSet, Events, JobSender, LoopWithSenders, NamedCounter,
     RemoteEndpoint, Request, Result, Senders, TrackedManager,
 };
 use fixtures::asking::Asking;
-use fixtures::expecting::{Host, Looping, expect_noted, expect_ok, expect_same};
 use fixtures::making::no_memory;
 use fixtures::parts::{Parts, on_table, silent_parts};
 use fixtures::scripts::push_words;

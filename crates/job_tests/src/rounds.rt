@@ -2,11 +2,11 @@
 
 use crate::bystanders::{start_bystanders, stop_bystanders};
 use crate::ending::{Counted, Course, beside_senders};
+use crate::expecting::{Host, Looping, expect_ok, expect_same};
 use event_manager::{
     EventPoller, JobSender, LoopWithSenders, NamedCounter, NoJob, RemoteEndpoint, Result,
     TrackedManager,
 };
-use fixtures::expecting::{Host, Looping, expect_ok, expect_same};
 use fixtures::parts::{Idle, Parts};
 use std::alloc::Global;
 use std::thread;

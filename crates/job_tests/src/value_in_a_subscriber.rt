@@ -1,11 +1,11 @@
 //! A caller that sets and reads a value of a subscriber, and stops it.
 
 use crate::ending::beside_senders;
+use crate::expecting::{Looping, expect_ok, expect_same};
 use event_manager::{
     Action, ActionOn, Error, EventPoller, JobSender, LoopWithSenders, NamedCounter, RemoteEndpoint,
     Result, Senders, SubscriberId, TrackedManager,
 };
-use fixtures::expecting::{Looping, expect_ok, expect_same};
 use fixtures::parts::{Holding, on_table};
 use fixtures::waits::wait_until_pending;
 use std::alloc::Global;

@@ -1,9 +1,9 @@
 //! A boxed subscriber in a manager.
 
+use crate::expecting::{expect_ok, expect_same};
 use crate::forms::Boxable;
 use event_manager::{BoxedSubscriber, StepSubscriber};
 use fixtures::asking::wanted;
-use fixtures::expecting::{expect_ok, expect_same};
 use fixtures::parts::silent_parts;
 use fixtures::runs::run_alone;
 use fixtures::scripts::script_of;

@@ -1,8 +1,8 @@
 //! Subscribers in cells and under locks.
 
+use crate::expecting::{Host, Looping, expect, expect_ok, expect_same};
 use event_manager::{EventManager, EventPoller, Locked, NamedCounter, NoJob, SubscriberOps};
 use fixtures::counting::{Counting, counting_on};
-use fixtures::expecting::{Host, Looping, expect, expect_ok, expect_same};
 use fixtures::making::{WithManager, with_manager};
 use fixtures::parts::{Parts, silent_parts};
 use fixtures::runs::run_alone;

@@ -1,9 +1,9 @@
 //! A descriptor that is closed before its owner has removed it.
 
+use crate::expecting::{Host, expect_ok, expect_same};
 use crate::steps::counter_of;
 use event_manager::{Error, EventLoop, EventPoller, Events, Request, SubscriberId, SubscriberOps};
 use fixtures::asking::Asking;
-use fixtures::expecting::{Host, expect_ok, expect_same};
 use std::alloc::Global;
 use std::process::Abort;
 use vmm_sys::epoll::{AsRawFd, Epoll, EventSet};

@@ -1,10 +1,10 @@
 //! What a close of a manager drops, and when.
 
+use crate::expecting::{expect, expect_ok, expect_same};
 use event_manager::{
     EventManager, EventOps, EventPoller, Events, Job, Ledgers, MutEventSubscriber, NamedCounter,
     Registry, Result, SubscriberOps, WithLedgers, with_ledgers,
 };
-use fixtures::expecting::{expect, expect_ok, expect_same};
 use fixtures::parts::{Parts, silent_parts};
 use std::sync::Wait;
 use std::sync::atomic::{AtomicU64, Ordering};

@@ -1,8 +1,8 @@
 //! What calls cost beside many others: none of them looks at these, so the same calls take about as long as beside few.
 
+use crate::expecting::{expect, expect_ok};
 use crate::forms::Renewing;
 use event_manager::{EventLoop, EventSet, Events, SubscriberId, SubscriberOps};
-use fixtures::expecting::{expect, expect_ok};
 use std::alloc::Global;
 use std::process::Abort;
 use std::time::{Clock, Duration, Instant};

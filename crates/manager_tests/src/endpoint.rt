@@ -1,7 +1,7 @@
 //! When the endpoint's counter is read.
 
+use crate::expecting::{Looping, expect, expect_ok, expect_same};
 use event_manager::{Error, EventOps, EventPoller, Events, MutEventSubscriber, Result};
-use fixtures::expecting::{Looping, expect, expect_ok, expect_same};
 use fixtures::parts::{Idle, Parts};
 use fixtures::runs::{run_alone, run_over};
 use fixtures::scripts::{script_of, script_of_words};

@@ -1,8 +1,8 @@
 //! Events of a counter's descriptor.
 
+use crate::expecting::{Host, expect_ok, expect_same};
 use crate::steps::counter_of;
 use event_manager::Events;
-use fixtures::expecting::{Host, expect_ok, expect_same};
 use std::alloc::Global;
 use std::process::Abort;
 use vmm_sys::epoll::{AsRawFd, Epoll, EventSet};

@@ -1,11 +1,11 @@
 //! A poller that refuses one of its calls, whichever it is.
 
+use crate::expecting::{Looping, expect_ok, expect_same};
 use event_manager::{
     Call, Error, EventOps, EventPoller, Events, MutEventSubscriber, Request, Result,
 };
 use fixtures::asking::wanted;
 use fixtures::driving::{Seen, driven, id_of};
-use fixtures::expecting::{Looping, expect_ok, expect_same};
 use fixtures::parts::silent_parts;
 use fixtures::scripts::script_of;
 use std::alloc::Global;

@@ -17,6 +17,8 @@ mod endpoint;
 #[cfg(test)]
 mod events;
 #[cfg(test)]
+mod expecting;
+#[cfg(test)]
 mod faults;
 pub mod forms;
 #[cfg(test)]

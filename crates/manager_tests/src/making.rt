@@ -1,11 +1,11 @@
 //! How a loop and a manager are made, what their capacity may be, and what a loop holds at its end.
 
+use crate::expecting::{Looping, expect_ok, expect_same};
 use event_manager::{
     Error, EventLoop, EventPoller, Events, MAX_READY_EVENTS_CAPACITY, SubscriberOps,
 };
 use fixtures::counting::{Counting, counting_on};
 use fixtures::driving::replies_to;
-use fixtures::expecting::{Looping, expect_ok, expect_same};
 use fixtures::parts::{Idle, silent_parts};
 use fixtures::runs::run_alone;
 use fixtures::scripts::script_of;

@@ -1,10 +1,10 @@
 //! The last ids, and which places subscribers are given, which no contract shows.
 
+use crate::expecting::{expect_ok, expect_same};
 use dispatch_tables::places::SubscriberPlaces;
 use event_manager::{
     Error, EventLoop, EventOps, EventPoller, Events, MutEventSubscriber, SubscriberOps,
 };
-use fixtures::expecting::{expect_ok, expect_same};
 use std::alloc::{AllocError, Global};
 use std::sync::atomic::{AtomicU64, Ordering};
 use vmm_sys::script_poller::ScriptPoller;

@@ -1,11 +1,11 @@
 //! Descriptors that are added, changed and removed, lines that hang up, and subscribers that leave.
 
+use crate::expecting::{Host, expect_ok, expect_same};
 use crate::steps::{Step, counter_of, expect_values, replies_in, three_counters_of};
 use event_manager::utilities::subscribers::{CounterSubscriber, CounterSubscriberWithData};
 use event_manager::{Call, Error, Events, MutEventSubscriber, Reply, Request};
 use fixtures::asking::Asking;
 use fixtures::driving::{id_of, replies_to, seen_in};
-use fixtures::expecting::{Host, expect_ok, expect_same};
 use fixtures::parts::{Idle, OnTable, on_table};
 use std::alloc::Global;
 use std::process::Abort;

@@ -4,11 +4,11 @@ ghost use Rattle.std.specs.Prelude.{◌≡◌};
 ghost use Rattle.event_manager.specs.Registry.{LoopStep};
 ghost use Rattle.event_manager.specs.LoopState.{HasStepped, IsRequest};
 
+use crate::expecting::{expect_ok, expect_same};
 use event_manager::{
     Error, EventManager, EventOps, EventPoller, Events, MutEventSubscriber, NamedCounter, NoJob,
     Request, Result, SubscriberId, SubscriberOps,
 };
-use fixtures::expecting::{expect_ok, expect_same};
 use fixtures::making::{WithManager, with_manager};
 use fixtures::parts::silent_parts;
 use fixtures::runs::{let_leave, take_in};

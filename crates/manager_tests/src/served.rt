@@ -1,11 +1,11 @@
 //! Counting subscribers that are served events of a script.
 
+use crate::expecting::{Host, expect_ok, expect_same};
 use crate::steps::{counter_of, expect_values, three_counters_of};
 use event_manager::utilities::subscribers::{
     CounterInnerMutSubscriber, CounterSubscriber, CounterSubscriberWithData,
 };
 use event_manager::{Error, MutEventSubscriber};
-use fixtures::expecting::{Host, expect_ok, expect_same};
 use fixtures::parts::Parts;
 use fixtures::runs::run_alone;
 use fixtures::scripts::push_words;

@@ -1,9 +1,9 @@
 //! Many descriptors, subscribers, requests and events: no call is refused for want of memory.
 
+use crate::expecting::{Looping, expect_ok, expect_same};
 use event_manager::Request;
 use fixtures::asking::{Asking, adds, wanted};
 use fixtures::counting::counting_on;
-use fixtures::expecting::{Looping, expect_ok, expect_same};
 use fixtures::parts::silent_parts;
 use fixtures::runs::{run_alone, run_over};
 use fixtures::scripts::script_of;

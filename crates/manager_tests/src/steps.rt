@@ -1,10 +1,10 @@
 //! Counters of a table, and steps of a manager.
 
+use crate::expecting::{Host, Looping, expect_ok, expect_same};
 use event_manager::utilities::subscribers::CounterSubscriberWithData;
 use event_manager::{
     Call, EventManager, EventPoller, MutEventSubscriber, NamedCounter, NoJob, Reply, Result, drive,
 };
-use fixtures::expecting::{Host, Looping, expect_ok, expect_same};
 use fixtures::making::{WithManager, with_manager};
 use fixtures::parts::OnTable;
 use std::alloc::Global;

@@ -2,6 +2,7 @@
 
 ghost use Rattle.std.specs.Prelude.{◌≡◌};
 
+use crate::expecting::{Host, expect_ok, expect_same};
 use crate::steps::{counter_of, expect_values, three_counters_of};
 use event_manager::utilities::subscribers::{
     CounterInnerMutSubscriber, CounterSubscriber, CounterSubscriberWithData,
@@ -9,7 +10,6 @@ use event_manager::utilities::subscribers::{
 use event_manager::{
     Either, EventManager, Ledgers, MutEventSubscriber, Named, NamedCounter, Naming, NoJob,
 };
-use fixtures::expecting::{Host, expect_ok, expect_same};
 use fixtures::making::make;
 use fixtures::parts::{OnTable, on_table};
 use fixtures::runs::{let_leave, take_in};

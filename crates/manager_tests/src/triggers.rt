@@ -1,10 +1,10 @@
 //! What a trigger writes, and how long the counter is then ready.
 
+use crate::expecting::{Host, expect_ok, expect_same};
 use crate::steps::{expect_values, three_counters_of};
 use event_manager::utilities::subscribers::{
     CounterInnerMutSubscriber, CounterSubscriber, CounterSubscriberWithData,
 };
-use fixtures::expecting::{Host, expect_ok, expect_same};
 use std::alloc::Global;
 use vmm_sys::epoll::{AsRawFd, ControlOperation, Epoll, EpollEvent, EventSet};
 use vmm_sys::eventfd::EventFd;

@@ -1,11 +1,11 @@
 //! A call beside a close: it is answered, whichever comes first.
 
+use crate::expecting::{Host, Looping, expect_ok, expect_same};
 use crate::fixture::{Endpoint, Progress, Task, look_on, spin};
 use event_manager::{
     Error, EventPoller, JobSender, LoopWithSenders, NamedCounter, Result, Senders, TrackedManager,
     with_senders,
 };
-use fixtures::expecting::{Host, Looping, expect_ok, expect_same};
 use fixtures::parts::{Idle, Parts, on_table};
 use std::alloc::Global;
 use std::sync::Arc;

@@ -1,7 +1,7 @@
 //! The job that the senders send, and what it counts in.
 
+use crate::expecting::{Looping, expect_ok, expect_same};
 use event_manager::{EventPoller, Job, MutEventSubscriber, Registry, RemoteEndpoint};
-use fixtures::expecting::{Looping, expect_ok, expect_same};
 use fixtures::parts::Idle;
 use std::alloc::Global;
 use std::hint;

@@ -5,6 +5,8 @@
 #[cfg(test)]
 mod closing;
 #[cfg(test)]
+mod expecting;
+#[cfg(test)]
 mod fixture;
 #[cfg(test)]
 mod senders;

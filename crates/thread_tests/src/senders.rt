@@ -6,10 +6,10 @@
 
 ghost use Rattle.std.specs.Prelude.{◌≡◌};
 
+use crate::expecting::{Host, expect_ok, expect_same};
 use event_manager::{
     Closed, EventManager, Ledgers, Named, NamedCounter, Naming, RemoteEndpoint, Result, Ticket,
 };
-use fixtures::expecting::{Host, expect_ok, expect_same};
 use fixtures::making::make;
 use fixtures::parts::{Idle, OnTable, on_table};
 use fixtures::waits::wait_until_pending;

@@ -1,11 +1,11 @@
 //! One sender, and a loop that waits without a limit: no wake-up between the two is lost.
 
+use crate::expecting::{Host, Looping, expect_ok, expect_same};
 use crate::fixture::{Endpoint, Progress, Task, look_on};
 use event_manager::{
     EventPoller, JobSender, LoopWithSenders, NamedCounter, Result, Senders, TrackedManager,
     with_senders,
 };
-use fixtures::expecting::{Host, Looping, expect_ok, expect_same};
 use fixtures::parts::{Idle, OnTable, Parts, on_table};
 use std::alloc::Global;
 use std::sync::atomic::Ordering;

@@ -2,12 +2,12 @@
 
 ghost use Rattle.std.specs.Prelude.{◌≡◌};
 
+use crate::expecting::{Host, Looping, expect_ok, expect_same};
 use crate::watched::{Drops, Guest, Reporter, Task, Watched};
 use event_manager::{
     Error, EventPoller, JobSender, Ledgers, LoopWithSenders, Named, NamedCounter, Naming,
     RemoteEndpoint, Result, Senders, SubscriberOps, Ticket, TrackedManager, with_senders,
 };
-use fixtures::expecting::{Host, Looping, expect_ok, expect_same};
 use fixtures::making::make;
 use fixtures::parts::{Holding, OnTable, Parts, on_table};
 use fixtures::waits::{wait_until_ended, wait_until_pending};
