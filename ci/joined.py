@@ -28,7 +28,7 @@ def unchanged(it):
 def within(module, folder):
     """What makes a text of a crate in this folder one of a module: its paths go on from there, but for those of macros."""
     macros = [name for at, _, files in os.walk(folder) for file in files for name in MACRO.findall(text_of(f"{at}/{file}"))]
-    stays = "".join(rf"(?!{name}\b)" for name in macros)
+    stays = "".join(rf"(?!{{?{name}\b)" for name in macros)
     return lambda text: re.sub(rf"\bcrate::{stays}", f"crate::{module}::", TACTIC.sub("", text))
 
 
