@@ -1,11 +1,15 @@
 //! Subscribers in cells and under locks.
 
 use crate::expecting::{Host, Looping, expect, expect_ok, expect_same};
-use event_manager::{EventManager, EventPoller, Locked, NamedCounter, NoJob, SubscriberOps};
+use event_manager::{
+    EventManager, EventOps, EventPoller, Events, Locked, MutEventSubscriber, NamedCounter, NoJob,
+    SubscriberOps,
+};
+use fixtures::asking::wanted;
 use fixtures::counting::{Counting, counting_on};
 use fixtures::making::{WithManager, with_manager};
 use fixtures::parts::{Parts, silent_parts};
-use fixtures::runs::run_alone;
+use fixtures::runs::{Failure, run_alone};
 use fixtures::scripts::push_words;
 use fixtures::waits::is_counted_within;
 use std::alloc::Global;
@@ -52,15 +56,6 @@ fn owned_cell_is_called(rt: HostRuntime) {
     let cell = RefCell::new(counting_on(3));
     let cell = expect_ok(&rt, run_alone(&rt, parts, cell, &TWO_RUNS));
     expect_same(&rt, &count_in(&cell), &Some(2));
-}
-
-#[test]
-fn owned_lock_is_called(rt: HostRuntime) {
-    let parts = two_reports(rt, rt.alloc());
-    let locked = Locked::new(counting_on(3), rt);
-    let locked = expect_ok(&rt, run_alone(&rt, parts, locked, &TWO_RUNS));
-    let count = locked.mutex.try_lock().map(|held| held.count);
-    expect_same(&rt, &count, &Some(2));
 }
 
 /// Runs while the cell is busy, and again when it is free.
@@ -186,4 +181,52 @@ fn lock_is_waited_for_and_left_free(rt: HostRuntime) {
     expect_same(&rt, &runner.join(&rt), &Ok(()));
     let count = locked.mutex.try_lock().map(|held| held.count);
     expect_same(&rt, &count, &Some(2));
+}
+
+/// Adds descriptor 3 in `init`, and counts its events in what it shares.
+#[derive(Drop)]
+struct SharedCounting(Arc<AtomicU64>);
+
+impl MutEventSubscriber for SharedCounting {
+    ghost begins = { λ v exchanges w. Unit {0} };
+
+    ghost serves = { λ v event exchanges w. Unit {0} };
+
+    fn process<P: EventPoller>(&mut self, _events: Events, _ops: &mut EventOps<P>) {
+        self.0.fetch_add(1, Ordering::SeqCst);
+    }
+
+    fn init<P: EventPoller>(&mut self, ops: &mut EventOps<P>) {
+        let _ = ops.add(wanted(3));
+    }
+}
+
+/// Serves a subscriber under a lock the two reports, and sets the flag when that is done.
+fn serve_locked<R: Looping>(
+    rt: R,
+    parts: Parts<ScriptPoller>,
+    locked: Locked<SharedCounting, R>,
+    over: &AtomicU64,
+) -> Result<(), Failure> {
+    let ran = run_alone(&rt, parts, locked, &TWO_RUNS);
+    over.store(1, Ordering::SeqCst);
+    ran?;
+    Ok(())
+}
+
+#[test]
+fn subscriber_under_a_lock_counts_in_an_atomic(rt: HostRuntime) {
+    let count = expect_ok(&rt, Arc::new(rt.alloc(), AtomicU64::new(0)));
+    let shared = SharedCounting(expect_ok(&rt, count.clone()));
+    let locked = Locked::new(shared, rt);
+    let over = expect_ok(&rt, Arc::new(rt.alloc(), AtomicU64::new(0)));
+    let theirs = expect_ok(&rt, over.clone());
+    let parts = two_reports(rt, rt.alloc());
+    let runner = expect_ok(
+        &rt,
+        thread::spawn(&rt, move || serve_locked(rt, parts, locked, &theirs)),
+    );
+    expect_turn(&rt, &over, 1);
+    expect_same(&rt, &runner.join(&rt), &Ok(()));
+    expect_same(&rt, &count.load(Ordering::SeqCst), &2);
 }

@@ -6,6 +6,7 @@ use event_manager::{
     Error, EventLoop, EventOps, EventPoller, Events, MutEventSubscriber, SubscriberOps,
 };
 use std::alloc::{AllocError, Global};
+use std::process::Abort;
 use std::sync::atomic::{AtomicU64, Ordering};
 use vmm_sys::script_poller::ScriptPoller;
 
@@ -29,12 +30,29 @@ impl MutEventSubscriber for Beginning<'_> {
     }
 }
 
+/// A loop whose first id is this one, in which nobody asks for anything.
+fn loop_from<'a, R: Abort>(
+    rt: &R,
+    alloc: Global,
+    first_id: u64,
+) -> EventLoop<Beginning<'a>, ScriptPoller> {
+    let poller = ScriptPoller::new(alloc);
+    expect_ok(rt, EventLoop::with_first_id(alloc, poller, first_id))
+}
+
+#[test]
+fn a_join_behind_the_last_id_is_refused_before_init(rt: HostRuntime) {
+    let begun = AtomicU64::new(0);
+    let mut event_loop = loop_from(&rt, rt.alloc(), u64::MAX);
+    let refused = event_loop.add_subscriber(Beginning { begun: &begun });
+    expect_same(&rt, &refused.err(), &Some(Error::IdsUsedUp));
+    expect_same(&rt, &begun.load(Ordering::SeqCst), &0);
+}
+
 #[test]
 fn a_join_gets_the_last_id_and_the_next_is_refused(rt: HostRuntime) {
     let begun = AtomicU64::new(0);
-    let poller = ScriptPoller::new(rt.alloc());
-    let made = EventLoop::with_first_id(rt.alloc(), poller, u64::MAX - 1);
-    let mut event_loop = expect_ok(&rt, made);
+    let mut event_loop = loop_from(&rt, rt.alloc(), u64::MAX - 1);
     let id = expect_ok(&rt, event_loop.add_subscriber(Beginning { begun: &begun }));
     expect_same(&rt, &id.number(), &18446744073709551614);
     let refused = event_loop.add_subscriber(Beginning { begun: &begun });
