@@ -53,3 +53,15 @@ fn test_events_data(rt: HostRuntime) {
     expect_same(&rt, &(first != second), &true);
     expect_same(&rt, &(first.data(), second.data()), &(42, 43));
 }
+
+#[test]
+fn descriptor_and_data_are_one_word(rt: HostRuntime) {
+    let first = Events::with_data_raw(5, 42, EventSet::IN);
+    let second = Events::with_data_raw(5, 43, EventSet::IN);
+    let word = first.epoll_event().data();
+    expect_same(&rt, &word, &180388626437);
+    expect_same(&rt, &word.to_be_bytes(), &[0, 0, 0, 0x2a, 0, 0, 0, 5]);
+    expect_same(&rt, &(first.fd(), first.data()), &(5, 42));
+    expect_same(&rt, &second.epoll_event().data(), &184683593733);
+    expect_same(&rt, &(first != second), &true);
+}
