@@ -6,8 +6,8 @@
 use crate::subscribers::{CountOne, Counter, count_at};
 use anyhow::{Result, bail};
 use event_manager::{
-    ActionOn, EventPoller, JobSender, LoopWithSenders, NamedCounter, RemoteEndpoint, SubscriberId,
-    TrackedManager, with_senders,
+    ActionOn, Error, EventPoller, JobSender, LoopWithSenders, NamedCounter, RemoteEndpoint,
+    SubscriberId, TrackedManager, with_senders,
 };
 use measures::bench::{Bench, Measured};
 use measures::fixed::FIRST;
@@ -52,7 +52,11 @@ impl<'a, R: Wait + Clock> LoopWithSenders<Counter, ActionOn<CountOne>, Caller<'a
             rounds: self.rounds,
             progress: self.progress,
         };
-        Ok(vec![in alloc; caller]?)
+        let mut callers = Vec::new(alloc);
+        match callers.push(caller) {
+            Ok(()) => Ok(callers),
+            Err(_refused) => Err(Error::OutOfMemory),
+        }
     }
 }
 

@@ -6,6 +6,7 @@ use anyhow::Result;
 use event_manager::{EventManager, EventPoller, NamedCounter, NoJob, SubscriberOps};
 use measures::arguments::Size;
 use measures::bench::{Bench, Measured, expect};
+use measures::fixed::BATCH;
 use measures::host::Host;
 use measures::timing::Times;
 use std::alloc::Global;
@@ -28,6 +29,10 @@ impl<R: Host> ManagerMeasure<R> for WrittenCounters {
 
     type Job = NoJob;
 
+    fn capacity(&self) -> usize {
+        BATCH as usize
+    }
+
     fn take<N: NamedCounter, P: EventPoller>(
         &self,
         manager: &mut EventManager<Reader<R>, NoJob, N, P>,
@@ -44,7 +49,7 @@ impl<R: Host> ManagerMeasure<R> for WrittenCounters {
 }
 
 /// Lets a reader of each counter join.
-fn join<N: NamedCounter, P: EventPoller, R: Host>(
+fn join<N: NamedCounter, P: EventPoller, R: Wait + Copy + Drop>(
     manager: &mut EventManager<Reader<R>, NoJob, N, P>,
     counters: &[EventFd],
     rt: &R,
@@ -60,7 +65,7 @@ fn join<N: NamedCounter, P: EventPoller, R: Host>(
 }
 
 /// Lets all readers leave, and answers what they have read in all.
-fn leave<N: NamedCounter, P: EventPoller, R: Host>(
+fn leave<N: NamedCounter, P: EventPoller, R: Wait + Drop>(
     manager: &mut EventManager<Reader<R>, NoJob, N, P>,
     alloc: Global,
 ) -> Result<u64> {

@@ -42,6 +42,10 @@ impl<R: Host> ManagerMeasure<R> for Deliver {
 
     type Job = NoJob;
 
+    fn capacity(&self) -> usize {
+        BATCH as usize
+    }
+
     fn take<N: NamedCounter, P: EventPoller>(
         &self,
         manager: &mut EventManager<Counter, NoJob, N, P>,

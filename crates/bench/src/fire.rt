@@ -7,7 +7,7 @@ use event_manager::{
     ActionOn, EventManager, EventPoller, NamedCounter, RemoteEndpoint, SubscriberId, SubscriberOps,
 };
 use measures::bench::{Bench, Measured, expect};
-use measures::fixed::FIRST;
+use measures::fixed::{BATCH, FIRST};
 use measures::host::Host;
 use measures::timing::Times;
 use std::sync::Wait;
@@ -26,6 +26,10 @@ impl<R: Host> ManagerMeasure<R> for FiredJobs {
     type Subscriber = Counter;
 
     type Job = ActionOn<CountOne>;
+
+    fn capacity(&self) -> usize {
+        BATCH as usize
+    }
 
     fn take<N: NamedCounter, P: EventPoller>(
         &self,

@@ -6,7 +6,7 @@ use anyhow::Result;
 use event_manager::{EventManager, EventPoller, NamedCounter, NoJob, SubscriberOps};
 use measures::arguments::Size;
 use measures::bench::{Bench, Measured, expect};
-use measures::fixed::{FIRST, Fixed};
+use measures::fixed::{BATCH, FIRST, Fixed};
 use measures::host::Host;
 use measures::timing::Times;
 
@@ -24,6 +24,10 @@ impl<R: Host> ManagerMeasure<R> for JoinAndLeave {
     type Subscriber = Counter;
 
     type Job = NoJob;
+
+    fn capacity(&self) -> usize {
+        BATCH as usize
+    }
 
     fn take<N: NamedCounter, P: EventPoller>(
         &self,

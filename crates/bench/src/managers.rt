@@ -6,7 +6,7 @@ use event_manager::{
     WithLedgers, with_ledgers,
 };
 use measures::bench::{Bench, Measured, expect};
-use measures::fixed::{BATCH, Fixed};
+use measures::fixed::Fixed;
 use measures::host::Host;
 use std::sync::Wait;
 use std::time::Clock;
@@ -23,9 +23,7 @@ pub trait ManagerMeasure<R> {
     type Job: Job<Self::Subscriber>;
 
     /// The capacity of the manager.
-    fn capacity(&self) -> usize {
-        BATCH as usize
-    }
+    fn capacity(&self) -> usize;
 
     /// Does the work on a new manager. Refused where it counts another number than it has.
     fn take<N: NamedCounter, P: EventPoller>(

@@ -7,7 +7,7 @@ use event_manager::utilities::subscribers::CounterSubscriberWithData;
 
 #[test]
 fn counts_are_handed_out(rt: HostRuntime) {
-    let mut epoll = open_epoll(&rt);
+    let mut epoll = open_epoll(&rt, rt.alloc());
     let counters = [
         open_counter(&rt, &mut epoll, 0),
         open_counter(&rt, &mut epoll, 1),

@@ -1,7 +1,8 @@
 //! Tables that are shared, and what is opened in them.
 
-use crate::expecting::{Host, expect_ok, expect_same};
-use crate::{again, without_memory};
+use crate::again;
+use crate::expecting::{Host, expect_ok, expect_same, mark};
+use std::alloc::Global;
 use vmm_sys::epoll::{AsRawFd, ControlOperation, Epoll, EpollEvent, EventSet, RawFd};
 use vmm_sys::errno::Errno;
 use vmm_sys::eventfd::EventFd;
@@ -36,8 +37,8 @@ pub fn is_unregistered<P: Poller>(poller: &mut P, fd: RawFd) -> bool {
 }
 
 /// A poller over a new table.
-pub fn open_epoll<R: Host>(rt: &R) -> Epoll<R> {
-    again!(rt, "Epoll::new", Epoll::new(*rt, rt.alloc()))
+pub fn open_epoll<R: Host>(rt: &R, alloc: Global) -> Epoll<R> {
+    again!(rt, "Epoll::new", Epoll::new(*rt, alloc))
 }
 
 /// A poller over the same table.
@@ -73,20 +74,30 @@ fn open_line<R: Host>(rt: &R, epoll: &mut Epoll<R>, fd: RawFd) -> Line {
     line
 }
 
+/// Opens counters and lines in turn, in one table: the descriptors of the last ones.
+fn open_in_turn<R: Host>(rt: &R, epoll: &mut Epoll<R>) -> [RawFd; 2] {
+    let mut last = [0, 0];
+    for k in 0..OPENED {
+        let fd = 2 * k as RawFd;
+        let counter = open_counter(rt, epoll, fd).as_raw_fd();
+        let line = open_line(rt, epoll, fd + 1).as_raw_fd();
+        last = [counter, line];
+    }
+    last
+}
+
 /// Opens a counter and a line of the table: the descriptors of their copies, which take no memory, nor does their closing.
 fn open_and_copy<R: Host>(rt: &R, epoll: &mut Epoll<R>) -> [RawFd; 2] {
     let counter = open_counter(rt, epoll, 18);
     let line = open_line(rt, epoll, 19);
-    let (counter_copy, line_copy) = without_memory!(
-        rt,
-        (copy_counter(rt, &counter), line.try_clone())
-    );
-    let line_copy = expect_ok(rt, "Line::try_clone", line_copy);
+    mark(rt);
+    let counter_copy = copy_counter(rt, &counter);
+    let line_copy = expect_ok(rt, "Line::try_clone", line.try_clone());
+    mark(rt);
     let copied = [counter_copy.as_raw_fd(), line_copy.as_raw_fd()];
-    without_memory!(
-        rt,
-        close_all(rt, [counter, counter_copy], [line, line_copy])
-    );
+    mark(rt);
+    close_all(rt, [counter, counter_copy], [line, line_copy]);
+    mark(rt);
     expect_same(rt, "EventFd::close", &is_unopened(epoll, 18), &true);
     expect_same(rt, "Line::close", &is_unopened(epoll, 19), &true);
     copied
@@ -103,16 +114,24 @@ fn close_all<R: Host>(rt: &R, counters: [EventFd; 2], lines: [Line; 2]) {
 
 #[test]
 fn pollers_counters_and_lines_are_opened_and_copied(rt: HostRuntime) {
-    let mut epoll = open_epoll(&rt);
-    for k in 0..OPENED {
-        let fd = 2 * k as RawFd;
-        open_counter(&rt, &mut epoll, fd);
-        open_line(&rt, &mut epoll, fd + 1);
-    }
-    let mut copy = without_memory!(&rt, copy_epoll(&rt, &epoll));
+    let mut epoll = open_epoll(&rt, rt.alloc());
+    let last = open_in_turn(&rt, &mut epoll);
+    expect_same(
+        &rt,
+        "the last of 9 counters and of 9 lines",
+        &last,
+        &[16, 17],
+    );
+    mark(&rt);
+    let mut copy = copy_epoll(&rt, &epoll);
+    mark(&rt);
     let is_same_table = is_unregistered(&mut copy, 17) && is_unopened(&mut copy, 18);
     expect_same(&rt, "Epoll::try_clone", &is_same_table, &true);
     let copies = open_and_copy(&rt, &mut copy);
-    let call = "EventFd::try_clone, Line::try_clone";
-    expect_same(&rt, call, &copies, &[18, 19]);
+    expect_same(
+        &rt,
+        "EventFd::try_clone, Line::try_clone",
+        &copies,
+        &[18, 19],
+    );
 }

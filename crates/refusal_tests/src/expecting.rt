@@ -10,9 +10,14 @@ use std::time::{Clock, Instant};
 use vmm_sys::errno::Errno;
 
 /// What the tests need of the runtime. A method of a trait calls functions with this bound alone.
-pub trait Host: AllocGlobal + Wait + Clock + Eprint + Abort + Copy + Send + Drop {}
+pub trait Looping: Wait + Clock + Eprint + Abort + Copy + Drop {}
 
-impl<R: AllocGlobal + Wait + Clock + Eprint + Abort + Copy + Send + Drop> Host for R {}
+impl<R: Wait + Clock + Eprint + Abort + Copy + Drop> Looping for R {}
+
+/// One that a poller keeps, too.
+pub trait Host: Looping + Send {}
+
+impl<R: Looping + Send> Host for R {}
 
 /// What a refused call answers.
 pub trait Fault: Debug + Drop {
@@ -106,17 +111,6 @@ macro_rules! again {
             }
         }
     };
-}
-
-/// The answer of a call that takes no memory, made between two looks at the clock.
-#[macro_export]
-macro_rules! without_memory {
-    ($rt:expr, $call:expr) => {{
-        $crate::expecting::mark($rt);
-        let answer = $call;
-        $crate::expecting::mark($rt);
-        answer
-    }};
 }
 
 /// Looks at the clock, which nothing else of a test does: `ci/refuse_each_request` sees how many requests for memory lie between

@@ -1,16 +1,17 @@
 //! Jobs that the loop's own thread sends and runs.
 
-use crate::descriptors::is_unregistered;
-use crate::expecting::{Host, expect_ok, expect_same};
-use crate::making::{copy_parts, open_table};
-use crate::{again, without_memory};
+use crate::again;
+use crate::descriptors::{copy_counter, is_unregistered};
+use crate::expecting::{Host, Looping, expect_ok, expect_same, mark};
+use crate::making::{OnTable, open_table, parts_of};
 use event_manager::{
     EventManager, EventPoller, Ledgers, NamedCounter, RemoteEndpoint, Result, Ticket, WithLedgers,
     with_ledgers,
 };
 use fixtures::making::make;
-use fixtures::parts::{Idle, OnTable, Parts};
+use fixtures::parts::{Idle, Parts};
 use fixtures::work::Work;
+use std::alloc::Global;
 use vmm_sys::eventfd::EventFd;
 
 /// An endpoint of the tests.
@@ -27,7 +28,7 @@ struct Sending<'a, R> {
     bell: &'a EventFd,
 }
 
-impl<R: Host> Sending<'_, R> {
+impl<R: Looping> Sending<'_, R> {
     /// How often the bell was rung since it was last read by the loop.
     fn rings(&self) -> u64 {
         let rings = self.bell.read(self.rt).unwrap_or(0);
@@ -40,40 +41,45 @@ impl<R: Host> Sending<'_, R> {
         endpoint.pending() == usize::try_from(count).ok() && self.rings() == count
     }
 
-    /// Sends a job by `fire`, or by `fire_after` where a ticket was shown.
-    fn send_once<N: NamedCounter>(
+    /// Expects that the job behind so many has the next ticket.
+    fn expect_next<N: NamedCounter>(
         &self,
+        call: &str,
         endpoint: &Endpoint<N>,
-        shown: Option<&Ticket<N>>,
-        number: u64,
-    ) -> Result<Ticket<N>> {
-        match shown {
-            None => endpoint.fire(Work::Own(number), self.rt),
-            Some(shown) => endpoint.fire_after(shown, Work::Own(number), self.rt),
-        }
-    }
-
-    /// Sends a job where so many wait: it has the next ticket.
-    fn send<N: NamedCounter>(
-        &self,
-        endpoint: &Endpoint<N>,
-        shown: Option<&Ticket<N>>,
+        ticket: &Ticket<N>,
         sent: u64,
-    ) -> Ticket<N> {
-        let call = if shown.is_some() {
-            "fire_after"
-        } else {
-            "fire"
-        };
-        let ticket = again!(
-            self.rt,
-            call,
-            self.send_once(endpoint, shown, sent),
-            self.are_waiting(endpoint, sent)
-        );
+    ) {
         let next = sent.saturating_add(1);
         let found = (ticket.number(), self.are_waiting(endpoint, next));
         expect_same(self.rt, call, &found, &(next, true));
+    }
+
+    /// Sends a job by `fire`, where so many wait.
+    fn fire<N: NamedCounter>(&self, endpoint: &Endpoint<N>, sent: u64) -> Ticket<N> {
+        let ticket = again!(
+            self.rt,
+            "fire",
+            endpoint.fire(Work::Own(sent), self.rt),
+            self.are_waiting(endpoint, sent)
+        );
+        self.expect_next("fire", endpoint, &ticket, sent);
+        ticket
+    }
+
+    /// As `fire`, by `fire_after`.
+    fn fire_after<N: NamedCounter>(
+        &self,
+        endpoint: &Endpoint<N>,
+        shown: &Ticket<N>,
+        sent: u64,
+    ) -> Ticket<N> {
+        let ticket = again!(
+            self.rt,
+            "fire_after",
+            endpoint.fire_after(shown, Work::Own(sent), self.rt),
+            self.are_waiting(endpoint, sent)
+        );
+        self.expect_next("fire_after", endpoint, &ticket, sent);
         ticket
     }
 
@@ -81,10 +87,10 @@ impl<R: Host> Sending<'_, R> {
     /// and requests memory.
     fn send_all<N: NamedCounter>(&self, endpoint: &Endpoint<N>, tickets: &mut Vec<Ticket<N>>) {
         let list = "Vec::with_capacity";
-        expect_ok(self.rt, list, tickets.push(self.send(endpoint, None, 0)));
+        expect_ok(self.rt, list, tickets.push(self.fire(endpoint, 0)));
         for k in 0..10 {
-            let fired = self.send(endpoint, None, 2 * k + 1);
-            let after = self.send(endpoint, Some(&fired), 2 * k + 2);
+            let fired = self.fire(endpoint, 2 * k + 1);
+            let after = self.fire_after(endpoint, &fired, 2 * k + 2);
             expect_ok(self.rt, list, tickets.push(fired));
             expect_ok(self.rt, list, tickets.push(after));
         }
@@ -97,11 +103,17 @@ impl<R: Host> Sending<'_, R> {
         endpoint: &Endpoint<N>,
     ) {
         let rt = self.rt;
-        let waiting = without_memory!(rt, endpoint.pending());
+        mark(rt);
+        let waiting = endpoint.pending();
+        mark(rt);
         expect_same(rt, "pending", &waiting, &Some(21));
-        let ran = without_memory!(rt, manager.run_with_timeout(0, rt));
+        mark(rt);
+        let ran = manager.run_with_timeout(0, rt);
+        mark(rt);
         expect_same(rt, "run", &(ran, endpoint.pending()), &(Ok(1), Some(0)));
-        let kicked = without_memory!(rt, endpoint.kick(rt));
+        mark(rt);
+        let kicked = endpoint.kick(rt);
+        mark(rt);
         expect_same(rt, "kick", &kicked, &Ok(()));
         expect_same(rt, "kick", &manager.run_with_timeout(0, rt), &Ok(1));
     }
@@ -115,13 +127,20 @@ impl<R: Host> Sending<'_, R> {
         tickets: &mut Vec<Ticket<N>>,
     ) {
         let rt = self.rt;
-        let copied = without_memory!(rt, first.try_clone());
+        mark(rt);
+        let copied = first.try_clone();
+        mark(rt);
         let endpoint = expect_ok(rt, "RemoteEndpoint::try_clone", copied);
         self.send_all(&endpoint, tickets);
         self.run_and_kick(manager, first);
-        let fired = without_memory!(rt, endpoint.fire(Work::Own(0), rt));
-        let ticket = expect_ok(rt, "fire", fired);
-        expect_ok(rt, "Vec::with_capacity", tickets.push(ticket));
+        mark(rt);
+        let fired = endpoint.fire(Work::Own(0), rt);
+        mark(rt);
+        expect_ok(
+            rt,
+            "Vec::with_capacity",
+            tickets.push(expect_ok(rt, "fire", fired)),
+        );
     }
 }
 
@@ -131,43 +150,55 @@ struct Making<'a, R, P> {
     parts: Parts<P, ()>,
 }
 
-impl<R: Host, P: EventPoller + Drop> WithLedgers for Making<'_, R, P> {
+impl<R: Looping, P: EventPoller + Drop> WithLedgers for Making<'_, R, P> {
     type Output = Result<()>;
 
     fn run<N: NamedCounter + Send + Sync>(self, counter: N, ledgers: Ledgers<N>) -> Result<()> {
         let Making { sending, parts } = self;
-        let rt = sending.rt;
+        let (alloc, rt) = (parts.alloc, sending.rt);
         let mut manager: Manager<N, P> = make(parts, counter, ledgers)?;
-        let endpoint = without_memory!(rt, manager.remote_endpoint());
+        mark(rt);
+        let endpoint = manager.remote_endpoint();
+        mark(rt);
         let endpoint = expect_ok(rt, "remote_endpoint", endpoint);
-        let mut tickets = again!(rt, "Vec::with_capacity", Vec::with_capacity(rt.alloc(), 22));
+        let mut tickets = again!(rt, "Vec::with_capacity", Vec::with_capacity(alloc, 22));
         sending.send_and_run(&mut manager, &endpoint, &mut tickets);
-        let mut closed = without_memory!(rt, manager.close(rt));
+        mark(rt);
+        let mut closed = manager.close(rt);
+        mark(rt);
         let counts = (closed.issued(), closed.taken());
         expect_same(rt, "close", &counts, &(22, 21));
-        let gathered = without_memory!(rt, closed.gather(&mut tickets));
+        mark(rt);
+        let gathered = closed.gather(&mut tickets);
+        mark(rt);
         expect_same(rt, "gather", &gathered, &true);
         Ok(())
     }
 }
 
 /// Makes a manager of capacity 64, once, and sends jobs to it.
-fn make_and_send<R: Host>(rt: &R, on_table: &OnTable<R>) -> Result<()> {
-    let mut parts = copy_parts(rt, on_table);
+fn make_and_send<R: Host>(
+    rt: &R,
+    alloc: Global,
+    on_table: &OnTable<R>,
+    bell: &EventFd,
+) -> Result<()> {
+    let mut parts = parts_of(rt, alloc, on_table);
     parts.capacity = Some(64);
     let (counter, parts) = parts.split();
-    let bell = &on_table.counter;
     let sending = Sending { rt, bell };
     with_ledgers(counter, Making { sending, parts })
 }
 
 #[test]
 fn jobs_are_sent_and_run(rt: HostRuntime) {
-    let mut on_table = open_table(&rt);
+    let alloc = rt.alloc();
+    let mut on_table = open_table(&rt, alloc);
+    let bell = copy_counter(&rt, &on_table.endpoint);
     again!(
         &rt,
         "EventManager::new_with_capacity",
-        make_and_send(&rt, &on_table),
-        is_unregistered(&mut on_table.poller, 0)
+        make_and_send(&rt, alloc, &on_table, &bell),
+        is_unregistered(&mut on_table.epoll, 0)
     );
 }

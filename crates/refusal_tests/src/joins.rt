@@ -2,45 +2,49 @@
 
 use crate::again;
 use crate::descriptors::open_counter;
-use crate::expecting::{Host, expect_ok, expect_same};
-use crate::making::{open_table, over_table};
+use crate::expecting::{Host, Looping, expect_ok, expect_same};
+use crate::making::{OnTable, open_table, over_table};
 use crate::subscribers::{Manager, Watcher, ask, heard, join};
 use event_manager::{EventPoller, NamedCounter, Priority, Result, SubscriberId, SubscriberOps};
 use fixtures::asking::wanted;
 use fixtures::making::WithManager;
-use fixtures::parts::OnTable;
+use std::alloc::Global;
 
 /// How many subscribers join, of the descriptors from 1 on; how many descriptors behind those the first one then asks for, and how
 /// many of those behind, which aren't ready, at a priority.
 const COUNT: u16 = 20;
 
+/// Joins, requests and a delivery over a table.
+#[derive(Clone, Copy, Drop)]
+struct Joining<'a, R> {
+    rt: &'a R,
+    alloc: Global,
+}
+
 /// Takes the subscribers in, whose ids are 1 to 20: the first and the last.
-fn join_all<N: NamedCounter, P: EventPoller, R: Host>(
+fn join_all<N: NamedCounter, P: EventPoller, R: Looping>(
     rt: &R,
+    alloc: Global,
     manager: &mut Manager<N, P>,
 ) -> [SubscriberId; 2] {
     let first = manager.next_id();
     let mut last = first;
     for number in 1..=COUNT {
-        last = join(rt, manager, wanted(number));
+        last = join(rt, alloc, manager, wanted(number));
         expect_same(rt, "add_subscriber", &last.number(), &(number as u64));
     }
     [first, last]
 }
 
-/// Joins, requests and a delivery over a table.
-#[derive(Clone, Copy, Drop)]
-struct Joining<R>(R);
-
-impl<R: Host> WithManager for Joining<R> {
+impl<R: Looping> WithManager for Joining<'_, R> {
     type Subscriber = Watcher;
 
     type Output = ();
 
     fn run<N: NamedCounter, P: EventPoller>(self, manager: &mut Manager<N, P>) -> Result<()> {
-        let rt = &self.0;
-        let [first, last] = join_all(rt, manager);
-        let ids = again!(rt, "SubscriberOps::ids", manager.ids(rt.alloc()));
+        let rt = self.rt;
+        let [first, last] = join_all(rt, self.alloc, manager);
+        let ids = again!(rt, "SubscriberOps::ids", manager.ids(self.alloc));
         expect_same(rt, "SubscriberOps::ids", &ids.last(), &Some(&last));
         for more in 1..=COUNT {
             ask(rt, manager, first, wanted(COUNT + more), None);
@@ -59,7 +63,7 @@ impl<R: Host> WithManager for Joining<R> {
 /// Opens so many counters, of the descriptors from 1 on: the first ones are ready.
 pub fn open_counters<R: Host>(rt: &R, on_table: &mut OnTable<R>, count: u16, ready: u16) {
     for fd in 1..=count {
-        let counter = open_counter(rt, &mut on_table.poller, fd as i32);
+        let counter = open_counter(rt, &mut on_table.epoll, fd as i32);
         let value = u64::from(fd <= ready);
         expect_ok(rt, "EventFd::write", counter.write(value, rt));
     }
@@ -68,7 +72,9 @@ pub fn open_counters<R: Host>(rt: &R, on_table: &mut OnTable<R>, count: u16, rea
 /// A request that was refused left the poller as it was: else the table would refuse the second one.
 #[test]
 fn subscribers_join_and_ask(rt: HostRuntime) {
-    let mut on_table = open_table(&rt);
+    let alloc = rt.alloc();
+    let mut on_table = open_table(&rt, alloc);
     open_counters(&rt, &mut on_table, 60, 40);
-    over_table(&rt, &mut on_table, Joining(rt));
+    let body = Joining { rt: &rt, alloc };
+    over_table(&rt, alloc, &mut on_table, body);
 }

@@ -2,31 +2,48 @@
 
 use crate::again;
 use crate::descriptors::event_of;
-use crate::expecting::{Host, expect_same};
+use crate::expecting::{Looping, expect_same};
 use crate::making::over_script;
 use crate::subscribers::{Manager, Watcher, heard, join};
 use event_manager::{Call, EventPoller, NamedCounter, Reply, Result, SubscriberId, drive};
 use fixtures::asking::wanted;
 use fixtures::making::WithManager;
+use std::alloc::Global;
 
-/// Runs, gives the first id another value, runs, and lets the second id leave, by one list.
-fn drive_once<N: NamedCounter, P: EventPoller, R: Host>(
+/// The calls over a script.
+#[derive(Clone, Copy, Drop)]
+struct Driving<'a, R> {
+    rt: &'a R,
+    alloc: Global,
+}
+
+/// A run, another value for the first id, a run, and a leave of the second id.
+fn calls<R: Looping>(
     rt: &R,
-    manager: &mut Manager<N, P>,
+    alloc: Global,
     [first, second]: [SubscriberId; 2],
-    replies: &mut Vec<Reply<Watcher>>,
-) -> Result<()> {
-    let calls = again!(
+) -> Vec<Call<Watcher>> {
+    again!(
         rt,
         "vec!",
-        vec![in rt.alloc();
+        vec![in alloc;
             Call::Run(0),
-            Call::Set(first, Watcher::new(wanted(3), rt.alloc())),
+            Call::Set(first, Watcher::new(wanted(3), alloc)),
             Call::Run(0),
             Call::Remove(second),
         ]
-    );
-    drive(manager, calls, replies, rt)
+    )
+}
+
+/// Makes the calls once.
+fn drive_once<N: NamedCounter, P: EventPoller, R: Looping>(
+    rt: &R,
+    alloc: Global,
+    manager: &mut Manager<N, P>,
+    ids: [SubscriberId; 2],
+    replies: &mut Vec<Reply<Watcher>>,
+) -> Result<()> {
+    drive(manager, calls(rt, alloc, ids), replies, rt)
 }
 
 /// Whether these are the replies: two events each run, one of them to the first subscriber's value each time.
@@ -42,24 +59,20 @@ fn are_replies(replies: &[Reply<Watcher>]) -> bool {
     }
 }
 
-/// The calls over a script.
-#[derive(Clone, Copy, Drop)]
-struct Driving<R>(R);
-
-impl<R: Host> WithManager for Driving<R> {
+impl<R: Looping> WithManager for Driving<'_, R> {
     type Subscriber = Watcher;
 
     type Output = ();
 
     fn run<N: NamedCounter, P: EventPoller>(self, manager: &mut Manager<N, P>) -> Result<()> {
-        let rt = &self.0;
-        let first = join(rt, manager, wanted(1));
-        let second = join(rt, manager, wanted(2));
-        let mut replies = Vec::new(rt.alloc());
+        let Driving { rt, alloc } = self;
+        let first = join(rt, alloc, manager, wanted(1));
+        let second = join(rt, alloc, manager, wanted(2));
+        let mut replies = Vec::new(alloc);
         again!(
             rt,
             "drive",
-            drive_once(rt, manager, [first, second], &mut replies),
+            drive_once(rt, alloc, manager, [first, second], &mut replies),
             replies.is_empty() && heard(rt, manager, first) == 0
         );
         let is_answered = are_replies(&replies) && heard(rt, manager, first) == 1;
@@ -70,5 +83,7 @@ impl<R: Host> WithManager for Driving<R> {
 
 #[test]
 fn a_list_of_calls_is_driven(rt: HostRuntime) {
-    over_script(&rt, &[event_of(1), event_of(2)], Driving(rt));
+    let alloc = rt.alloc();
+    let body = Driving { rt: &rt, alloc };
+    over_script(&rt, alloc, &[event_of(1), event_of(2)], body);
 }

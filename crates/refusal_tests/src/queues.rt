@@ -1,9 +1,10 @@
 //! Queues of jobs without a manager.
 
-use crate::expecting::{Host, expect_same};
-use crate::{again, without_memory};
+use crate::again;
+use crate::expecting::{Looping, expect_same, mark};
 use event_manager::jobs::{JobQueue, Outcome, Step, replay};
 use event_manager::{Bell, Error, Result};
+use std::alloc::Global;
 use std::sync::Wait;
 use std::time::Clock;
 use vmm_sys::errno::Errno;
@@ -39,16 +40,18 @@ fn jobs_are_sent_to_a_queue_and_taken(rt: HostRuntime) {
         expect_same(&rt, "JobQueue::send", &sent, &(k + 1));
     }
     let mut taken = Vec::new(rt.alloc());
-    without_memory!(&rt, queue.take(&mut taken));
+    mark(&rt);
+    queue.take(&mut taken);
+    mark(&rt);
     expect_same(&rt, "JobQueue::take", &taken.len(), &10);
 }
 
-/// Does these steps on a new queue, once: two sends, a take, a send, a close and a send.
-fn replay_once<R: Host>(rt: &R) -> Result<Outcome<char>> {
-    let steps = again!(
+/// Two sends, a take, a send, a close and a send.
+fn steps<R: Looping>(rt: &R, alloc: Global) -> Vec<Step<char>> {
+    again!(
         rt,
         "vec!",
-        vec![in rt.alloc();
+        vec![in alloc;
             Step::Send('a', Ok(())),
             Step::Send('b', Ok(())),
             Step::Take,
@@ -56,13 +59,17 @@ fn replay_once<R: Host>(rt: &R) -> Result<Outcome<char>> {
             Step::Close,
             Step::Send('d', Ok(())),
         ]
-    );
-    replay(rt, rt.alloc(), steps)
+    )
+}
+
+/// Does the steps on a new queue, once.
+fn replay_once<R: Looping>(rt: &R, alloc: Global) -> Result<Outcome<char>> {
+    replay(rt, alloc, steps(rt, alloc))
 }
 
 #[test]
 fn steps_are_done_again(rt: HostRuntime) {
-    let Outcome { answers, taken } = again!(&rt, "replay", replay_once(&rt));
+    let Outcome { answers, taken } = again!(&rt, "replay", replay_once(&rt, rt.alloc()));
     let expected = [Ok(1), Ok(2), Ok(3), Err(Error::ChannelSend)];
     expect_same(&rt, "replay", &answers.as_slice(), &expected.as_slice());
     let expected = [(1, 'a'), (2, 'b')];

@@ -2,14 +2,14 @@
 
 use crate::again;
 use crate::descriptors::is_unregistered;
-use crate::expecting::{Host, expect_same};
+use crate::expecting::{Host, Looping, expect_same};
 use crate::jobs::Endpoint;
-use crate::making::{copy_parts, open_table};
+use crate::making::{OnTable, open_table, parts_of};
 use event_manager::{
     Ended, EventPoller, JobSender, LoopWithSenders, NamedCounter, Result, TrackedManager,
     with_senders,
 };
-use fixtures::parts::{Idle, OnTable, Parts};
+use fixtures::parts::{Idle, Parts};
 use fixtures::work::Work;
 use std::alloc::Global;
 use std::sync::atomic::{AtomicU64, Ordering};
@@ -38,7 +38,7 @@ struct Caller<'a> {
     begun: &'a AtomicU64,
 }
 
-impl<'a, R: Host> LoopWithSenders<Idle, Work, Caller<'a>, R> for Callers<'a> {
+impl<'a, R: Looping> LoopWithSenders<Idle, Work, Caller<'a>, R> for Callers<'a> {
     fn begin<N: NamedCounter, P: EventPoller>(
         &mut self,
         _rt: &R,
@@ -57,7 +57,7 @@ impl<'a, R: Host> LoopWithSenders<Idle, Work, Caller<'a>, R> for Callers<'a> {
     }
 }
 
-impl<R: Host> JobSender<Idle, Work, u64, R> for Caller<'_> {
+impl<R: Looping> JobSender<Idle, Work, u64, R> for Caller<'_> {
     /// Gives how many replies there were, each of them its job's number.
     fn send<N: NamedCounter>(self, endpoint: &Endpoint<N>, rt: &R) -> u64 {
         self.begun.fetch_add(1, Ordering::SeqCst);
@@ -78,6 +78,7 @@ impl<R: Host> JobSender<Idle, Work, u64, R> for Caller<'_> {
 /// Makes the loop over the table and runs it beside its callers, once.
 fn run_once<R: Host + Threads + Sync>(
     rt: &R,
+    alloc: Global,
     on_table: &OnTable<R>,
     count: u64,
     begun: &AtomicU64,
@@ -86,14 +87,8 @@ fn run_once<R: Host + Threads + Sync>(
         poller,
         counter,
         ..
-    } = copy_parts(rt, on_table);
-    with_senders(
-        rt,
-        rt.alloc(),
-        poller,
-        counter,
-        &mut Callers { count, begun },
-    )
+    } = parts_of(rt, alloc, on_table);
+    with_senders(rt, alloc, poller, counter, &mut Callers { count, begun })
 }
 
 /// Takes the interest in the endpoint out, which the manager has registered where it was made: whether the endpoint is then
@@ -106,14 +101,14 @@ fn has_begun_nothing<R: Host>(epoll: &mut Epoll<R>, begun: &AtomicU64) -> bool {
 
 /// Runs a loop over a table beside so many threads, which call jobs of it. Where the loop is refused, as for want of one of the
 /// threads, none has begun; and at most the endpoint is left in the table.
-fn run_beside<R: Host + Threads + Sync>(rt: &R, callers: u64) {
-    let mut on_table = open_table(rt);
+fn run_beside<R: Host + Threads + Sync>(rt: &R, alloc: Global, callers: u64) {
+    let mut on_table = open_table(rt, alloc);
     let begun = AtomicU64::new(0);
     let ended = again!(
         rt,
         "with_senders",
-        run_once(rt, &on_table, callers, &begun),
-        has_begun_nothing(&mut on_table.poller, &begun)
+        run_once(rt, alloc, &on_table, callers, &begun),
+        has_begun_nothing(&mut on_table.epoll, &begun)
     );
     expect_same(rt, "with_senders", &ended.ran, &Ok(()));
     let mut replies = 0u64;
@@ -126,10 +121,10 @@ fn run_beside<R: Host + Threads + Sync>(rt: &R, callers: u64) {
 
 #[test]
 fn a_loop_runs_beside_one_caller(rt: HostRuntime) {
-    run_beside(&rt, 1);
+    run_beside(&rt, rt.alloc(), 1);
 }
 
 #[test]
 fn a_loop_runs_beside_two_callers(rt: HostRuntime) {
-    run_beside(&rt, 2);
+    run_beside(&rt, rt.alloc(), 2);
 }

@@ -1,7 +1,7 @@
 //! Subscribers of a manager: their joins, and their requests from outside a batch.
 
 use crate::again;
-use crate::expecting::{Host, expect_ok, expect_same, expect_unchanged};
+use crate::expecting::{Looping, expect_ok, expect_same, expect_unchanged};
 use event_manager::{
     Error, EventManager, EventOps, EventPoller, Events, MutEventSubscriber, NamedCounter, NoJob,
     Priority, Request, Result, SubscriberId, SubscriberOps,
@@ -65,15 +65,16 @@ pub type Manager<N, P> = EventManager<Watcher, NoJob, N, P>;
 
 /// Takes a subscriber of this descriptor in. Had a refused join asked for the descriptor, the second one's request would be
 /// refused.
-pub fn join<N: NamedCounter, P: EventPoller, R: Host>(
+pub fn join<N: NamedCounter, P: EventPoller, R: Looping>(
     rt: &R,
+    alloc: Global,
     manager: &mut Manager<N, P>,
     own: Events,
 ) -> SubscriberId {
     let id = again!(
         rt,
         "add_subscriber",
-        manager.add_subscriber(Watcher::new(own, rt.alloc()))
+        manager.add_subscriber(Watcher::new(own, alloc))
     );
     let call = "EventOps::add in init";
     let joined = expect_ok(rt, "subscriber_mut", manager.subscriber_mut(id)).joined;
@@ -114,7 +115,7 @@ fn is_not_own<N: NamedCounter, P: EventPoller>(
 }
 
 /// Adds the descriptor for the subscriber, from outside a batch, at a priority where one is given.
-pub fn ask<N: NamedCounter, P: EventPoller, R: Host>(
+pub fn ask<N: NamedCounter, P: EventPoller, R: Looping>(
     rt: &R,
     manager: &mut Manager<N, P>,
     id: SubscriberId,
@@ -134,7 +135,7 @@ pub fn ask<N: NamedCounter, P: EventPoller, R: Host>(
 }
 
 /// How many events the subscriber was given.
-pub fn heard<N: NamedCounter, P: EventPoller, R: Host>(
+pub fn heard<N: NamedCounter, P: EventPoller, R: Looping>(
     rt: &R,
     manager: &mut Manager<N, P>,
     id: SubscriberId,

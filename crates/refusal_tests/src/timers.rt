@@ -1,10 +1,11 @@
 //! Timers of a poller, opened and copied, by clocks that stand still.
 
+use crate::again;
 use crate::descriptors::{
     copy_counter, copy_epoll, event_of, is_unopened, is_unregistered, open_counter, open_epoll,
 };
-use crate::expecting::{Host, expect_ok, expect_same};
-use crate::{again, without_memory};
+use crate::expecting::{Host, expect_ok, expect_same, mark};
+use std::alloc::Global;
 use std::io;
 use std::sync::Wait;
 use std::time::{Clock, Duration};
@@ -48,20 +49,25 @@ fn stopped_at<R: Copy>(rt: &R, nanoseconds: u64) -> Stopped<R> {
 type Timed<R> = TimedPoller<Epoll<R>, Stopped<R>>;
 
 /// One over this table, made once.
-fn make_once<R: Host>(rt: &R, epoll: &Epoll<R>, counter: &EventFd) -> Result<Timed<R>, Errno> {
+fn make_once<R: Host>(
+    rt: &R,
+    alloc: Global,
+    epoll: &Epoll<R>,
+    counter: &EventFd,
+) -> Result<Timed<R>, Errno> {
     let poller = copy_epoll(rt, epoll);
     let counter = copy_counter(rt, counter);
-    TimedPoller::new(poller, counter, stopped_at(rt, LATER), rt.alloc())
+    TimedPoller::new(poller, counter, stopped_at(rt, LATER), alloc)
 }
 
 /// One over a new table. A refused one must have left its counter unregistered.
-fn make_timed<R: Host>(rt: &R) -> Timed<R> {
-    let mut epoll = open_epoll(rt);
+fn make_timed<R: Host>(rt: &R, alloc: Global) -> Timed<R> {
+    let mut epoll = open_epoll(rt, alloc);
     let counter = open_counter(rt, &mut epoll, 0);
     again!(
         rt,
         "TimedPoller::new",
-        make_once(rt, &epoll, &counter),
+        make_once(rt, alloc, &epoll, &counter),
         is_unregistered(&mut epoll, 0)
     )
 }
@@ -80,20 +86,18 @@ fn use_timer<R: Host>(rt: &R, timed: &mut Timed<R>, timer: &TimerFd) {
     let event = event_of(timer.as_raw_fd());
     let (early, one) = (stopped_at(rt, 0), Duration::from_nanos(1));
     let mut buffer = [event_of(0)];
-    let answers = without_memory!(
-        rt,
-        (
-            timed.ctl(ControlOperation::Add, timer.as_raw_fd(), event),
-            timer.reset(one, Some(one), &early),
-            timed.wait(0, &mut buffer),
-            timer.wait(&early),
-            timer.is_armed(&early),
-            timer.clear(&early),
-        )
-    );
-    let expected = (Ok(()), Ok(()), Ok(1), Ok(LATER), Ok(true), Ok(()));
-    expect_same(rt, "the calls of a timer", &answers, &expected);
-    expect_same(rt, "the calls of a timer", &buffer, &[event]);
+    mark(rt);
+    let added = timed.ctl(ControlOperation::Add, timer.as_raw_fd(), event);
+    let armed = timer.reset(one, Some(one), &early);
+    let waited = timed.wait(0, &mut buffer);
+    let taken = timer.wait(&early);
+    let is_armed = timer.is_armed(&early);
+    let cleared = timer.clear(&early);
+    mark(rt);
+    let call = "the calls of a timer";
+    expect_same(rt, call, &[added, armed, cleared], &[Ok(()); 3]);
+    expect_same(rt, call, &(waited, buffer), &(Ok(1), [event]));
+    expect_same(rt, call, &(taken, is_armed), &(Ok(LATER), Ok(true)));
 }
 
 /// Opens nine timers, the last by the one before, and answers it.
@@ -115,19 +119,18 @@ fn open_all<R: Host>(rt: &R, timed: &mut Timed<R>) -> TimerFd {
 
 #[test]
 fn timers_are_opened_copied_and_used(rt: HostRuntime) {
-    let mut timed = make_timed(&rt);
+    let mut timed = make_timed(&rt, rt.alloc());
     let last = open_all(&rt, &mut timed);
-    let copied = without_memory!(&rt, last.try_clone());
+    mark(&rt);
+    let copied = last.try_clone();
+    mark(&rt);
     let copy = expect_ok(&rt, "TimerFd::try_clone", copied);
     expect_same(&rt, "TimerFd::try_clone", &copy.as_raw_fd(), &2147483639);
     use_timer(&rt, &mut timed, &copy);
-    without_memory!(
-        &rt,
-        {
-            copy.close(&rt);
-            last.close(&rt);
-        }
-    );
+    mark(&rt);
+    copy.close(&rt);
+    last.close(&rt);
+    mark(&rt);
     let is_closed = is_unopened(&mut timed, 2147483639);
     expect_same(&rt, "TimerFd::close", &is_closed, &true);
 }
