@@ -85,29 +85,29 @@ fn make_step<N: NamedCounter, P: EventPoller, R: Looping>(
     manager: &mut Loop<N, P, R>,
     endpoints: &[Endpoint<N, R>; 2],
     notes: &Notes,
-    step: Step<'_>,
+    step: &Step<'_>,
 ) -> Option<Ticket<N>> {
     let [first, second] = endpoints;
     match step {
-        Step::Fire(from, to) => fire_counting(rt, first, notes, from, to),
-        Step::FireBySecond(number) => fire_counting(rt, second, notes, number, number),
+        Step::Fire(from, to) => fire_counting(rt, first, notes, *from, *to),
+        Step::FireBySecond(number) => fire_counting(rt, second, notes, *number, *number),
         Step::FireAndDrop(count) => {
             let endpoint = expect_ok(rt, manager.remote_endpoint());
-            fire_counting(rt, &endpoint, notes, 1, count);
+            fire_counting(rt, &endpoint, notes, 1, *count);
         }
         Step::FireToShow => return Some(expect_ok(rt, first.fire(Work::Own(0), rt))),
-        Step::AreRefused(refusal) => expect_refusals(rt, first, refusal),
-        Step::Kick(answer) => expect_same(rt, &first.kick(rt), &answer),
-        Step::Run(ms, answer) => expect_same(rt, &manager.run_with_timeout(ms, rt), &answer),
+        Step::AreRefused(refusal) => expect_refusals(rt, first, *refusal),
+        Step::Kick(answer) => expect_same(rt, &first.kick(rt), answer),
+        Step::Run(ms, answer) => expect_same(rt, &manager.run_with_timeout(*ms, rt), answer),
         Step::Wait(count) => {
             let waiting = (first.pending(), second.pending());
-            expect_same(rt, &waiting, &(Some(count), Some(count)));
+            expect_same(rt, &waiting, &(Some(*count), Some(*count)));
         }
-        Step::Count(count) => expect_same(rt, &count_of(rt, notes), &Some(count)),
+        Step::Count(count) => expect_same(rt, &count_of(rt, notes), &Some(*count)),
         Step::Noted(noted) => expect_noted(rt, notes, noted),
         Step::Read(counter) => expect_same(rt, &counter.read(rt), &Ok(1)),
         Step::Join(own) => {
-            expect_ok(rt, add_noting(rt, manager, own, DELIVERED, notes));
+            expect_ok(rt, add_noting(rt, manager, *own, DELIVERED, notes));
         }
     }
     None
@@ -147,7 +147,9 @@ fn follow_and_close<N: NamedCounter, P: EventPoller + Drop, R: Looping>(
     let endpoints = [first, second];
     let mut shown = None;
     for step in course {
-        shown = make_step(rt, &mut manager, &endpoints, notes, *step);
+        if let Some(ticket) = make_step(rt, &mut manager, &endpoints, notes, step) {
+            shown = Some(ticket);
+        }
     }
     let closed = manager.close(rt);
     expect_same(rt, &(closed.issued(), closed.taken()), &counts);
