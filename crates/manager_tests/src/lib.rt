@@ -11,6 +11,8 @@ mod closed_first;
 #[cfg(test)]
 mod closing;
 #[cfg(test)]
+mod compared;
+#[cfg(test)]
 mod costs;
 #[cfg(test)]
 mod endpoint;

@@ -99,39 +99,61 @@ fn a_counter_whose_removal_is_refused_stays(rt: HostRuntime) {
 /// How many events, errors and spurious events a subscriber counted, whether its descriptor hung up, and its fault.
 type State = ((u64, u64, u64), bool, Option<Error>);
 
+/// Expects this state of a shared subscriber of descriptor 0 after these events.
+fn expect_shared<R: Host>(
+    rt: R,
+    alloc: Global,
+    events: Reported<'_>,
+    refusals: Refusals<'_>,
+    expected: State,
+) {
+    let epoll = expect_ok(&rt, Epoll::new(rt, alloc));
+    let subscriber = CounterInnerMutSubscriber::new(counter_of(&rt, &epoll));
+    let shared = expect_ok(&rt, Arc::new(alloc, subscriber));
+    let shared = served(&rt, alloc, &epoll, shared, events, refusals);
+    let counts = (shared.counter(), shared.errors(), shared.spurious());
+    expect_same(&rt, &(counts, shared.hung_up(), shared.fault()), &expected);
+}
+
 #[test]
-fn a_shared_counter_has_the_state_of_its_row(rt: HostRuntime) {
-    let (error, out, none) = (EventSet::ERROR, EventSet::OUT, EventSet::empty());
-    let sets = [IN, IN, error, error, error, out, IN | out, IN | error, none];
-    let of_any_set = sets.map(|set| (set, 0));
-    let twice_refused = [
+fn a_shared_counter_tells_events_by_their_sets(rt: HostRuntime) {
+    let (error, out) = (EventSet::ERROR, EventSet::OUT);
+    let sets = [
+        IN,
+        IN,
+        error,
+        error,
+        error,
+        out,
+        IN | out,
+        IN | error,
+        EventSet::empty(),
+    ];
+    let events = sets.map(|set| (set, 0));
+    expect_shared(rt, rt.alloc(), &events, &[], ((2, 3, 0), false, None));
+}
+
+#[test]
+fn a_shared_counter_whose_removal_is_refused_stays(rt: HostRuntime) {
+    let events = [(HANG_UP, 0), (IN, 0)];
+    let state = ((1, 0, 0), true, FAULT);
+    expect_shared(rt, rt.alloc(), &events, REFUSED_DELETE, state);
+}
+
+#[test]
+fn a_shared_counter_keeps_its_first_fault(rt: HostRuntime) {
+    let events = [(HANG_UP, 0), (HANG_UP, 0)];
+    let refusals = [
         (ControlOperation::Delete, 22),
         (ControlOperation::Delete, 5),
     ];
-    let rows: [(Reported<'_>, Refusals<'_>, State); 4] = [
-        (&of_any_set, &[], ((2, 3, 0), false, None)),
-        (
-            &[(HANG_UP, 0), (IN, 0)],
-            REFUSED_DELETE,
-            ((1, 0, 0), true, FAULT),
-        ),
-        (
-            &[(HANG_UP, 0), (HANG_UP, 0)],
-            &twice_refused,
-            ((0, 0, 0), true, FAULT),
-        ),
-        (
-            &[(IN, 0)],
-            &[(ControlOperation::Add, 22)],
-            ((0, 0, 0), false, FAULT),
-        ),
-    ];
-    for (events, refusals, state) in rows {
-        let epoll = expect_ok(&rt, Epoll::new(rt, rt.alloc()));
-        let subscriber = CounterInnerMutSubscriber::new(counter_of(&rt, &epoll));
-        let shared = expect_ok(&rt, Arc::new(rt.alloc(), subscriber));
-        let shared = served(&rt, rt.alloc(), &epoll, shared, events, refusals);
-        let counts = (shared.counter(), shared.errors(), shared.spurious());
-        expect_same(&rt, &(counts, shared.hung_up(), shared.fault()), &state);
-    }
+    let state = ((0, 0, 0), true, FAULT);
+    expect_shared(rt, rt.alloc(), &events, &refusals, state);
+}
+
+#[test]
+fn a_shared_counter_whose_addition_is_refused_joins_with_the_fault(rt: HostRuntime) {
+    let refusals = [(ControlOperation::Add, 22)];
+    let state = ((0, 0, 0), false, FAULT);
+    expect_shared(rt, rt.alloc(), &[(IN, 0)], &refusals, state);
 }

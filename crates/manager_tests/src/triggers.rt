@@ -31,6 +31,12 @@ fn a_trigger_writes_1_where_there_is_room(rt: HostRuntime) {
         let (event_fd, same) = counter_twice(rt, rt.alloc(), before);
         CounterSubscriber::new(same).trigger_event(&rt);
         expect_same(&rt, &event_fd.read(&rt), &Ok(after));
+    }
+}
+
+#[test]
+fn a_shared_trigger_writes_1_where_there_is_room(rt: HostRuntime) {
+    for (before, after) in ROWS {
         let (event_fd, same) = counter_twice(rt, rt.alloc(), before);
         CounterInnerMutSubscriber::new(same).trigger_event(&rt);
         expect_same(&rt, &event_fd.read(&rt), &Ok(after));
@@ -60,17 +66,24 @@ fn expect_ready<R: Host>(rt: &R, epoll: &mut Epoll<R>, count: usize) {
 #[test]
 fn a_counter_is_ready_from_trigger_to_clear(rt: HostRuntime) {
     let (mut epoll, event_fds) = wanted_counters(rt, rt.alloc());
-    let [event_fd, second, _third] = event_fds;
+    let [event_fd, _second, _third] = event_fds;
     let mut subscriber = CounterSubscriber::new(event_fd);
-    let shared = CounterInnerMutSubscriber::new(second);
     expect_ready(&rt, &mut epoll, 0);
     subscriber.trigger_event(&rt);
     expect_ready(&rt, &mut epoll, 1);
-    shared.trigger_event(&rt);
-    expect_ready(&rt, &mut epoll, 2);
     subscriber.clear_event(&rt);
+    expect_ready(&rt, &mut epoll, 0);
+}
+
+#[test]
+fn a_shared_counter_is_ready_from_trigger_to_clear(rt: HostRuntime) {
+    let (mut epoll, event_fds) = wanted_counters(rt, rt.alloc());
+    let [event_fd, _second, _third] = event_fds;
+    let subscriber = CounterInnerMutSubscriber::new(event_fd);
+    expect_ready(&rt, &mut epoll, 0);
+    subscriber.trigger_event(&rt);
     expect_ready(&rt, &mut epoll, 1);
-    shared.clear_event(&rt);
+    subscriber.clear_event(&rt);
     expect_ready(&rt, &mut epoll, 0);
 }
 
