@@ -42,14 +42,29 @@ fn ask<Q: RingName, N: NamedCounter, R: Wait + Clock + Drop>(
     Ok(endpoint.call_blocking(ApiRequest::Ask(question), rt)??)
 }
 
-fn set_paused<Q: RingName, N: NamedCounter, R: Wait + Clock + Drop>(
+/// Prints the statistics of a device.
+fn print_statistics<Q: RingName, N: NamedCounter, R: Wait + Clock + Print + Drop>(
+    what: &str,
+    endpoint: &Endpoint<Q, N, R>,
+    device: SubscriberId,
+    rt: &R,
+) -> Result<(), Fault> {
+    let statistics = ask(endpoint, device, ApiAction::GetStatistics, rt)?;
+    println!(rt; "{what}: {statistics}")?;
+    Ok(())
+}
+
+/// Pauses the block device, or lets it go on, and prints what it answers.
+fn set_paused<Q: RingName, N: NamedCounter, R: Wait + Clock + Print + Drop>(
     endpoint: &Endpoint<Q, N, R>,
     device: SubscriberId,
     is_paused: bool,
     rt: &R,
-) -> Result<ApiReply, Fault> {
+) -> Result<(), Fault> {
     let pause = SetPaused { device, is_paused };
-    Ok(endpoint.call_blocking(ApiRequest::SetPaused(pause), rt)??)
+    let answer = endpoint.call_blocking(ApiRequest::SetPaused(pause), rt)??;
+    println!(rt; "block: {answer}")?;
+    Ok(())
 }
 
 impl<R: Wait + Clock + Print + Copy + Drop> Client<'_, R> {
@@ -60,16 +75,15 @@ impl<R: Wait + Clock + Print + Copy + Drop> Client<'_, R> {
         endpoint: &Endpoint<Q, N, R>,
         rt: &R,
     ) -> Result<(), Fault> {
-        let ask_net = |action| ask(endpoint, self.net, action, rt);
-        println!(rt; "rate limit: {}", ask_net(ApiAction::UpdateRateLimit(5))?)?;
-        println!(rt; "net, booted: {}", ask_net(ApiAction::GetStatistics)?)?;
+        let limited = ask(endpoint, self.net, ApiAction::UpdateRateLimit(5), rt)?;
+        println!(rt; "rate limit: {limited}")?;
+        print_statistics("net, booted", endpoint, self.net, rt)?;
         self.tap.set(EventSet::IN, rt)?;
-        println!(rt; "net, input: {}", ask_net(ApiAction::GetStatistics)?)?;
+        print_statistics("net, input", endpoint, self.net, rt)?;
         self.tap.set(EventSet::HANG_UP, rt)?;
-        println!(rt; "net, hang-up: {}", ask_net(ApiAction::GetStatistics)?)?;
+        print_statistics("net, hang-up", endpoint, self.net, rt)?;
         self.tap.set(EventSet::IN, rt)?;
-        println!(rt; "net, late input: {}", ask_net(ApiAction::GetStatistics)?)?;
-        Ok(())
+        print_statistics("net, late input", endpoint, self.net, rt)
     }
 
     fn use_console<Q: RingName, N: NamedCounter>(
@@ -84,18 +98,10 @@ impl<R: Wait + Clock + Print + Copy + Drop> Client<'_, R> {
         let ApiReply::PluggedIn(id) = plugged_in else {
             return Err(Fault::Reply);
         };
-        let ask_console = |action| ask(endpoint, id, action, rt);
         line.set(EventSet::IN, rt)?;
-        println!(rt;
-            "console, input: {}",
-            ask_console(ApiAction::GetStatistics)?
-        )?;
+        print_statistics("console, input", endpoint, id, rt)?;
         line.set(EventSet::HANG_UP, rt)?;
-        println!(rt;
-            "console, hang-up: {}",
-            ask_console(ApiAction::GetStatistics)?
-        )?;
-        Ok(())
+        print_statistics("console, hang-up", endpoint, id, rt)
     }
 
     // Pauses the device while the guest reads, and at last.
@@ -105,21 +111,19 @@ impl<R: Wait + Clock + Print + Copy + Drop> Client<'_, R> {
         rt: &R,
     ) -> Result<(), Fault> {
         let device = self.block;
-        let ask_block = || ask(endpoint, device, ApiAction::GetStatistics, rt);
-        println!(rt; "block, booted: {}", ask_block()?)?;
+        print_statistics("block, booted", endpoint, device, rt)?;
         self.refill.write(1, rt)?;
-        println!(rt; "block, refilled: {}", ask_block()?)?;
-        println!(rt; "block: {}", set_paused(endpoint, device, true, rt)?)?;
+        print_statistics("block, refilled", endpoint, device, rt)?;
+        set_paused(endpoint, device, true, rt)?;
         let _ = self.shared.is_paused.set(rt, ());
         if !*self.shared.has_read.wait(rt) {
             return Ok(());
         }
         self.refill.write(1, rt)?;
-        println!(rt; "block, paused: {}", ask_block()?)?;
-        println!(rt; "block: {}", set_paused(endpoint, device, false, rt)?)?;
-        println!(rt; "block, at work: {}", ask_block()?)?;
-        println!(rt; "block: {}", set_paused(endpoint, device, true, rt)?)?;
-        Ok(())
+        print_statistics("block, paused", endpoint, device, rt)?;
+        set_paused(endpoint, device, false, rt)?;
+        print_statistics("block, at work", endpoint, device, rt)?;
+        set_paused(endpoint, device, true, rt)
     }
 
     fn use_devices<Q: RingName, N: NamedCounter>(

@@ -46,6 +46,17 @@ fn all_ran(sent: Vec<Result<(), Fault>>) -> Result<(), Fault> {
     Ok(())
 }
 
+/// Prints what ended the loop, and how many jobs were issued and taken.
+fn print_end<R: Print>(rt: &R, has_exited: bool, issued: u64, taken: u64) -> Result<(), Fault> {
+    let why = if has_exited {
+        "the exit event"
+    } else {
+        "the end of its threads"
+    };
+    println!(rt; "ended by {why}; jobs: {issued} issued, {taken} taken")?;
+    Ok(())
+}
+
 /// Runs the machine, prints what ended its loop and how many jobs were issued and taken, and returns what came of the block device,
 /// whose life in the loop it is. Whatever the other devices, the API and the poller do, requests are served in the order of the
 /// queue, each once, none while paused, and at most as many as a full bucket and its refills have tokens. No other ring has its
@@ -71,13 +82,7 @@ where
     lives_are_its_own::<Device<Q, R>>();
     let block = machine.take_block(&mut ended.subscribers)?;
     all_ran(ended.sent)?;
-    let why = if machine.has_exited() {
-        "the exit event"
-    } else {
-        "the end of its threads"
-    };
-    let (issued, taken) = (ended.issued, ended.taken);
-    println!(rt; "ended by {why}; jobs: {issued} issued, {taken} taken")?;
+    print_end(rt, machine.has_exited(), ended.issued, ended.taken)?;
     Ok(BlockReport::new(block, &mut ring.lock(rt), alloc)?)
 }
 

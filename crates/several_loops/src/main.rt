@@ -8,7 +8,7 @@ mod fault;
 mod worker;
 
 use acceptor::{Acceptor, Client, Lane};
-use channels::channel;
+use channels::{Receiver, Sender, channel};
 use closing::Closing;
 use event_manager::with_loops;
 use fault::Fault;
@@ -35,40 +35,71 @@ const CLIENTS: [Client; 7] = [
     ["Leslie", "Lamport"],
 ];
 
+/// A channel that a loop over the poller can watch, whose sender closes where it is dropped.
+fn open_channel<M: Drop, R: Wait + Clock + Copy + Drop>(
+    epoll: &Epoll<R>,
+    rt: &R,
+    alloc: Global,
+) -> Result<(Closing<Sender<M>, R>, Receiver<M>), Fault> {
+    let (sender, receiver) = channel(EventFd::new(epoll, 0, rt)?, alloc)?;
+    Ok((Closing::new(sender, *rt), receiver))
+}
+
+/// All clients come, by a channel whose sender is closed.
+fn send_clients<R: Wait + Clock + Copy + Drop>(
+    epoll: &Epoll<R>,
+    rt: &R,
+    alloc: Global,
+) -> Result<Receiver<Client>, Fault> {
+    let (to_acceptor, clients) = open_channel(epoll, rt, alloc)?;
+    for client in CLIENTS {
+        to_acceptor.end.send(client, rt)?;
+    }
+    Ok(clients)
+}
+
+/// A worker, and the way to it.
+fn open_worker<R: Wait + Clock + Copy + Send + Drop>(
+    number: usize,
+    to_report: &Sender<Report>,
+    rt: &R,
+    alloc: Global,
+) -> Result<(Lane<R>, Worker<Epoll<R>>), Fault> {
+    let poller = Epoll::new(*rt, alloc)?;
+    let epoll = poller.try_clone()?;
+    let (to_worker, connections) = open_channel(&poller, rt, alloc)?;
+    let worker = Worker {
+        number,
+        poller,
+        connections,
+        reports: to_report.try_clone(rt)?,
+        alloc,
+    };
+    let lane = Lane {
+        epoll,
+        connections: to_worker,
+    };
+    Ok((lane, worker))
+}
+
 /// Runs the loops, and answers what the workers report, by their numbers.
 fn serve<R: Threads + Wait + Clock + Copy + Send + Sync + Drop>(
     rt: &R,
     alloc: Global,
 ) -> Result<Vec<Report>, Fault> {
-    let epoll = Epoll::new(*rt, alloc)?;
-    let (to_acceptor, clients) = channel(EventFd::new(&epoll, 0, rt)?, alloc)?;
-    let to_acceptor = Closing::new(to_acceptor, *rt);
-    let (to_report, reports) = channel(EventFd::new(&epoll, 0, rt)?, alloc)?;
-    let to_report = Closing::new(to_report, *rt);
+    let poller = Epoll::new(*rt, alloc)?;
+    let clients = send_clients(&poller, rt, alloc)?;
+    let (to_report, reports) = open_channel(&poller, rt, alloc)?;
     let mut lanes = Vec::new(alloc);
     let mut workers = Vec::new(alloc);
     for number in 0..WORKERS {
-        let epoll = Epoll::new(*rt, alloc)?;
-        let (to_worker, connections) = channel(EventFd::new(&epoll, 0, rt)?, alloc)?;
-        lanes.push(Lane {
-            epoll: epoll.try_clone()?,
-            connections: Closing::new(to_worker, *rt),
-        })?;
-        workers.push(Worker {
-            number,
-            poller: epoll,
-            connections,
-            reports: to_report.end.try_clone(rt)?,
-            alloc,
-        })?;
+        let (lane, worker) = open_worker(number, &to_report.end, rt, alloc)?;
+        lanes.push(lane)?;
+        workers.push(worker)?;
     }
     drop(to_report);
-    for client in CLIENTS {
-        to_acceptor.end.send(client, rt)?;
-    }
-    drop(to_acceptor);
     let acceptor = Acceptor {
-        poller: epoll,
+        poller,
         clients,
         reports,
         lanes,
