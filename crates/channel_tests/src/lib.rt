@@ -4,6 +4,8 @@
 #[cfg(test)]
 mod bounds;
 #[cfg(test)]
+mod drops;
+#[cfg(test)]
 mod ends;
 #[cfg(test)]
 mod expecting;

@@ -3,8 +3,6 @@
 
 mod close;
 mod closing;
-#[cfg(test)]
-mod drops;
 
 pub use close::Close;
 pub use closing::Closing;

@@ -81,13 +81,15 @@ fn let_leave<R: Wait + Clock + Drop, P: EventPoller>(
 }
 
 /// Serves what comes until no more does and all are over, and answers what was done.
-fn serve<R: Wait + Clock + Copy + Drop, P: EventPoller>(
-    peers: &mut EventLoop<Peer<R>, P>,
-    to_come: SubscriberId,
+fn serve<R: Wait + Clock + Copy + Drop, P: EventPoller + Drop>(
     number: usize,
+    poller: P,
+    connections: Receiver<Connection>,
     alloc: Global,
     rt: &R,
 ) -> Result<Report> {
+    let mut peers = EventLoop::new(alloc, poller)?;
+    let to_come = peers.add_subscriber(Either::First(Inbox::new(connections, alloc, *rt)))?;
     let mut members = Vec::new(alloc);
     let mut report = Report {
         worker: number,
@@ -96,9 +98,9 @@ fn serve<R: Wait + Clock + Copy + Drop, P: EventPoller>(
     };
     for _run in rt.forever() {
         // Before the wait, since one whose request was refused has no event that would end it.
-        let all_came = let_join(peers, to_come, &mut members, rt)?;
+        let all_came = let_join(&mut peers, to_come, &mut members, rt)?;
         for member in &members {
-            let_leave(peers, *member, &mut report)?;
+            let_leave(&mut peers, *member, &mut report)?;
         }
         members.retain(|member| peers.subscriber(*member).is_ok());
         if all_came && members.is_empty() {
@@ -121,10 +123,7 @@ impl<P: EventPoller + Drop, R: Wait + Clock + Copy + Drop> ThreadLoop<R> for Wor
             alloc,
         } = self;
         let reports = Closing::new(reports, *rt);
-        let mut peers = EventLoop::new(alloc, poller)?;
-        let connections = Inbox::new(connections, alloc, *rt);
-        let to_come = peers.add_subscriber(Either::First(connections))?;
-        let report = serve(&mut peers, to_come, number, alloc, rt)?;
+        let report = serve(number, poller, connections, alloc, rt)?;
         reports.end.send(report, rt)?;
         Ok(())
     }
