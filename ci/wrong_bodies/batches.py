@@ -2,10 +2,11 @@
 
 A batch is a repository of copies. Each wrong body has its own copy of the crate that it stands in, and of each crate between
 that one and the crate that shows it, under names with a number; what lies below is there once. What shows them stands in one
-crate (ci/joined.py), in a module for each wrong body: the named test, with what the crate of that test has beside tests; or the
-program, which the first argument picks. Programs stand there once more over the crates as they are.
+crate (ci/joined.py), in a module for each wrong body: the named test, with the modules that it stands on, of its crate and of
+`fixtures`; or the program, which the first argument picks. Programs stand there once more over the crates as they are.
 """
 
+import os
 import re
 import shutil
 
@@ -13,7 +14,7 @@ import joined
 import tries
 from command import ROOT
 from edits import BadEdit, Edit
-from joined import JOINED, lay_module, renamed, rewrite, text_of, unchanged, write
+from joined import JOINED, lay_module, renamed, rewrite, text_of, write
 
 # How many wrong bodies are tried in one run.
 MOST = 24
@@ -33,6 +34,9 @@ PICKED_HEAD = (
 STREAM = re.compile(r"\brt(?=\.std(?:in|out|err)\(\))")
 # A test with its name and what is said above it, as `rt fmt` lays it out.
 TEST = re.compile(r"^( *)(?://.*\n\1)*#\[test\]\n(?:\1#.*\n)*\1fn (\w+)(?:.*\n)*?\1}\n", re.M)
+# What crates of tests share: as of those, each of its modules is a file, and is named by each import from it.
+FIXTURES = "fixtures"
+MODULE = re.compile(r"^(?:#\[cfg\(test\)\]\n)?(?:pub )?mod (\w+);\n", re.M)
 
 
 class TestedEdit(Edit):
@@ -70,6 +74,39 @@ def batches_of(edits):
         yield from (group[at : at + size] for at in range(0, len(group), size))
 
 
+def modules_of(folder):
+    """The texts of a crate's modules, each of which is a file."""
+    return {it.removesuffix(".rt"): text_of(f"{folder}/src/{it}") for it in os.listdir(f"{folder}/src")}
+
+
+def used(texts, names):
+    """Of the modules of a crate, by their texts, those with these names and what they stand on, and those that have macros."""
+    found, left = set(), [*names, *(name for name, text in texts.items() if "#[macro_export]" in text)]
+    while left:
+        name = left.pop()
+        if name in texts and name not in found:
+            found.add(name)
+            left += re.findall(r"\bcrate::(\w+)", texts[name])
+    return found
+
+
+def leave_used(folder, names):
+    """Takes away what a crate has beside these modules and what they stand on."""
+    texts = modules_of(folder)
+    left = used(texts, names)
+    for it in texts.keys() - left - {"lib"}:
+        os.remove(f"{folder}/src/{it}.rt")
+    write(f"{folder}/src/lib.rt", MODULE.sub(lambda found: found[0] if found[1] in left else "", texts["lib"]))
+
+
+def used_by(edit):
+    """The modules that have an edit's test, and those that these use of what crates of tests share."""
+    texts = modules_of(f"{ROOT}/crates/{edit.target}")
+    own = [name for name, text in texts.items() if re.search(rf"\bfn {edit.test.rpartition('::')[2]}\(", text)]
+    text = "".join(texts[it] for it in used(texts, own))
+    return {edit.target: own, FIXTURES: set(re.findall(rf"\b{FIXTURES}::(\w+)", text))}
+
+
 def with_test(edit):
     """Of the text of a crate of tests, what a module has in which the test of an edit stands alone."""
     kept = edit.test.rpartition("::")[2]
@@ -86,15 +123,21 @@ def lay_edited(room, module, edit):
     """Lays what one edit changes, and what shows it over that; answers the crates that its module stands on."""
     changed = {it for it in tries.below(edit.target) if edit.crate in tries.below(it) | {it}}
     names = {it: f"{it}_of_{module}" for it in changed}
+    used_of = {} if edit.is_of_a_program else used_by(edit)
+
+    def change(crate, folder):
+        if crate == edit.crate:
+            edit.apply(folder)
+        if crate in used_of:
+            leave_used(folder, used_of[crate])
+
     for crate, name in names.items():
         folder = f"{room}/crates/{name}"
         shutil.copytree(f"{ROOT}/crates/{crate}", folder, ignore=tries.UNUSED)
-        if crate == edit.crate:
-            edit.apply(folder)
+        change(crate, folder)
         rewrite(f"{folder}/src", lambda text: renamed(as_picked(text) if edit.is_of_a_program else text, names))
     tries.list_crates(room, {name: [names.get(it, it) for it in tries.DEPENDENCIES[crate]] for crate, name in names.items()})
-    change = edit.apply if edit.crate == edit.target else unchanged
-    lay_module(room, edit.target, module, names, change, as_picked if edit.is_of_a_program else with_test(edit))
+    lay_module(room, edit.target, module, names, lambda folder: change(edit.target, folder), as_picked if edit.is_of_a_program else with_test(edit))
     return [names.get(it, it) for it in tries.DEPENDENCIES[edit.target]]
 
 
