@@ -4,8 +4,6 @@
 #[cfg(test)]
 mod bounds;
 #[cfg(test)]
-mod drops;
-#[cfg(test)]
 mod ends;
 #[cfg(test)]
 mod expecting;

@@ -3,6 +3,8 @@
 
 mod close;
 mod closing;
+#[cfg(test)]
+mod drops;
 
 pub use close::Close;
 pub use closing::Closing;
