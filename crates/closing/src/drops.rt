@@ -1,6 +1,6 @@
 //! What a drop closes, and what it doesn't.
 
-use crate::Closing;
+use crate::closing::Closing;
 use channels::{Refusal, channel};
 use std::process::Abort;
 use std::sync::Wait;
