@@ -134,6 +134,13 @@ def cases_of(room, crate, folder):
     return became
 
 
+def free_memory():
+    """How many bytes of memory are free, as far as the kernel tells."""
+    with open("/proc/meminfo", encoding="ascii") as it:
+        found = re.search(r"^MemAvailable:\s+(\d+) kB", it.read(), re.M)
+    return 1024 * int(found[1]) if found else 0
+
+
 class Processors:
     """Lets a run begin at once, or only where a processor is idle; none once it is told to end."""
 

@@ -9,6 +9,7 @@ crate (ci/joined.py), in a module for each wrong body: the named test, with the 
 import os
 import re
 import shutil
+from itertools import accumulate, groupby
 
 import joined
 import tries
@@ -16,8 +17,9 @@ from command import ROOT
 from edits import BadEdit, Edit
 from joined import JOINED, lay_module, renamed, rewrite, text_of, write
 
-# How many wrong bodies are tried in one run.
-MOST = 24
+# How many crates are copied for the wrong bodies of one run. With more of them each copy costs more, with fewer what is the same in
+# each run.
+MOST_COPIES = 48
 # As `rt fmt` lays it out. A module of tests has none.
 MAIN = re.compile(r"^fn main\((?:.*\n)*?}\n", re.M)
 # What a program answers.
@@ -62,16 +64,26 @@ def answer_of(crate):
     return ANSWER.search(text_of(f"{ROOT}/crates/{crate}/src/main.rt"))[1]
 
 
+def between(edit):
+    """The crate that an edit stands in, and those between it and the crate that shows it."""
+    return {it for it in tries.below(edit.target) if edit.crate in tries.below(it) | {it}}
+
+
+def in_shares(group):
+    """The edits of a group in shares of as many copies of crates, a program's own being one."""
+    so_far = [*accumulate(len(between(it)) or 1 for it in group)]
+    shares = -(-so_far[-1] // MOST_COPIES)
+    for _, some in groupby(zip(so_far, group), key=lambda it: (it[0] - 1) * shares // so_far[-1]):
+        yield [edit for _, edit in some]
+
+
 def batches_of(edits):
     """The edits in groups for a run each: those that tests must show, or programs that answer alike; by the crates that show them."""
     groups = {}
     for it in edits:
         groups.setdefault(it.is_of_a_program and answer_of(it.target), []).append(it)
     for group in groups.values():
-        group.sort(key=lambda it: it.target)
-        count = -(-len(group) // MOST)
-        size = -(-len(group) // count)
-        yield from (group[at : at + size] for at in range(0, len(group), size))
+        yield from in_shares(sorted(group, key=lambda it: it.target))
 
 
 def modules_of(folder):
@@ -121,8 +133,7 @@ def as_picked(text):
 
 def lay_edited(room, module, edit):
     """Lays what one edit changes, and what shows it over that; answers the crates that its module stands on."""
-    changed = {it for it in tries.below(edit.target) if edit.crate in tries.below(it) | {it}}
-    names = {it: f"{it}_of_{module}" for it in changed}
+    names = {it: f"{it}_of_{module}" for it in between(edit)}
     used_of = {} if edit.is_of_a_program else used_by(edit)
 
     def change(crate, folder):

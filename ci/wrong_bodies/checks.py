@@ -21,12 +21,6 @@ KEPT = "out/incremental"
 MEMORY = 2_500_000_000
 
 
-def memory():
-    """How much memory is free."""
-    found = re.search(r"^MemAvailable:\s+(\d+) kB", text_of("/proc/meminfo"), re.M)
-    return 1024 * int(found[1]) if found else MEMORY
-
-
 class Ended(Exception):
     """Why a command did not run to its end: this one was told to end."""
 
@@ -37,7 +31,7 @@ class Lanes:
 
     def __init__(self):
         self.processors = tries.Processors()
-        self.free = threading.Semaphore(max(1, min(self.processors.there(), memory() // MEMORY)))
+        self.free = threading.Semaphore(max(1, min(self.processors.there(), tries.free_memory() // MEMORY)))
         self.changing, self.running, self.is_over, self.took = threading.Lock(), set(), False, {}
 
     def run(self, words, folder, what):

@@ -11,7 +11,7 @@ use vmm_sys::script_poller::ScriptPoller;
 /// How many subscribers there are, or descriptors of one.
 const FEW: i32 = 40;
 
-const MANY: i32 = 100_000;
+const MANY: i32 = 20_000;
 
 /// How often the calls are made.
 const CALLS: u32 = 4_000;
@@ -20,7 +20,7 @@ const CALLS: u32 = 4_000;
 const REPEATS: u32 = 3;
 
 /// How many times as long calls may take beside many: by caches, and by what else the machine does. Where each of the others
-/// is looked at, they take a hundred times as long.
+/// is looked at, they take more than 24 times as long.
 const MOST: u32 = 8;
 
 /// Which calls are made, all of them for who came last.
