@@ -6,7 +6,7 @@ import subprocess
 import tries
 from command import ROOT
 
-# With less a processor the checks beside each other may not have room, since huge pages take a third more.
+# With less a processor the checks beside each other may not have room, since huge pages take half as much again.
 LEAST_MEMORY = 5_000_000_000
 
 
