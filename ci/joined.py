@@ -32,22 +32,14 @@ def within(module, folder):
     return lambda text: re.sub(rf"\bcrate::{stays}", f"crate::{module}::", TACTIC.sub("", text))
 
 
-def renamed(text, names):
-    """The text with other names of crates, where they begin a path: a module may be named as its crate is."""
-    for old, new in names.items():
-        text = re.sub(rf"(?<!::)\b{old}(?=::)|(?<=Rattle\.){old}\b", new, text)
-    return text
-
-
-def lay_module(room, crate, module, names, change=unchanged, change_text=unchanged):
-    """Lays a crate as a module of the joined one, over crates of these names: `change` is made of its folder first, and `change_text`
-    of each file."""
+def lay_module(room, crate, module, change=unchanged, change_text=unchanged):
+    """Lays a crate as a module of the joined one: `change` is made of its folder first, and `change_text` of each file."""
     source, folder = f"{room}/crates/{JOINED}/src/{module}", f"{room}/{module}"
     shutil.copytree(f"{ROOT}/crates/{crate}/src", f"{folder}/src")
     change(folder)
     shutil.move(f"{folder}/src", source)
     change_paths = within(module, source)
-    rewrite(source, lambda text: renamed(change_paths(change_text(text)), names))
+    rewrite(source, lambda text: change_paths(change_text(text)))
     root = f"{source}/{'main' if tries.is_program(crate) else 'lib'}.rt"
     lines = [line for line in text_of(root).splitlines() if not line.startswith("#![")]
     os.remove(root)
@@ -78,7 +70,7 @@ def tests_of(room, crates):
     lay_below(room, crates)
     modules = {crate: f"of_{crate}" for crate in crates}
     for crate, module in modules.items():
-        lay_module(room, crate, module, {})
+        lay_module(room, crate, module)
     list_joined(room, [needed for crate in crates for needed in tries.DEPENDENCIES[crate]])
     write_tests(room, modules.values())
     became = tries.tests_of(room, JOINED)

@@ -69,13 +69,13 @@ def list_crates(room, lines):
 
 
 def environment(room):
-    """That of `rt try`, but that the check for reserved names, a third of its time, ends at once: rt starts it by `sh`, and
-    no word or variable of rt leaves it out."""
+    """That of `rt try`, but that a crate may call C (ci/wrong_bodies/batches.py), and that the check for reserved names, a third of its
+    time, ends at once: rt starts it by `sh`, and no word or variable of rt leaves it out."""
     os.mkdir(f"{room}/bin")
     with open(f"{room}/bin/sh", "w", encoding="utf-8") as it:
         it.write('#!/bin/sh\ncase "$*" in *"/rattle check "*) exit 0 ;; esac\nexec /bin/sh "$@"\n')
     os.chmod(f"{room}/bin/sh", 0o755)
-    return {**os.environ, "PATH": f"{room}/bin:{os.environ['PATH']}"}
+    return {**os.environ, "PATH": f"{room}/bin:{os.environ['PATH']}", "RT_ALLOW_C": "1"}
 
 
 def run(room, crate, words, stderr, given=b""):

@@ -1,27 +1,42 @@
 """Wrong bodies of tests and of programs, many in one run of `rt try`.
 
-A batch is a repository of copies. Each wrong body has its own copy of the crate that it stands in, and of each crate between
-that one and the crate that shows it, under names with a number; what lies below is there once. What shows them stands in one
-crate (ci/joined.py), in a module for each wrong body: the named test, with the modules that it stands on, of its crate and of
-`fixtures`; or the program, which the first argument picks. Programs stand there once more over the crates as they are.
+A batch is a repository of the crates as they are, but that a function which edits change has its own body and theirs, and begins
+with a choice. What shows the edits stands in one crate (ci/joined.py), with a module for each crate of tests or program. Of tests
+there are the named ones, and for each edit one more, which picks the edit and then does the same; of programs the first argument
+picks. Rattle has no variable of a whole process: one of the C library's serves, the mask of its log, which nothing else here
+touches. So each test and each run of a program, which are processes of their own, may pick one edit.
 """
 
 import os
 import re
-import shutil
-from itertools import accumulate, groupby
 
 import joined
 import tries
 from command import ROOT
 from edits import BadEdit, Edit
-from joined import JOINED, lay_module, renamed, rewrite, text_of, write
+from functions import parts_of
+from joined import JOINED, rewrite, text_of, write
 
-# How many crates are copied for the wrong bodies of one run. With more of them each copy costs more, with fewer what is the same in
-# each run.
-MOST_COPIES = 48
-# As `rt fmt` lays it out. A module of tests has none.
-MAIN = re.compile(r"^fn main\((?:.*\n)*?}\n", re.M)
+# How many edits a run has. A run's tests are made in turn, and some of them wait.
+MOST_EDITS = 80
+PICKED = "picked_edit"
+# The mask that a process begins with is less than this.
+FIRST = 1000
+PICKS = """//! Which wrong body runs.
+#![tactic(auto)]
+
+unsafe extern "C" {
+    safe fn setlogmask(mask: i32) -> i32;
+}
+
+pub fn pick(edit: i32) {
+    let _before = setlogmask(edit);
+}
+
+pub fn is_picked(edit: i32) -> bool {
+    setlogmask(0) == edit
+}
+"""
 # What a program answers.
 ANSWER = re.compile(r"^fn main\(.*\) -> (?:\w+::)*(\w+)", re.M)
 ANSWERS = {"Result": "anyhow::Result<()>", "ExitCode": "std::process::ExitCode"}
@@ -36,16 +51,15 @@ PICKED_HEAD = (
 STREAM = re.compile(r"\brt(?=\.std(?:in|out|err)\(\))")
 # A test with its name and what is said above it, as `rt fmt` lays it out.
 TEST = re.compile(r"^( *)(?://.*\n\1)*#\[test\]\n(?:\1#.*\n)*\1fn (\w+)(?:.*\n)*?\1}\n", re.M)
-# What crates of tests share: as of those, each of its modules is a file, and is named by each import from it.
-FIXTURES = "fixtures"
-MODULE = re.compile(r"^(?:#\[cfg\(test\)\]\n)?(?:pub )?mod (\w+);\n", re.M)
+# A function that the compiler runs can't ask what is picked.
+CONSTANT = re.compile(r"\bconst (?:unsafe )?$")
 
 
 class TestedEdit(Edit):
     """A wrong body, and what must show it."""
 
     def __init__(self, path):
-        super().__init__(path, ("test", "request", "case", "output", "crate"))
+        super().__init__(path, ("test", "request", "case", "output", "crate", "more"))
         self.target, self.case = self.said.get("crate", self.crate), self.said.get("case")
         self.is_of_a_program = "case" in self.said or "output" in self.said
         # the words by which `rt try` refuses a request of the test's
@@ -54,27 +68,64 @@ class TestedEdit(Edit):
         if not self.test or not self.changes:
             raise BadEdit(f"{self.name}: it names no test, case or output, or changes nothing")
 
+    @property
+    def test_name(self):
+        return self.test.rpartition("::")[2]
+
     def names(self, path):
         """Whether this is the path of its test."""
         return path == self.test or path.endswith(f"::{self.test}")
+
+    def bodies(self, folder):
+        """By file and number the bodies that it gives functions of its crate, in a copy as it stands; none where it changes more."""
+        found = {}
+        for file, text in self.changed(folder).items():
+            (own, around), (wrong, around_wrong) = parted(text_of(f"{folder}/{file}")), parted(text)
+            if around != around_wrong:
+                return {}
+            found |= {(file, number): body for number, body in enumerate(wrong) if body != own[number]}
+        return found
+
+    def is_of_bodies(self):
+        """Whether it changes bodies alone, so that others may stand beside it."""
+        return bool(self.bodies(f"{ROOT}/crates/{self.crate}"))
+
+
+def parted(text):
+    """The bodies of the functions of a text, and what stands before, between and behind them."""
+    bodies, around, end = [], [], 0
+    for head, body, its_end in parts_of(text):
+        # (one within another is a part of it)
+        if head >= end and not CONSTANT.search(text[:head]):
+            around.append(text[end:body])
+            bodies.append(text[body:its_end])
+            end = its_end
+    return bodies, [*around, text[end:]]
+
+
+def choice(own, wrong):
+    """A body that is the one of the edit that is picked, by their numbers, or else its own."""
+    picks = "".join(f"if {PICKED}::is_picked({number}) {body.rstrip()} else " for number, body in wrong)
+    return f"{{\n{picks}{own.rstrip()}\n}}\n" if wrong else own
+
+
+def lay_choices(folder, edits):
+    """Gives the functions of a copy of a crate the bodies of these edits, by their numbers, and the crate what these add."""
+    wrong = {}
+    for number, edit in edits.items():
+        for (file, place), body in edit.bodies(folder).items():
+            wrong.setdefault(file, {}).setdefault(place, []).append((number, body))
+    for file, of_file in wrong.items():
+        own, around = parted(text_of(f"{folder}/{file}"))
+        bodies = [choice(body, of_file.get(place, [])) for place, body in enumerate(own)]
+        write(f"{folder}/{file}", "".join(it for pair in zip(around, [*bodies, ""]) for it in pair))
+    for file, more in dict.fromkeys(it for edit in edits.values() for it in edit.more):
+        write(f"{folder}/{file}", f"{text_of(f'{folder}/{file}')}{more}\n")
 
 
 def answer_of(crate):
     """What the program of a crate answers."""
     return ANSWER.search(text_of(f"{ROOT}/crates/{crate}/src/main.rt"))[1]
-
-
-def between(edit):
-    """The crate that an edit stands in, and those between it and the crate that shows it."""
-    return {it for it in tries.below(edit.target) if edit.crate in tries.below(it) | {it}}
-
-
-def in_shares(group):
-    """The edits of a group in shares of as many copies of crates, a program's own being one."""
-    so_far = [*accumulate(len(between(it)) or 1 for it in group)]
-    shares = -(-so_far[-1] // MOST_COPIES)
-    for _, some in groupby(zip(so_far, group), key=lambda it: (it[0] - 1) * shares // so_far[-1]):
-        yield [edit for _, edit in some]
 
 
 def batches_of(edits):
@@ -83,46 +134,29 @@ def batches_of(edits):
     for it in edits:
         groups.setdefault(it.is_of_a_program and answer_of(it.target), []).append(it)
     for group in groups.values():
-        yield from in_shares(sorted(group, key=lambda it: it.target))
+        group.sort(key=lambda it: it.target)
+        runs = -(-len(group) // MOST_EDITS)
+        yield from (group[it * len(group) // runs : (it + 1) * len(group) // runs] for it in range(runs))
 
 
-def modules_of(folder):
-    """The texts of a crate's modules, each of which is a file."""
-    return {it.removesuffix(".rt"): text_of(f"{folder}/src/{it}") for it in os.listdir(f"{folder}/src")}
+def with_pick(test, number):
+    """A test that picks an edit first."""
+    _, body, _ = next(parts_of(test))
+    head = re.sub(r"\bfn \w+", lambda name: f"{name[0]}{tail_of(number)}", test[:body], count=1)
+    return f"{head}{{\n{PICKED}::pick({number});\n{test[body + 1 :]}"
 
 
-def used(texts, names):
-    """Of the modules of a crate, by their texts, those with these names and what they stand on, and those that have macros."""
-    found, left = set(), [*names, *(name for name, text in texts.items() if "#[macro_export]" in text)]
-    while left:
-        name = left.pop()
-        if name in texts and name not in found:
-            found.add(name)
-            left += re.findall(r"\bcrate::(\w+)", texts[name])
-    return found
+def tail_of(number):
+    """The end of the name of a test that picks the edit of this number."""
+    return f"_with_edit_{number}"
 
 
-def leave_used(folder, names):
-    """Takes away what a crate has beside these modules and what they stand on."""
-    texts = modules_of(folder)
-    left = used(texts, names)
-    for it in texts.keys() - left - {"lib"}:
-        os.remove(f"{folder}/src/{it}.rt")
-    write(f"{folder}/src/lib.rt", MODULE.sub(lambda found: found[0] if found[1] in left else "", texts["lib"]))
-
-
-def used_by(edit):
-    """The modules that have an edit's test, and those that these use of what crates of tests share."""
-    texts = modules_of(f"{ROOT}/crates/{edit.target}")
-    own = [name for name, text in texts.items() if re.search(rf"\bfn {edit.test.rpartition('::')[2]}\(", text)]
-    text = "".join(texts[it] for it in used(texts, own))
-    return {edit.target: own, FIXTURES: set(re.findall(rf"\b{FIXTURES}::(\w+)", text))}
-
-
-def with_test(edit):
-    """Of the text of a crate of tests, what a module has in which the test of an edit stands alone."""
-    kept = edit.test.rpartition("::")[2]
-    return lambda text: MAIN.sub("", TEST.sub(lambda found: found[0] if found[2] == kept else "", text))
+def with_tests(edits):
+    """Of the text of a crate of tests: the tests that these edits name, by their numbers, and behind each one those that pick."""
+    def change(found):
+        picking = [with_pick(found[0], number) for number, it in edits.items() if it.test_name == found[2]]
+        return "".join([found[0], *picking]) if picking else ""
+    return lambda text: TEST.sub(change, text)
 
 
 def as_picked(text):
@@ -131,78 +165,79 @@ def as_picked(text):
     return HEAD.sub(PICKED_HEAD, STREAM.sub("host", text)).replace("<HostRuntime>", "<R>") if HEAD.search(text) else text
 
 
-def lay_edited(room, module, edit):
-    """Lays what one edit changes, and what shows it over that; answers the crates that its module stands on."""
-    names = {it: f"{it}_of_{module}" for it in between(edit)}
-    used_of = {} if edit.is_of_a_program else used_by(edit)
+def numbered(edits):
+    """The edits of a batch by their numbers."""
+    return dict(enumerate(edits, FIRST))
 
-    def change(crate, folder):
-        if crate == edit.crate:
-            edit.apply(folder)
-        if crate in used_of:
-            leave_used(folder, used_of[crate])
 
-    for crate, name in names.items():
-        folder = f"{room}/crates/{name}"
-        shutil.copytree(f"{ROOT}/crates/{crate}", folder, ignore=tries.UNUSED)
-        change(crate, folder)
-        rewrite(f"{folder}/src", lambda text: renamed(as_picked(text) if edit.is_of_a_program else text, names))
-    tries.list_crates(room, {name: [names.get(it, it) for it in tries.DEPENDENCIES[crate]] for crate, name in names.items()})
-    lay_module(room, edit.target, module, names, lambda folder: change(edit.target, folder), as_picked if edit.is_of_a_program else with_test(edit))
-    return [names.get(it, it) for it in tries.DEPENDENCIES[edit.target]]
+def module_of(crate):
+    return f"of_{crate}"
+
+
+def lay_crates(room, edits, targets):
+    """Lays what these crates stand on, with the bodies of these edits, by their numbers."""
+    below = joined.lay_below(room, targets)
+    os.makedirs(f"{room}/crates/{PICKED}/src")
+    write(f"{room}/crates/{PICKED}/src/lib.rt", PICKS)
+    for crate in below:
+        lay_choices(f"{room}/crates/{crate}", {number: it for number, it in edits.items() if it.crate == crate})
+    os.remove(f"{room}/crates.txt")
+    tries.list_crates(room, {PICKED: []} | {it: [*tries.DEPENDENCIES[it], PICKED] for it in tries.DEPENDENCIES if it in below})
+    return below
 
 
 def lay_batch(room, edits):
     """Lays a repository in which what shows each of these edits can be run over it."""
-    targets = dict.fromkeys(it.target for it in edits)
-    below = joined.lay_below(room, targets)
-    modules = [with_edit(it) for it in range(len(edits))]
-    needed = [it for target in targets for it in tries.DEPENDENCIES[target]]
-    for module, edit in zip(modules, edits):
-        needed += lay_edited(room, module, edit)
-    if edits[0].is_of_a_program:
+    edits, needed = numbered(edits), [PICKED]
+    targets = {}
+    for number, it in edits.items():
+        targets.setdefault(it.target, {})[number] = it
+    are_programs = edits[FIRST].is_of_a_program
+    below = lay_crates(room, edits, targets)
+    for target, shown in targets.items():
+        own = {number: it for number, it in shown.items() if it.crate == target}
+        change_text = as_picked if are_programs else with_tests(shown)
+        joined.lay_module(room, target, module_of(target), lambda folder: lay_choices(folder, own), change_text)
+        needed += tries.DEPENDENCIES[target]
+    if are_programs:
         for crate in below:
             rewrite(f"{room}/crates/{crate}/src", as_picked)
-        for target in targets:
-            lay_module(room, target, without_edit(target), {}, change_text=as_picked)
-            modules.append(without_edit(target))
-        write(f"{room}/crates/{JOINED}/src/main.rt", picking(modules, answer_of(edits[0].target)))
-        needed += ["anyhow"]
+        write(f"{room}/crates/{JOINED}/src/main.rt", picking(targets))
+        needed.append("anyhow")
     else:
-        joined.write_tests(room, modules)
+        joined.write_tests(room, map(module_of, targets))
     joined.list_joined(room, needed)
 
 
-def picking(modules, answer):
-    """A program that is the one of these modules that its first argument names."""
+def picking(targets):
+    """A program that is one of these, by its first argument: the number of an edit, or the module of a program as it is."""
+    modules = [module_of(it) for it in targets]
     return "\n".join([
-        "//! A program, as it is and with wrong bodies.",
+        "//! Programs, as they are and with wrong bodies.",
         "#![tactic(auto)]",
         *(f"mod {module};" for module in modules),
-        f"fn main(rt: HostRuntime) -> {ANSWERS[answer]} {{",
+        f"fn main(rt: HostRuntime) -> {ANSWERS[answer_of(next(iter(targets)))]} {{",
         "    let picked = match std::env::args(&rt) { Ok(mut words) => words.nth(1), Err(_) => None };",
         "    match picked.as_ref().map(|it| it.as_str()) {",
-        *(f'        Some("{module}") => {module}::main(rt, rt),' for module in modules[:-1]),
+        *(
+            f'        Some("{number}") => {{ {PICKED}::pick({number}); {module_of(target)}::main(rt, rt) }}'
+            for target, shown in targets.items()
+            for number in shown
+        ),
+        *(f'        Some("{module}") => {module}::main(rt, rt),' for module in modules),
         f"        _ => {modules[-1]}::main(rt, rt),",
         "    }",
         "}\n",
     ])
 
 
-def with_edit(number):
-    """The module of the batch's wrong body of this number."""
-    return f"edit_{number}"
-
-
-def without_edit(crate):
-    """The module of a program without a wrong body."""
-    return f"{crate}_as_it_is"
-
-
-def end_with(became, edits, edit):
-    """What became of the edit's test with it, of what became of the tests of the batch."""
-    module = with_edit(edits.index(edit))
-    return end_of(edit, {path: test.end for path, test in became.items() if path.startswith(f"{module}::")})
+def ends_with(became, edits):
+    """What became of each edit's test without it and with it, of what became of the tests of the batch."""
+    for number, edit in numbered(edits).items():
+        head = f"{module_of(edit.target)}::"
+        of_target = {path.removeprefix(head): test.end for path, test in became.items() if path.startswith(head)}
+        picking = {path.removesuffix(tail_of(number)): end for path, end in of_target.items() if path.endswith(tail_of(number))}
+        yield end_of(edit, of_target), end_of(edit, picking)
 
 
 def end_of(edit, ends):
@@ -213,8 +248,11 @@ def end_of(edit, ends):
     return found[0]
 
 
-def lay_edit(room, edit, with_it=True):
-    """Lays the repository's crates as they are, with the edit or without."""
+def lay_edit(room, edit, with_it=True, with_others=True):
+    """Lays the repository's crates as they are, with the edit or without; with other tests beside its own or without."""
     tries.copy_crates(room, [*tries.below(edit.target), edit.target])
     if with_it:
         edit.apply(f"{room}/crates/{edit.crate}")
+    if not with_others:
+        leave = lambda found: found[0] if found[2] == edit.test_name else ""
+        rewrite(f"{room}/crates/{edit.target}/src", lambda text: TEST.sub(leave, text))

@@ -10,6 +10,7 @@ import shutil
 import subprocess
 import threading
 import time
+from contextlib import ExitStack, contextmanager
 
 import tries
 from command import ROOT, text_of, write
@@ -25,19 +26,42 @@ class Ended(Exception):
     """Why a command did not run to its end: this one was told to end."""
 
 
-class Lanes:
-    """Runs checks, as many at once as there are processors and memory, and where they are shared each once a processor is idle; none
-    once it is told to end."""
+class Turns:
+    """Lets one in at a time: of those who wait the one with the most left to do."""
 
     def __init__(self):
-        self.processors = tries.Processors()
+        self.changed, self.waiting, self.is_taken = threading.Condition(), [], False
+
+    @contextmanager
+    def turn(self, left):
+        with self.changed:
+            self.waiting.append(left)
+            self.changed.wait_for(lambda: not self.is_taken and left == max(self.waiting))
+            self.waiting.remove(left)
+            self.is_taken = True
+        try:
+            yield
+        finally:
+            with self.changed:
+                self.is_taken = False
+                self.changed.notify_all()
+
+
+class Lanes:
+    """Runs checks, as many at once as there are processors and memory, and where they are shared each once a processor is idle; none
+    once it is told to end. Of those that wait the one begins behind which the most is left to do."""
+
+    def __init__(self):
+        self.processors, self.turns = tries.Processors(), Turns()
         self.free = threading.Semaphore(max(1, min(self.processors.there(), tries.free_memory() // MEMORY)))
         self.changing, self.running, self.is_over, self.took = threading.Lock(), set(), False, {}
 
-    def run(self, words, folder, what):
+    def run(self, words, folder, what, left):
         """What a command says in a folder, and whether it is content; its time is counted for what it does."""
-        with self.free:
-            self.processors.wait_for_one()
+        with ExitStack() as held:
+            with self.turns.turn(left):
+                held.enter_context(self.free)
+                self.processors.wait_for_one()
             return self.run_now(words, folder, what)
 
     def run_now(self, words, folder, what):
@@ -147,7 +171,7 @@ class Copy:
         """Changes what an edit changes."""
         edit.apply(self.folder)
 
-    def check(self, functions, what, *words):
+    def check(self, functions, what, left, *words):
         """What a check of these functions says, or of all where there is none, and whether it is content."""
         words = [*self.words, *words, *(word for it in sorted(functions) for word in ("--only", it))]
-        return LANES.run(words, self.folder, f"{self.crate}, {what}")
+        return LANES.run(words, self.folder, f"{self.crate}, {what}", left)

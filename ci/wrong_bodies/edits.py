@@ -1,7 +1,8 @@
 """Wrong bodies, as files: crates/CRATE/KIND/NAME.edit, where KIND is `must-fail`, `refused` or `test-fail`.
 
 An edit has a line 'file: src/lib.rt', and pairs of lines 'old: TEXT' and 'new: TEXT', each old text standing once in that file as
-the pairs before it leave it; then perhaps another file. A line that begins with '#' says why.
+the pairs before it leave it; then perhaps another file. A line that begins with '#' says why. An edit of `test-fail` may have lines
+'more: TEXT' for what is added at the end of the file, as what the new texts call.
 """
 
 import os
@@ -21,7 +22,7 @@ class Edit:
     def __init__(self, path, words=()):
         self.crate, _, file = os.path.relpath(path, f"{ROOT}/crates").split("/")
         self.name = f"{self.crate}/{file.removesuffix('.edit')}"
-        self.text, self.changes, self.said = text_of(path), [], {}
+        self.text, self.changes, self.more, self.said = text_of(path), [], [], {}
         path_in_crate = old = None
         for line in self.text.splitlines():
             word, colon, text = line.partition(":")
@@ -30,7 +31,9 @@ class Edit:
                 continue
             if not colon or word not in (*CHANGES, *words):
                 raise BadEdit(f"{self.name}: the line '{line}' is none of an edit")
-            if word in words:
+            if word == "more":
+                self.more.append((path_in_crate, text))
+            elif word in words:
                 self.said[word] = text.strip()
             elif word == "file":
                 path_in_crate = text.strip()
@@ -40,8 +43,8 @@ class Edit:
                 self.changes.append((path_in_crate, old, text))
                 old = None
 
-    def applied(self, folder):
-        """The texts of the files that it changes, in a copy of its crate, with the changes made."""
+    def changed(self, folder):
+        """The texts of the files that it changes, in a copy of its crate, with the changes made, but without what it adds."""
         texts = {}
         for file, old, new in self.changes:
             if not file or not old or not os.path.isfile(f"{folder}/{file}"):
@@ -50,6 +53,13 @@ class Edit:
             if text.count(old) != 1:
                 raise BadEdit(f"an old text is in {file} {text.count(old)} times, and not once")
             texts[file] = text.replace(old, new)
+        return texts
+
+    def applied(self, folder):
+        """The texts of the files that it changes, in a copy of its crate, with what it adds."""
+        texts = self.changed(folder)
+        for file, more in self.more:
+            texts[file] = f"{texts.get(file) or text_of(f'{folder}/{file}')}{more}\n"
         return texts
 
     def apply(self, folder):

@@ -24,14 +24,14 @@ use vmm_sys::eventfd::EventFd;
 /// How many jobs a repeat sends.
 const JOBS: u32 = 2000;
 
-/// A loop with one counter, which is called so often in each repeat.
+/// A loop with one counter, which is called `rounds` times in each repeat.
 #[derive(Clone, Copy)]
 struct CalledLoop<'a> {
     rounds: u32,
     progress: &'a Progress,
 }
 
-/// Who calls it, so often in each repeat.
+/// Who calls it, `rounds` times in each repeat.
 #[derive(Clone, Copy)]
 struct Caller<'a> {
     id: SubscriberId,
@@ -76,7 +76,7 @@ impl<R: Wait + Clock> JobSender<Counter, ActionOn<CountOne>, Result<Times>, R> f
     }
 }
 
-/// Sends so many jobs, and waits for the reply of each.
+/// Sends `rounds` jobs, and waits for the reply of each.
 fn call_often<N: NamedCounter, R: Wait + Clock>(
     endpoint: &RemoteEndpoint<Counter, ActionOn<CountOne>, N>,
     id: SubscriberId,
@@ -91,7 +91,7 @@ fn call_often<N: NamedCounter, R: Wait + Clock>(
     Ok(())
 }
 
-/// What came of a loop that took so many jobs, by what its caller gave.
+/// What came of a loop that took `taken` jobs, by what its caller gave.
 fn measured(sent: Vec<Result<Times>>, taken: u64, rounds: u32) -> Result<Measured> {
     let mut sent = sent;
     let Some(times) = sent.pop() else {

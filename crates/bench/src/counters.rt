@@ -77,7 +77,7 @@ fn leave<N: NamedCounter, P: EventPoller, R: Wait + Drop>(
     Ok(count)
 }
 
-// Writes 1 to one counter after the other, so often in all, and runs the manager each time.
+// Writes 1 to one counter after the other, `rounds` times in all, and runs the manager each time.
 fn write_and_run<N: NamedCounter, P: EventPoller, R: Wait + Clock>(
     manager: &mut EventManager<Reader<R>, NoJob, N, P>,
     counters: &[EventFd],
@@ -97,7 +97,7 @@ fn write_and_run<N: NamedCounter, P: EventPoller, R: Wait + Clock>(
     Ok(())
 }
 
-/// Opens so many counters of the poller's table.
+/// Opens `count` counters of the poller's table.
 fn open_counters<R: Host>(
     bench: &Bench<R>,
     epoll: &Epoll<R>,
@@ -110,7 +110,7 @@ fn open_counters<R: Host>(
     Ok(WrittenCounters { counters })
 }
 
-/// Takes the measure with so many counters, on a manager over a table of its own.
+/// Takes the measure with `count` counters, on a manager over a table of its own.
 fn measure<R: Host>(bench: &Bench<R>, count: u32) -> Result<Measured> {
     let epoll = Epoll::new(bench.rt, bench.alloc)?;
     let endpoint = EventFd::new(&epoll, 0, &bench.rt)?;

@@ -30,7 +30,7 @@ enum Priorities {
     Four,
 }
 
-/// Batches of 256 events for so many subscribers with one descriptor each.
+/// Batches of 256 events for `subscribers` subscribers with one descriptor each.
 #[derive(Clone, Copy)]
 struct Deliver {
     subscribers: u32,
@@ -126,7 +126,7 @@ impl Deliver {
     }
 }
 
-/// The sizes, each with so many subscribers.
+/// The sizes, each with its number of subscribers.
 const SIZES: [(Size, u32); 5] = [
     (Size::Small, 16),
     (Size::Middle, 256),

@@ -54,7 +54,7 @@ fn fire_often<N: NamedCounter, P: EventPoller, R: Wait + Clock>(
     Measured::of(times, rounds as u64, count)
 }
 
-// Sends a job and runs the manager, so often.
+// Sends a job and runs the manager, `rounds` times.
 fn fire_and_run<N: NamedCounter, P: EventPoller, R: Wait + Clock>(
     manager: &mut EventManager<Counter, ActionOn<CountOne>, N, P>,
     endpoint: &RemoteEndpoint<Counter, ActionOn<CountOne>, N>,

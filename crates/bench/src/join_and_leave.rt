@@ -13,7 +13,7 @@ use measures::timing::Times;
 /// The lowest descriptor of the subscriber that joins and leaves.
 const FIRST_OF_GUEST: i32 = 1000000;
 
-/// Joins and leaves of a subscriber with so many descriptors, beside others with one each.
+/// Joins and leaves of a subscriber with `descriptors` descriptors, beside others with one each.
 #[derive(Clone, Copy)]
 struct JoinAndLeave {
     others: u16,

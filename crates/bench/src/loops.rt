@@ -23,7 +23,7 @@ const LOOPS_AT_ONCE: [(u32, &str); 3] = [
     (4, "a delivery of one of 4 loops at once"),
 ];
 
-/// A loop over these counters, which makes so many runs.
+/// A loop over these counters, which makes `runs` runs.
 #[derive(Drop)]
 struct Delivering<P> {
     poller: P,
@@ -62,7 +62,7 @@ fn join<P: EventPoller>(
     Ok(())
 }
 
-/// Makes so many runs, and answers how many events they delivered.
+/// Makes `runs` runs, and answers how many events they delivered.
 fn run_often<P: EventPoller>(
     event_loop: &mut EventLoop<CounterSubscriber, P>,
     runs: u32,
@@ -90,7 +90,7 @@ impl<P: EventPoller + Drop, R> ThreadLoop<R> for Delivering<P> {
     }
 }
 
-/// Makes so many runs in each of so many loops at once, and answers how many events all delivered.
+/// Makes `runs` runs in each of `loops` loops at once, and answers how many events all delivered.
 fn deliver_at_once<R: Host>(loops: u32, runs: u32, alloc: Global, rt: &R) -> Result<u64> {
     let first = begin(runs, alloc, rt)?;
     let others = begin_others(loops, runs, alloc, rt)?;
@@ -98,7 +98,7 @@ fn deliver_at_once<R: Host>(loops: u32, runs: u32, alloc: Global, rt: &R) -> Res
     Ok(sum(first?, others.as_slice())?)
 }
 
-/// So many loops but one.
+/// All `loops` loops but the first.
 fn begin_others<R: Host>(
     loops: u32,
     runs: u32,
@@ -112,7 +112,7 @@ fn begin_others<R: Host>(
     Ok(others)
 }
 
-/// How many events were delivered in all, so many by the first. Refused as the first other that was refused.
+/// How many events were delivered in all, `first` of them by the first loop. Refused as the first other that was refused.
 fn sum(first: u64, others: &[event_manager::Result<u64>]) -> event_manager::Result<u64> {
     let mut delivered = first;
     for other in others {
@@ -121,7 +121,7 @@ fn sum(first: u64, others: &[event_manager::Result<u64>]) -> event_manager::Resu
     Ok(delivered)
 }
 
-/// Measures a delivery of so many loops at once: the time of all over the deliveries of all.
+/// Measures a delivery of `loops` loops at once: the time of all over the deliveries of all.
 fn measure_loops_at_once<R: Host>(bench: &Bench<R>, loops: u32) -> Result<Measured> {
     let runs = bench.rounds(RUNS);
     let operations = u64::from(loops).saturating_mul(u64::from(runs.saturating_mul(COUNTERS)));

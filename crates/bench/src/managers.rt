@@ -96,7 +96,7 @@ pub fn take_over_fixed<M: ManagerMeasure<R>, R: Host>(
     }
 }
 
-/// Runs the manager so often; each run must answer `count`.
+/// Runs the manager `rounds` times; each run must answer `count`.
 pub fn run_rounds<S, J, N, P, R>(
     manager: &mut EventManager<S, J, N, P>,
     rounds: u32,

@@ -21,7 +21,7 @@ fn idle_loop(alloc: Global) -> Result<IdleLoop> {
     Ok(EventLoop::with_capacity(alloc, poller, BATCH as usize)?)
 }
 
-/// Lets so many subscribers join, each with a descriptor of its own.
+/// Lets `count` subscribers join, each with a descriptor of its own.
 fn join(event_loop: &mut IdleLoop, count: u32) -> Result<()> {
     for k in 0..count {
         let _ = event_loop.add_subscriber(Counter::new(descriptor(k), 1))?;
@@ -29,7 +29,7 @@ fn join(event_loop: &mut IdleLoop, count: u32) -> Result<()> {
     Ok(())
 }
 
-/// Adds so many descriptors to one subscriber.
+/// Adds `count` descriptors to one subscriber.
 fn add(event_loop: &mut IdleLoop, count: u32) -> Result<()> {
     let id = event_loop.add_subscriber(Counter::new(0, 0))?;
     let ops = event_loop.event_ops(id)?;
@@ -39,8 +39,8 @@ fn add(event_loop: &mut IdleLoop, count: u32) -> Result<()> {
     Ok(())
 }
 
-/// Prints for each of so many how many bytes the process holds more than it held before; or how many they are, where times aren't
-/// wanted either.
+/// Prints how many bytes the process holds more than it held before, for each of `count`; or the count, where times aren't wanted
+/// either.
 fn print_taken<R: Host + Files + AllocGlobal>(
     bench: &Bench<R>,
     name: &str,

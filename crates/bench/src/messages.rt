@@ -94,7 +94,7 @@ fn begin<R: Host>(rt: &R, alloc: Global) -> Result<Taking<R>> {
     })
 }
 
-/// Sends so many messages.
+/// Sends `count` messages.
 fn send<R: Wait + Clock>(sender: &Sender<u32>, count: u32, rt: &R) -> Result<(), SendError<u32>> {
     for message in 0..count {
         sender.send(message, rt)?;
@@ -102,7 +102,7 @@ fn send<R: Wait + Clock>(sender: &Sender<u32>, count: u32, rt: &R) -> Result<(),
     Ok(())
 }
 
-/// Sends batches of so many messages, with a run behind each.
+/// Sends batches of `size` messages, with a run behind each.
 fn send_and_run<R: Host>(taking: &mut Taking<R>, size: u32, rounds: u32, rt: &R) -> Result<()> {
     for _round in 0..rounds {
         send(&taking.sender, size, rt)?;
@@ -111,7 +111,7 @@ fn send_and_run<R: Host>(taking: &mut Taking<R>, size: u32, rounds: u32, rt: &R)
     Ok(())
 }
 
-/// Runs the loop until its taker has counted so many. Refused where none comes for ten seconds.
+/// Runs the loop until its taker has counted `count` messages. Refused where none comes for ten seconds.
 fn run_until<R: Host>(
     event_loop: &mut EventLoop<Taker<R>, Epoll<R>>,
     id: SubscriberId,
@@ -130,7 +130,7 @@ fn run_until<R: Host>(
     Ok(())
 }
 
-/// Sends so many messages from another thread, while the loop takes them on this one.
+/// Sends `messages` messages from another thread, while the loop takes them on this one.
 fn send_beside<R: Host>(taking: &mut Taking<R>, messages: u32, rt: &R) -> Result<()> {
     let Taking {
         event_loop,

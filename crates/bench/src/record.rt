@@ -14,7 +14,7 @@ use vmm_sys::poller::Poller;
 /// How often a repeat waits.
 const WAITS: u32 = 1000;
 
-/// Waits so often, and adds how many entries were reported in all to the count.
+/// Waits `rounds` times, and adds how many entries were reported in all to the count.
 fn wait<P: Poller>(
     poller: &mut P,
     buffer: &mut [EpollEvent],

@@ -32,7 +32,7 @@ impl Counter {
     ghost use Rattle.std.specs.Prelude.{◌≡◌};
     ghost use Rattle.event_manager.specs.CounterEvents.{next_count};
 
-    /// One of so many descriptors from `first` up.
+    /// One of `descriptors` descriptors from `first` up.
     pub fn new(first: i32, descriptors: u16) -> Counter {
         Counter {
             first,
@@ -116,7 +116,7 @@ pub struct Toggler {
 }
 
 impl Toggler {
-    /// One of so many descriptors, which leaves the first `skip` of them as they are.
+    /// One of `descriptors` descriptors, which leaves the first `skip` of them as they are.
     pub fn new(descriptors: u16, skip: u16) -> Toggler {
         Toggler {
             descriptors,

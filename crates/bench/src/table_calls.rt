@@ -21,12 +21,12 @@ const CONTROLS: u32 = 10000;
 /// How often a repeat waits where one interest is ready.
 const WAITS_FOR_ONE: u32 = 2000;
 
-/// A buffer with room for so many entries.
+/// A buffer with room for `room` entries.
 pub fn buffer(room: usize, alloc: Global) -> Result<Vec<EpollEvent>> {
     Ok(vec![in alloc; EpollEvent::new(EventSet::empty(), 0); room]?)
 }
 
-/// A table with so many counters of this value, and no interest.
+/// A table with `count` counters of this value, and no interest.
 fn open_counters(count: u32, value: u64, alloc: Global) -> Result<Table> {
     let mut table = Table::new(alloc);
     for _ in 0..count {
@@ -35,7 +35,7 @@ fn open_counters(count: u32, value: u64, alloc: Global) -> Result<Table> {
     Ok(table)
 }
 
-/// Asks for `IN` of the descriptors from 0 up, so many, with the descriptor as word.
+/// Asks for `IN` of the first `count` descriptors, with the descriptor as word.
 fn add_interests(table: &mut Table, count: u32) -> Called<()> {
     for fd in 0..count {
         let event = EpollEvent::new(EventSet::IN, fd as u64);
@@ -44,14 +44,14 @@ fn add_interests(table: &mut Table, count: u32) -> Called<()> {
     Ok(())
 }
 
-/// A table with so many counters of this value, and an interest in each.
+/// A table with `count` counters of this value, and an interest in each.
 fn filled(count: u32, value: u64, alloc: Global) -> Result<Table> {
     let mut table = open_counters(count, value, alloc)?;
     add_interests(&mut table, count)?;
     Ok(table)
 }
 
-/// A table for each repeat, with so many counters of the value 1, and no interest.
+/// A table for each repeat, with `count` counters of the value 1, and no interest.
 fn unwatched(count: u32, alloc: Global) -> Result<Vec<Table>> {
     let mut tables = Vec::new(alloc);
     for _ in 0..REPEATS {
@@ -60,7 +60,7 @@ fn unwatched(count: u32, alloc: Global) -> Result<Vec<Table>> {
     Ok(tables)
 }
 
-/// How many interests the tables, with so many each, report in all.
+/// How many interests the tables, with `interests` each, report in all.
 fn reported(tables: &mut [Table], interests: u32, alloc: Global) -> Result<u64> {
     let mut buffer = buffer(interests as usize + 1, alloc)?;
     let mut count = 0u64;
@@ -70,7 +70,7 @@ fn reported(tables: &mut [Table], interests: u32, alloc: Global) -> Result<u64> 
     Ok(count)
 }
 
-/// Waits so often, and adds how many entries were reported in all to the count.
+/// Waits `rounds` times, and adds how many entries were reported in all to the count.
 fn wait(table: &mut Table, buffer: &mut [EpollEvent], rounds: u32, count: &mut u64) -> Called<()> {
     for _ in 0..rounds {
         *count = count.saturating_add(table.wait(buffer)? as u64);
@@ -78,7 +78,7 @@ fn wait(table: &mut Table, buffer: &mut [EpollEvent], rounds: u32, count: &mut u
     Ok(())
 }
 
-/// Writes 1 to one counter so often.
+/// Writes 1 to one counter `rounds` times.
 fn write_to(table: &mut Table, fd: i32, rounds: u32) -> Called<()> {
     for _ in 0..rounds {
         table.write(fd, 1)?;
@@ -86,7 +86,7 @@ fn write_to(table: &mut Table, fd: i32, rounds: u32) -> Called<()> {
     Ok(())
 }
 
-/// Reads one counter and writes 1 to it so often, and adds what was read to the count.
+/// Reads one counter and writes 1 to it `rounds` times, and adds what was read to the count.
 fn turn(table: &mut Table, fd: i32, rounds: u32, count: &mut u64) -> Called<()> {
     for _ in 0..rounds {
         *count = count.saturating_add(table.read(fd)?);
@@ -95,8 +95,8 @@ fn turn(table: &mut Table, fd: i32, rounds: u32, count: &mut u64) -> Called<()> 
     Ok(())
 }
 
-/// Modifies one of the interests so often, in turn: first the one behind `last`, and `last` is then the last. As its word
-/// each has how often any was modified, which is added to the count.
+/// Modifies one of the interests `rounds` times, in turn: first the one behind `last`, and `last` is then the last. As its
+/// word each has how often any was modified, which is added to the count.
 fn modify(
     table: &mut Table,
     interests: u32,
@@ -119,7 +119,7 @@ fn modify(
     Ok(())
 }
 
-/// Modifies the interest in a descriptor to another set and back so often, and adds the pairs to the count.
+/// Modifies the interest in a descriptor to another set and back `rounds` times, and adds the pairs to the count.
 fn modify_and_back(table: &mut Table, fd: i32, rounds: u32, count: &mut u64) -> Called<()> {
     for _ in 0..rounds {
         let event = EpollEvent::new(EventSet::IN.union(EventSet::OUT), *count);
@@ -131,7 +131,7 @@ fn modify_and_back(table: &mut Table, fd: i32, rounds: u32, count: &mut u64) -> 
     Ok(())
 }
 
-/// Adds and deletes the interest in a descriptor so often, and adds the pairs to the count.
+/// Adds and deletes the interest in a descriptor `rounds` times, and adds the pairs to the count.
 fn add_and_delete(table: &mut Table, fd: i32, rounds: u32, count: &mut u64) -> Called<()> {
     for _ in 0..rounds {
         let event = EpollEvent::new(EventSet::IN, *count);
@@ -142,7 +142,7 @@ fn add_and_delete(table: &mut Table, fd: i32, rounds: u32, count: &mut u64) -> C
     Ok(())
 }
 
-/// Writes 1 to each of so many counters, from the highest descriptor down.
+/// Writes 1 to each of the first `count` counters, from the highest descriptor down.
 fn write_in_reverse(table: &mut Table, count: u32) -> Called<()> {
     for fd in (0..count).rev() {
         table.write(fd.cast_signed(), 1)?;
@@ -150,7 +150,7 @@ fn write_in_reverse(table: &mut Table, count: u32) -> Called<()> {
     Ok(())
 }
 
-/// Reads each of so many counters.
+/// Reads each of the first `count` counters.
 fn read_all(table: &mut Table, count: u32) -> Called<()> {
     for fd in 0..count {
         let _read = table.read(fd.cast_signed())?;
@@ -158,7 +158,7 @@ fn read_all(table: &mut Table, count: u32) -> Called<()> {
     Ok(())
 }
 
-/// Makes so many passes: each writes to all counters, from the highest descriptor down, waits once, and reads all; and adds
+/// Makes `rounds` passes: each writes to all counters, from the highest descriptor down, waits once, and reads all; and adds
 /// how many entries were reported in all to the count.
 fn pass_in_reverse(
     table: &mut Table,
@@ -215,7 +215,7 @@ struct Counted {
     last: u32,
 }
 
-/// Measures what fills a table with so many interests, by those that are then reported.
+/// Measures what fills a table with `interests` interests, by those that are then reported.
 fn measure_filling<R: Host>(bench: &Bench<R>, interests: u32) -> Result<()> {
     let mut tables = unwatched(interests, bench.alloc)?;
     let measured = fill(bench, tables.as_mut_slice(), interests)?;
@@ -237,7 +237,7 @@ fn fill<R: Host>(bench: &Bench<R>, tables: &mut [Table], interests: u32) -> Resu
     Measured::of(times, interests as u64, count)
 }
 
-/// Measures one work on a table of its own, where a repeat waits so often while all are ready.
+/// Measures one work on a table of its own, where a repeat waits `waits` times while all are ready.
 fn measure_work<R: Host>(bench: &Bench<R>, work: Work, interests: u32, waits: u32) -> Result<()> {
     let rounds = bench.rounds(work.rounds(waits));
     let mut table = filled(interests, work.value(), bench.alloc)?;
@@ -264,7 +264,7 @@ impl Work {
         }
     }
 
-    /// How many rounds a repeat has in full, where it waits so often while all are ready.
+    /// How many rounds a repeat has in full, where it waits `waits` times while all are ready.
     fn rounds(self, waits: u32) -> u32 {
         match self {
             Work::Report | Work::Reverse => waits,
@@ -296,7 +296,7 @@ impl Work {
         }
     }
 
-    /// Measures it on a table with so many interests.
+    /// Measures it on a table with `interests` interests.
     fn measure<R: Host>(
         self,
         bench: &Bench<R>,

@@ -19,7 +19,7 @@ const CALLS: u32 = 10000;
 /// When the first timer is due.
 const FIRST: u64 = 1_000_000_000;
 
-/// So many timers, all disarmed.
+/// A table of `count` timers, all disarmed.
 fn disarmed(count: u32, alloc: Global) -> Result<TimerTable> {
     let mut table = TimerTable::new(alloc);
     for _ in 0..count {
@@ -28,21 +28,21 @@ fn disarmed(count: u32, alloc: Global) -> Result<TimerTable> {
     Ok(table)
 }
 
-/// Arms so many timers: one is due at each nanosecond from the first on, and again once all others have been.
+/// Arms the first `count` timers: one is due at each nanosecond from the first on, and again once all others have been.
 fn arm_all(table: &mut TimerTable, count: u32) {
     for index in 0..count {
         table.arm(index as usize, FIRST + index as u64, count as u64);
     }
 }
 
-/// So many timers, all armed.
+/// A table of `count` timers, all armed.
 fn armed(count: u32, alloc: Global) -> Result<TimerTable> {
     let mut table = disarmed(count, alloc)?;
     arm_all(&mut table, count);
     Ok(table)
 }
 
-/// The timer behind this one, of so many.
+/// The timer behind this one, of `count`.
 fn behind(index: u32, count: u32) -> u32 {
     if index >= count.saturating_sub(1) {
         0
@@ -51,7 +51,7 @@ fn behind(index: u32, count: u32) -> u32 {
     }
 }
 
-/// Disarms and arms a timer so often.
+/// Disarms and arms a timer `rounds` times.
 fn disarm_and_arm(table: &mut TimerTable, index: usize, rounds: u32) {
     for _ in 0..rounds {
         table.disarm(index);
@@ -59,7 +59,7 @@ fn disarm_and_arm(table: &mut TimerTable, index: usize, rounds: u32) {
     }
 }
 
-/// Arms so many timers in turn, each later than it was, beginning with this one; the answer is the next one.
+/// Arms `rounds` timers in turn, each later than it was, from `first` on; the answer is the next one.
 fn arm_later(table: &mut TimerTable, count: u32, rounds: u32, first: u32) -> u32 {
     let mut index = first;
     for round in 0..rounds {
@@ -82,7 +82,7 @@ fn expire(table: &mut TimerTable, timers: u32, rounds: u32, first: u32, count: &
     index
 }
 
-/// Waits so often, and adds how many entries were reported in all to the count.
+/// Waits `rounds` times, and adds how many entries were reported in all to the count.
 fn wait<P: Poller>(poller: &mut P, rounds: u32, count: &mut u64) -> Result<(), Errno> {
     let mut buffer = [EpollEvent::new(EventSet::empty(), 0); 16];
     for _ in 0..rounds {
@@ -91,7 +91,7 @@ fn wait<P: Poller>(poller: &mut P, rounds: u32, count: &mut u64) -> Result<(), E
     Ok(())
 }
 
-/// A table for each repeat, with so many timers, all disarmed.
+/// A table for each repeat, with `count` timers, all disarmed.
 fn disarmed_for_each(count: u32, alloc: Global) -> Result<Vec<TimerTable>> {
     let mut tables = Vec::new(alloc);
     for _ in 0..REPEATS {
@@ -100,7 +100,7 @@ fn disarmed_for_each(count: u32, alloc: Global) -> Result<Vec<TimerTable>> {
     Ok(tables)
 }
 
-/// How many of the tables' timers, so many each, are armed.
+/// How many of the tables' timers, `timers` each, are armed.
 fn count_armed(tables: &[TimerTable], timers: u32) -> u64 {
     let mut count = 0u64;
     for table in tables {
@@ -156,7 +156,7 @@ impl Work {
         }
     }
 
-    /// Measures it on a table with so many timers.
+    /// Measures it on a table with `timers` timers.
     fn measure<R: Host>(
         self,
         bench: &Bench<R>,
@@ -179,7 +179,7 @@ impl Work {
     }
 }
 
-/// Measures what arms so many timers, by those that are then armed.
+/// Measures what arms `timers` timers, by those that are then armed.
 fn measure_filling<R: Host>(bench: &Bench<R>, timers: u32) -> Result<()> {
     let mut tables = disarmed_for_each(timers, bench.alloc)?;
     let measured = fill(bench, tables.as_mut_slice(), timers)?;

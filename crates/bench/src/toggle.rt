@@ -10,7 +10,7 @@ use measures::fixed::Fixed;
 use measures::host::Host;
 use measures::timing::Times;
 
-/// Batches of so many events of one subscriber, which at each removes a descriptor that isn't in the batch, and adds it
+/// Batches of `entries` events of one subscriber, which at each removes a descriptor that isn't in the batch, and adds it
 /// again.
 #[derive(Clone, Copy)]
 struct Toggle {

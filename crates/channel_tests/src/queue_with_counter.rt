@@ -79,7 +79,7 @@ impl<M> QueueWithCounter<M> {
         }
     }
 
-    /// One with room for so many messages.
+    /// One with room for `most` messages.
     pub fn with_room(alloc: Global, most: usize) -> Result<Self, AllocError>
         ensures { IfOk result (λ q. q ≡ new_queue_with_counter (Some most)) }
     {

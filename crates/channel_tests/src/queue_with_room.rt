@@ -34,7 +34,7 @@ impl<M> Model for QueueWithRoom<M> {
 }
 
 impl<M> QueueWithRoom<M> {
-    /// A new queue with room for so many messages, which the senders' counter shows.
+    /// A new queue with room for `most` messages, which the senders' counter shows.
     pub fn new(alloc: Global, most: usize) -> Result<Self, AllocError>
         ensures { IfOk result (λ q. (q.queue ≡ new_queue_with_counter (Some most)) × IsRoomCounterUpdated (new_queue_with_counters (Some most)) q) }
     {

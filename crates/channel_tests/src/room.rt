@@ -27,7 +27,7 @@ struct Bounded<R> {
     receiver: Receiver<u64>,
 }
 
-/// One with room for so many numbers, whose receiver has this counter.
+/// One with room for `most` numbers, whose receiver has this counter.
 fn open_over<R: Looping>(rt: R, counter: EventFd, most: usize) -> Bounded<R> {
     let mut epoll = open_poller(&rt);
     let room = open_counter(&rt, &epoll, 0);

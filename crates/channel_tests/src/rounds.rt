@@ -9,7 +9,7 @@ pub const SENDERS: u64 = 3;
 /// How many messages each of them sends in a round at most. They are numbers, which begin with the sender's place times this one.
 pub const MESSAGES: u64 = 1000;
 
-/// One of so many rounds has that many messages of each sender, the others have a few.
+/// One in this many rounds has `MESSAGES` messages of each sender, the others have a few.
 const MANY_EACH: u64 = 2000;
 
 /// How many messages each thread sends in a round.

@@ -143,7 +143,7 @@ impl Ended {
     }
 }
 
-/// Expects so many numbers from this one up among the messages, in order.
+/// Expects `count` numbers from `from` up among the messages, in order.
 fn expect_numbers<R: Abort>(rt: &R, list: &[u64], from: u64, count: u64) {
     let mut next = from;
     for message in list {

@@ -8,7 +8,7 @@ use channels::{
 };
 use vmm_sys::epoll::{AsRawFd, Epoll};
 
-/// Both ends of a channel with room for so many numbers, and a poller that watches the receiver.
+/// Both ends of a bounded channel of numbers, and a poller that watches the receiver.
 #[derive(Drop)]
 struct Tracked<R> {
     epoll: Epoll<R>,

@@ -48,7 +48,7 @@ pub fn open<R: Looping>(rt: R, value: u64) -> (Sender<u64>, Watched<R>) {
     make_watched(&rt, epoll, counter, channel(theirs, rt.alloc()))
 }
 
-/// A channel with room for so many messages.
+/// A channel with room for `most` messages.
 pub fn open_with_room<R: Looping>(rt: R, most: usize) -> (Sender<u64>, Watched<R>) {
     let (epoll, counter, theirs) = counter_of(&rt, 0);
     let made = sync_channel(theirs, most, rt.alloc());
@@ -99,7 +99,7 @@ impl<R: Looping> Watched<R> {
     }
 }
 
-/// Whether a wait of at most so many milliseconds reports what was added.
+/// Whether a wait of at most `ms` milliseconds reports what was added.
 pub fn is_reported<R: Looping>(rt: &R, epoll: &mut Epoll<R>, ms: i32) -> bool {
     let mut buffer = [EpollEvent::new(EventSet::empty(), 0)];
     let count = expect_ok(rt, epoll.wait(ms, &mut buffer));

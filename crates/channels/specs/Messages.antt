@@ -14,7 +14,7 @@ pub record Messages (M : Type 0) : Type 0 where
   pub senders : ℕ
   pub is_open : Bool
 
--- one more can wait beside so many
+-- one more can wait beside this many
 abbrev pub has_room : Option ℕ → ℕ → Bool
 has_room None count = true
 has_room (Some most) count = nat_lt count most

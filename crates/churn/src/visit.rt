@@ -15,7 +15,7 @@ use vmm_sys::eventfd::EventFd;
 /// How many messages a visitor is sent.
 pub const MESSAGES: u64 = 3;
 
-/// In each round of so many another thread sends.
+/// In one of this many rounds another thread sends.
 const SENT_BY_A_THREAD: u32 = 50;
 
 /// For how many seconds a visitor is waited for.

@@ -68,7 +68,7 @@ impl<R: Wait + Drop> Net<R> {
         self.activation.write(1, &self.rt)
     }
 
-    /// Gives the rate limiter so many tokens more.
+    /// Gives the rate limiter `tokens` more.
     pub fn update_rate_limit(&self, tokens: u64) -> std::result::Result<(), Errno> {
         self.rate_limiter.write(tokens, &self.rt)
     }

@@ -48,7 +48,7 @@ module _ {S : Type 0} where
   abbrev pub AreIndexed : List (Place S) → (ℕ → Option ℕ) → Type 0
   AreIndexed places index = (id place : ℕ) → (index id ≡ Some place) ↔ (id_at places place ≡ Some id)
 
-  -- so many vacant places stand on the list: each names the next, and the last names none
+  -- this many vacant places stand on the list: each names the next, and the last names none
   abbrev pub IsVacantList : List (Place S) → ℕ → Option ℕ → Type 0
   IsVacantList places zero first = first ≡ None
   IsVacantList places (suc count) first = (place : ℕ) × (next : Option ℕ) × (first ≡ Some place) × (slice_get places place ≡ Some (Vacant next)) × IsVacantList places count next

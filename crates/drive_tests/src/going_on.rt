@@ -48,7 +48,7 @@ impl MutEventSubscriber for Meter {
     }
 }
 
-/// Adds so many to a meter's count.
+/// Adds this number to a meter's count.
 #[derive(Drop)]
 pub struct Advance(pub u64);
 

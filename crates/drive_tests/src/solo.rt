@@ -71,7 +71,7 @@ fn calls_beside<R: Abort>(rt: &R, alloc: Global, neighbour: Option<Asking>) -> V
     calls
 }
 
-/// Expects that the owner of 3 and 4 is given their events beside this neighbour, which has so many events.
+/// Expects that the owner of 3 and 4 is given their events beside this neighbour, which has `count` events.
 fn expect_beside<R: Looping + Send>(
     rt: R,
     alloc: Global,

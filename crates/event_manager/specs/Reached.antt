@@ -21,7 +21,7 @@ module _ {V J R : Type 0} (begins : Begins V) (serves : Serves V) (may : May V J
     pub is_trace : IsTrace begins serves may (new_state endpoint) trace state
     pub like_jobs : All (λ entry. IsLikeJobs may entry.effect) trace
 
-  -- these are the subscribers, and so many jobs were taken, of a manager that was reached so
+  -- these are the subscribers, and this many jobs were taken, of a manager that was reached so
   pub record HasEnded (subscribers : map.FinMap nat_cmp V) (taken : ℕ) : Type 0 where
     pub state : LoopContents V
     pub reached : IsReached state

@@ -17,7 +17,7 @@ use std::rc::Rc;
 use vmm_sys::epoll::EpollEvent;
 use vmm_sys::script_poller::ScriptPoller;
 
-/// What an output takes: at most so many bytes a write, and not the write of this number, counted from 0.
+/// What an output takes: at most `at_most` bytes a write, and not the write numbered `refused`, counted from 0.
 #[derive(Clone, Copy)]
 struct Terms {
     at_most: usize,

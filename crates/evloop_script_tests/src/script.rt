@@ -283,7 +283,7 @@ fn next_reaction<R: Abort + AllocGlobal>(
     text
 }
 
-// A text with another behind it, so many times.
+// A text with another behind it, `count` times.
 fn repeated<R: Abort + AllocGlobal>(rt: &R, text: &str, part: &str, count: u32) -> String {
     let mut whole = expect_ok(rt, String::from_str(rt.alloc(), text));
     for _ in 0..count {

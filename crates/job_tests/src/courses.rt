@@ -36,7 +36,7 @@ enum Step<'a> {
     Fire(u64, u64),
     /// One is sent by the second endpoint.
     FireBySecond(u64),
-    /// So many are sent by an endpoint that is then dropped.
+    /// This many are sent by an endpoint that is then dropped.
     FireAndDrop(u64),
     /// One more is sent, whose ticket is shown behind the close.
     FireToShow,
@@ -44,11 +44,11 @@ enum Step<'a> {
     AreRefused(Error),
     /// A kick is answered this.
     Kick(Result<()>),
-    /// A run of at most so many milliseconds answers this.
+    /// A run of at most this many milliseconds answers this.
     Run(i32, Result<usize>),
-    /// So many jobs wait.
+    /// This many jobs wait.
     Wait(usize),
-    /// The numbers 1, 2, 3 and so on were noted, so many.
+    /// The numbers from 1 up to this one were noted.
     Count(usize),
     /// This was noted.
     Noted(&'a [u64]),
@@ -133,7 +133,7 @@ fn expect_closed<N: NamedCounter, R: Looping>(
     expect_same(rt, &Arc::strong_count(notes), &1);
 }
 
-/// Makes the steps, and closes the manager, of which so many tickets must then be issued and jobs taken.
+/// Makes the steps, and closes the manager, of which these `counts` of tickets must then be issued and jobs taken.
 fn follow_and_close<N: NamedCounter, P: EventPoller + Drop, R: Looping>(
     rt: &R,
     manager: Loop<N, P, R>,
@@ -181,8 +181,8 @@ impl<R: Looping, P: EventPoller + Drop> WithLedgers for Run<'_, R, P> {
     }
 }
 
-/// Runs the course over these parts, and closes: so many tickets must then be issued and jobs taken, no job be left, and
-/// each send be refused.
+/// Runs the course over these parts, and closes: these `counts` of tickets must then be issued and jobs taken, no job be left,
+/// and each send be refused.
 fn expect_over<R: Looping, P: EventPoller + Drop>(
     rt: &R,
     parts: Parts<P>,
@@ -213,7 +213,7 @@ fn expect_course<R: Looping + Send>(
     expect_over(&rt, parts, course, counts);
 }
 
-/// So many jobs are sent, and run.
+/// `count` jobs are sent, and run.
 fn send_and_run<'a>(count: u16) -> [Step<'a>; 6] {
     [
         Step::Fire(1, u64::from(count)),

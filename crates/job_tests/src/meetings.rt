@@ -208,7 +208,7 @@ impl<R: Looping> JobSender<Asking, Work, Answers, R> for Meeting<'_> {
     }
 }
 
-/// Expects that so many jobs wait once the sender has ended.
+/// Expects that `pending` jobs wait once the sender has ended.
 fn expect_behind<N: NamedCounter, R: Looping>(
     rt: &R,
     endpoint: &Endpoint<N>,

@@ -32,7 +32,7 @@ impl<R: Looping> JobSender<Idle, NoJob, u64, R> for Brief {
     }
 }
 
-/// A loop beside so many of them, whose batches have so much room.
+/// A loop beside `senders` of them, whose batches have room for `capacity` events.
 #[derive(Drop)]
 pub struct Round {
     pub senders: u64,

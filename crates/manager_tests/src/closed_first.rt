@@ -19,7 +19,7 @@ fn join<P: EventPoller, R: Abort>(
     expect_ok(rt, events.add_subscriber(asking))
 }
 
-/// Lets a subscriber leave, and expects that it saw so many events, and which refusal.
+/// Lets a subscriber leave, and expects that it saw `seen` events, and which refusal.
 fn leave<P: EventPoller, R: Abort>(
     rt: &R,
     events: &mut EventLoop<Asking, P>,

@@ -81,8 +81,8 @@ struct Scene {
 }
 
 impl Scene {
-    /// So many have joined, each with a descriptor of its own, from 0 on; or one, with all descriptors. The last descriptor is
-    /// reported for each call.
+    /// `count` subscribers have joined, each with a descriptor of its own, from 0 on; or one, with all descriptors. The last
+    /// descriptor is reported for each call.
     fn new<R: Abort>(rt: &R, alloc: Global, count: i32, calls: Calls) -> Self {
         let last_fd = count.saturating_sub(1);
         let mut poller = ScriptPoller::new(alloc);

@@ -99,7 +99,7 @@ const ROWS: [Row<'static>; 8] = [
     (7, Errno(22), &[Ok(2)], (BOTH, BOTH, (1, 0))),
 ];
 
-/// It joins, so many runs are made, and it leaves; then a second joins and leaves.
+/// It joins, `runs` runs are made, and it leaves; then a second joins and leaves.
 fn calls_with<R: Abort>(rt: &R, alloc: Global, runs: usize) -> Vec<Call<Asking>> {
     let mut calls = Vec::new(alloc);
     expect_ok(rt, calls.push(make_asking()));

@@ -25,12 +25,12 @@ fn leave<'a, S, R: Abort>(rt: &R, alloc: Global, number: u64) -> Step<'a, S> {
     Step::Make(Call::Remove(expect_ok(rt, id_of(alloc, number))))
 }
 
-/// A run of at most so many milliseconds.
+/// A run of at most `ms` milliseconds.
 fn run<'a, S>(ms: i32) -> Step<'a, S> {
     Step::Make(Call::Run(ms))
 }
 
-/// Who leaves in these steps, whose runs must report so many events.
+/// Who leaves in these steps, whose runs must report these `counts` of events.
 fn left_in<S: MutEventSubscriber + Drop, R: Host, const N: usize>(
     rt: &R,
     parts: OnTable<R>,
@@ -47,7 +47,7 @@ fn left_in<S: MutEventSubscriber + Drop, R: Host, const N: usize>(
     left
 }
 
-/// Expects that the runs of these steps report so many events, and that these are the events of who leaves.
+/// Expects that the runs of these steps report these `counts` of events, and that these are the events of who leaves.
 fn expect_steps<R: Host, const N: usize>(
     rt: &R,
     parts: OnTable<R>,

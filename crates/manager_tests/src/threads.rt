@@ -23,7 +23,7 @@ use vmm_sys::eventfd::EventFd;
 
 type Loop<S, N, R> = EventManager<S, NoJob, N, Epoll<R>>;
 
-/// The manager, after a second thread made a hundred runs with it, each of which must report so many events.
+/// The manager, after a second thread made a hundred runs with it, each of which must report `count` events.
 fn moved<S, N, R>(rt: R, manager: Loop<S, N, R>, count: usize) -> Loop<S, N, R>
 where
     S: MutEventSubscriber + Send + Drop + 'static,
@@ -67,7 +67,7 @@ where
 }
 
 /// The subscribers, in order, after a manager of them was moved to a second thread and has made a hundred runs there,
-/// each of which must report so many events.
+/// each of which must report `count` events.
 fn run_on_second_thread<S: MutEventSubscriber + Send + Drop + 'static, R: Host + 'static>(
     rt: R,
     parts: OnTable<R>,

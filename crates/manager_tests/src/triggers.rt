@@ -55,7 +55,7 @@ fn wanted_counters<R: Host>(rt: R, alloc: Global) -> (Epoll<R>, [EventFd; 3]) {
     (epoll, event_fds)
 }
 
-/// Expects twice that so many counters are ready.
+/// Expects twice that `count` counters are ready.
 fn expect_ready<R: Host>(rt: &R, epoll: &mut Epoll<R>, count: usize) {
     for _wait in 0..2 {
         let mut buffer = [EpollEvent::new(EventSet::empty(), 0); 4];

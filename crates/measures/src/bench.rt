@@ -19,7 +19,7 @@ pub struct Measured {
 }
 
 impl Measured {
-    /// What came of repeats with so many operations each. Refused where all of them counted another number.
+    /// What came of repeats with `operations` operations each. Refused where all of them counted another number.
     pub fn of(times: Times, operations: u64, count: u64) -> Result<Measured> {
         Ok(Measured {
             times,

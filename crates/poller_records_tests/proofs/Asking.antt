@@ -39,7 +39,7 @@ fits r poller call full room =
     let is : is_recorded (with_poller r poller) call ≡ true = ap (λ b. b && nat_le (length r.entries + length call) r.most) full ∙ within in
     (is, ap (λ b. length (if b then r.entries ++ call else r.entries)) is ∙ length-append r.entries call)
 
--- nothing was left out of it, and there is room for so many entries more
+-- nothing was left out of it, and there is room for this many entries more
 abbrev HasRoom : ℕ → Recording Gv → Type 0
 HasRoom n r = (r.complete ≡ true) × (length r.entries + n ≤ r.most)
 

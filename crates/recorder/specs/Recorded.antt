@@ -12,7 +12,7 @@ use Rattle.recorder.specs.declared.recorded.Replayed.{Replayed}
 use Rattle.recorder.specs.declared.recorded.Replayed.TheVariants.{Made, Left}
 use Rattle.recorder.specs.declared.run.Told.{Told}
 
--- nothing is recorded yet, and there is room for so many entries
+-- nothing is recorded yet, and there is room for this many entries
 abbrev pub recording : {P : Type 0} → P → ℕ → Recording P
 recording poller most = record { poller = poller; entries = []; most = most; complete = true }
 

@@ -12,11 +12,11 @@ use Rattle.recorder.specs.Devices.{device_begins, device_serves}
 use Rattle.recorder.specs.declared.device.Device.{Device}
 use Rattle.recorder.specs.declared.run.Told.{Told}
 
--- two devices join, and the loop runs so many times
+-- two devices join, and the loop runs this many times
 abbrev pub calls_of : Device × Device → ℕ → List (Call Device)
 calls_of devices runs = Add devices.0 ∷ Add devices.1 ∷ replicate runs (Run (pos 0))
 
--- they join under these ids, and the runs report so many events
+-- they join under these ids, and the runs report these numbers of events
 abbrev pub replies_of : ℕ → ℕ → List ℕ → List (Reply Device)
 replies_of queue console events = Added (Ok queue) ∷ Added (Ok console) ∷ map (λ count. Ran (Ok count)) events
 

@@ -14,7 +14,7 @@ use vmm_sys::line::Line;
 pub struct Deed {
     /// Its name.
     pub name: &'static str,
-    // So many kicks of either queue.
+    // How often either queue is kicked.
     kicks: (u64, u64),
     // The state of the console's line from then on.
     line: EventSet,

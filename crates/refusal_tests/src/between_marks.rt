@@ -11,7 +11,7 @@ use fixtures::asking::wanted;
 use fixtures::making::WithManager;
 use std::alloc::Global;
 
-/// Runs: one event is reported, and the subscriber has then been given so many.
+/// Runs: one event is reported, and the subscriber has then been given `given`.
 fn run_one<N: NamedCounter, P: EventPoller, R: Looping>(
     rt: &R,
     manager: &mut Manager<N, P>,

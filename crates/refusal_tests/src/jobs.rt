@@ -36,12 +36,12 @@ impl<R: Looping> Sending<'_, R> {
         rings
     }
 
-    /// Whether so many jobs wait, and the bell was rung as often.
+    /// Whether `count` jobs wait, and the bell was rung as often.
     fn are_waiting<N: NamedCounter>(&self, endpoint: &Endpoint<N>, count: u64) -> bool {
         endpoint.pending() == usize::try_from(count).ok() && self.rings() == count
     }
 
-    /// Expects that the job behind so many has the next ticket.
+    /// Expects that the job behind `sent` others has the next ticket.
     fn expect_next<N: NamedCounter>(
         &self,
         call: &str,
@@ -54,7 +54,7 @@ impl<R: Looping> Sending<'_, R> {
         expect_same(self.rt, call, &found, &(next, true));
     }
 
-    /// Sends a job by `fire`, where so many wait.
+    /// Sends a job by `fire`, where `sent` wait.
     fn fire<N: NamedCounter>(&self, endpoint: &Endpoint<N>, sent: u64) -> Ticket<N> {
         let ticket = again!(
             self.rt,

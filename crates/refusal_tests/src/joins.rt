@@ -60,7 +60,7 @@ impl<R: Looping> WithManager for Joining<'_, R> {
     }
 }
 
-/// Opens so many counters, of the descriptors from 1 on: the first ones are ready.
+/// Opens `count` counters, of the descriptors from 1 on: the first `ready` are ready.
 pub fn open_counters<R: Host>(rt: &R, on_table: &mut OnTable<R>, count: u16, ready: u16) {
     for fd in 1..=count {
         let counter = open_counter(rt, &mut on_table.epoll, fd as i32);

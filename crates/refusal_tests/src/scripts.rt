@@ -36,7 +36,7 @@ fn push_report<R: Looping>(
     )
 }
 
-/// A script of so many reports, each of these entries.
+/// A script of `reports` reports, each of these entries.
 pub fn script_of<R: Looping>(
     rt: &R,
     alloc: Global,

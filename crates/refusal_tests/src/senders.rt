@@ -20,7 +20,7 @@ use vmm_sys::poller::Poller;
 /// How many jobs each thread calls.
 const CALLS: u64 = 3;
 
-/// The loop's side, which has no subscriber, and so many callers.
+/// The loop's side, which has no subscriber, and `count` callers.
 #[derive(Drop)]
 struct Callers<'a> {
     count: u64,
@@ -99,7 +99,7 @@ fn has_begun_nothing<R: Host>(epoll: &mut Epoll<R>, begun: &AtomicU64) -> bool {
     is_unregistered(epoll, 0) && begun.load(Ordering::SeqCst) == 0
 }
 
-/// Runs a loop over a table beside so many threads, which call jobs of it. Where the loop is refused, as for want of one of the
+/// Runs a loop over a table beside `callers` threads, which call jobs of it. Where the loop is refused, as for want of one of the
 /// threads, none has begun; and at most the endpoint is left in the table.
 fn run_beside<R: Host + Threads + Sync>(rt: &R, alloc: Global, callers: u64) {
     let mut on_table = open_table(rt, alloc);

@@ -37,7 +37,7 @@ impl<R> Clock for Stopped<R> {
     }
 }
 
-/// The runtime, stopped at so many nanoseconds.
+/// The runtime, stopped at this time.
 fn stopped_at<R: Copy>(rt: &R, nanoseconds: u64) -> Stopped<R> {
     Stopped {
         time: Duration::from_nanos(nanoseconds),

@@ -116,7 +116,7 @@ pub struct Picture {
 /// What a wait says that was interrupted.
 pub const INTERRUPTED: &str = "interrupted";
 
-/// What a wait says that reported so many events.
+/// What a wait says that reported `count` events.
 pub fn count_text(alloc: Global, count: usize) -> Result<String, AllocError> {
     match count {
         1 => String::from_str(alloc, "1 event"),

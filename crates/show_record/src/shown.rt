@@ -15,7 +15,7 @@ pub struct ShownCall<'a> {
 }
 
 impl<'a> ShownCall<'a> {
-    /// The call with the events that stand behind it. `None` where it doesn't report so many.
+    /// The call with the events that stand behind it. `None` where the call reports another number of them.
     fn new(call: RecordEntry, behind: &'a [RecordEntry]) -> Option<ShownCall<'a>> {
         let end = behind.iter().position(|entry| !is_reported(entry));
         let report = behind.get(..end.unwrap_or(behind.len())).unwrap_or(behind);

@@ -4,7 +4,7 @@ use crate::picture::{Form, LANE, Lane, Picture, Row, Slot, Step, Tone};
 use std::fmt;
 use std::fmt::Display;
 
-/// How many colours there are for subscribers; those that joined so many later have the same.
+/// How many colours there are for subscribers, which are given them in turn.
 const COLOURS: usize = 6;
 
 /// How much lower a mark is than its lane.

@@ -42,7 +42,7 @@ impl Rounds {
         }
     }
 
-    /// Comes to a round, which counts, and waits until so many threads have: it looks many times at once, then lets others run, and
+    /// Comes to a round, which counts, and waits until `threads` have: it looks many times at once, then lets others run, and
     /// sleeps at last.
     pub fn begin<R: Clock>(&self, rt: &R, round: u64, threads: u64) {
         self.count();

@@ -35,7 +35,7 @@ impl<R: Looping> JobSender<Idle, Task, Result<u64>, R> for Caller<'_> {
     }
 }
 
-/// A loop for which a job without a caller waits, and that ends so many turns after the caller has started.
+/// A loop for which a job without a caller waits, and that ends `turns` turns after the caller has started.
 #[derive(Drop)]
 struct Closing<'a> {
     progress: &'a Arc<Progress, Global>,

@@ -37,7 +37,7 @@ impl Progress {
 pub enum Task {
     /// Does no more.
     Count(Arc<Progress, Global>),
-    /// Says first that it has begun, and holds up the loop for so many turns.
+    /// Says first that it has begun, and holds up the loop for this many turns.
     Begin(Arc<Progress, Global>, u64),
 }
 
@@ -72,7 +72,7 @@ impl Task {
 
 pub type Endpoint<N> = RemoteEndpoint<Idle, Task, N>;
 
-/// Spends so many turns.
+/// Spends `turns` turns.
 pub fn spin(turns: u64) {
     for _ in 0..turns {
         hint::spin_loop();

@@ -50,7 +50,7 @@ fn keep<N: NamedCounter, R: Host>(rt: &R, sending: &Sending<'_, N>, ticket: Opti
     }
 }
 
-/// Sends so many jobs, each after the one before, keeps their tickets, and counts itself as ended.
+/// Sends `count` jobs, each after the one before, keeps their tickets, and counts itself as ended.
 fn send_many<N: NamedCounter, R: Host>(
     rt: &R,
     endpoint: &Sender<N>,
@@ -72,7 +72,7 @@ fn send_many<N: NamedCounter, R: Host>(
     sending.ended.fetch_add(1, Ordering::SeqCst);
 }
 
-/// Sends by so many threads at once.
+/// Sends by several threads at once.
 fn send_all<N: NamedCounter + Send + Sync, R: Host>(
     rt: &R,
     alloc: Global,
@@ -93,7 +93,7 @@ fn send_all<N: NamedCounter + Send + Sync, R: Host>(
     expect_same(rt, &sent.is_ok(), &true);
 }
 
-/// Runs until so many senders have ended and no job waits.
+/// Runs until `senders` senders have ended and no job waits.
 fn run_beside<N: NamedCounter, R: Host>(
     rt: &R,
     manager: &mut Loop<N, R>,
@@ -149,7 +149,7 @@ fn send_beside_loop<N: NamedCounter + Send + Sync, R: Host>(
     expect_same(rt, &endpoint.pending(), &Some(0));
 }
 
-/// Expects that so many tickets were issued and jobs taken, that these are all, and not so without the last of them.
+/// Expects that `count` tickets were issued and jobs taken, that these are all, and not so without the last of them.
 fn expect_all<N: NamedCounter, R: Host>(
     rt: &R,
     closed: &mut Closed<N>,
@@ -197,7 +197,7 @@ fn send_on<N: Naming + Send + Sync, R: Host>(
     expect_all(rt, &mut closed, &mut sending.tickets.lock(rt), total);
 }
 
-/// Expects of so many senders that all they send is run, in the order of each.
+/// Expects of `senders` senders that all they send is run, in the order of each.
 fn expect_sent<R: Host>(rt: &R, alloc: Global, senders: usize, plan: Plan) {
     let mut notes = Vec::new(alloc);
     for _sender in 0..senders {

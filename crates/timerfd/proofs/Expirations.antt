@@ -52,7 +52,7 @@ each_time_counts now due k t is some short = elim (cases_lt now due) [
       ((λ more. forth (omega arith)), (λ upto. let p : k < times_due now due t.interval = back upto in omega arith))
 ]
 
--- the timer, due at this time, once it has expired so often
+-- the timer, due at this time, once it has expired this often
 abbrev rung_by : ℕ → ℕ → Timer → Timer
 rung_by n due t = record t { due = if t.interval == 0 then None else in_range (due + n * t.interval); expirations = min (t.expirations + n) (2 ^ 64 - 1) }
 

@@ -42,7 +42,7 @@ none_late [] [] = refl
 none_late [] (e ∷ others) = refl
 none_late (e ∷ front) others = refl
 
--- what is reported behind so many entries
+-- what is reported behind the entries in front
 module _ (front new rest : List EpollEvent) (k n : ℕ) (size : k ≡ length front) (fits : n ≤ length new) where
   pub behind_front : take (k + n) (front ++ (new ++ rest)) ≡ front ++ take n new
   behind_front = ap (λ j. take (j + n) (front ++ (new ++ rest))) size ∙ take-append-add front (new ++ rest) n ∙ ap (λ l. front ++ l) (take-append-le n new rest fits)

@@ -12,7 +12,7 @@ has_ready s = is_some (find (is_ready (table_of s).sources) s.interests)
 abbrev pub ms_until : ℕ → ℕ → ℕ
 ms_until now due = (due - now) / 1000000 + min 1 ((due - now) % 1000000)
 
--- the lesser of a limit and so many milliseconds; a negative limit is none
+-- the lesser of a limit and these milliseconds; a negative limit is none
 abbrev pub lesser : ℤ → ℕ → ℤ
 lesser (pos ms) left = pos (min ms left)
 lesser (negsuc _) left = pos (min left 2147483647)

@@ -54,7 +54,7 @@ IsMadeOf meaning may_ctl poller counter (Err errno) = (errno ≡ ENOMEM) ⊎ ((a
 
 -- Changes of the interest list
 
--- the index of the timer with this descriptor, where there are so many timers: they count down from the highest one
+-- the index of the timer with this descriptor, where there are this many timers: they count down from the highest one
 abbrev pub timer_of : ℤ → ℕ → Option ℕ
 timer_of (pos n) count = if nat_lt n 2147483648 && nat_lt (2147483647 - n) count then Some (2147483647 - n) else None
 timer_of (negsuc n) count = None

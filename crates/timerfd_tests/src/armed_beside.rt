@@ -18,7 +18,7 @@ const THREADS: u64 = 2;
 /// How many rounds there are. Most take some microseconds.
 const ROUNDS: u64 = 4_000;
 
-/// A wait that has lasted for so many nanoseconds was not ended.
+/// A wait that has lasted for this many nanoseconds was not ended.
 const LONG: u64 = 5_000_000_000;
 
 /// The limit of waits that have one, and after how long timers are due that are late, in milliseconds.
@@ -110,7 +110,7 @@ fn arm_and_clear<R: Looping>(rt: &R, three: &Three, round: u64) {
     expect_ok(rt, three.noise.clear(rt));
 }
 
-/// Whether a wait of at most so many milliseconds reports the timer that is waited for.
+/// Whether a wait of at most `ms` milliseconds reports the timer that is waited for.
 fn is_reported<R: Looping>(rt: &R, timed: &mut OverTable<R>, ms: i32) -> bool {
     let mut buffer = [EpollEvent::new(EventSet::empty(), 0); 4];
     let count = expect_ok(rt, timed.wait(ms, &mut buffer)).min(4);

@@ -55,7 +55,7 @@ impl Face {
     }
 }
 
-/// Expects that so many were counted since the last such call.
+/// Expects that `count` were counted since the last such call.
 pub fn expect_count<R: Abort>(rt: &R, counted: &AtomicU64, count: u64) {
     expect_same(rt, &counted.swap(0, Ordering::SeqCst), &count);
 }

@@ -8,7 +8,7 @@ use vmm_sys::poller::Poller;
 /// How many milliseconds a wait may last.
 const LIMIT: i32 = 5_000;
 
-/// A wait that has lasted for so many nanoseconds was not ended.
+/// A wait that has lasted for this many nanoseconds was not ended.
 const LONG: u64 = 2_500_000_000;
 
 /// Waits until the timer is reported: neither before this time nor much later.

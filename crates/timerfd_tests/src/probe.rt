@@ -56,7 +56,7 @@ impl Counter for Rung<'_> {
 /// What is done while a [`Probe`] waits.
 #[derive(Drop)]
 pub enum Deed<'a> {
-    /// The timer is armed: it is due once, after so many nanoseconds.
+    /// The timer is armed: it is due once, after this many nanoseconds.
     Arm(TimerFd<Rung<'a>>, u64),
     /// The clock shows this time from then on.
     Pass(&'a Face, u64),

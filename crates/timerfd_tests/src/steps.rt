@@ -54,7 +54,7 @@ pub enum Step<'a> {
     Change(ControlOperation, Which, EventSet),
     /// A wait of no milliseconds reports these words, each for `IN`.
     Report(&'a [u64]),
-    /// A wait of so many milliseconds reports nothing, and waits so long for the poller below.
+    /// A wait of the first number of milliseconds reports nothing, and waits the second number for the poller below.
     Limit(i32, i32),
     /// A wait without a limit, at whose end the clock shows this time, reports these words.
     Sleep(u64, &'a [u64]),
@@ -62,7 +62,7 @@ pub enum Step<'a> {
     ArmBeside(Which, u64),
     /// So that arming was answered.
     Answered(Result<(), Errno>),
-    /// So many entries the poller below reported to the last wait.
+    /// The poller below reported this many entries to the last wait.
     Below(usize),
     /// A wait without a limit and with more room fails as the poller below does.
     Fail(Errno),
@@ -149,7 +149,7 @@ impl<'a, R: Looping> Setup<'a, R> {
         expect_ok(rt, self.timed.ctl(op, fd, EpollEvent::new(set, word)));
     }
 
-    /// Expects that a wait of so many milliseconds reports these words.
+    /// Expects that a wait of `ms` milliseconds reports these words.
     fn report(&mut self, rt: &R, ms: i32, words: &[u64]) {
         expect_report(rt, &mut self.timed, ms, ROOM, words);
     }

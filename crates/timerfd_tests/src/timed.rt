@@ -55,7 +55,7 @@ where
     timer
 }
 
-/// Expects that a wait of so many milliseconds, with room for 4 entries or fewer, reports these words, each for `IN`.
+/// Expects that a wait of `ms` milliseconds, with room for 4 entries or fewer, reports these words, each for `IN`.
 pub fn expect_report<P: Poller, R: Abort>(
     rt: &R,
     poller: &mut P,
@@ -72,7 +72,7 @@ pub fn expect_report<P: Poller, R: Abort>(
     }
 }
 
-/// Arms the timer: it is due after so many nanoseconds, and again after each interval.
+/// Arms the timer: it is due after `nanoseconds`, and again after each interval.
 pub fn arm_again<R: Looping>(rt: &R, timer: &TimerFd, nanoseconds: u64, interval: u64) {
     let duration = Duration::from_nanos(nanoseconds);
     let interval = Duration::from_nanos(interval);

@@ -17,7 +17,7 @@ fn fill<R: Looping>(rt: &R, timed: &mut OverTable<R>, timers: u64) {
     watch(rt, timed, &counter, timers.saturating_add(1));
 }
 
-/// Expects that waits with so much room report these words in turn, each for `IN`.
+/// Expects that waits with room for `room` entries report these words in turn, each for `IN`.
 fn expect_reports<R: Looping>(rt: &R, timed: &mut OverTable<R>, room: usize, reports: &[&[u64]]) {
     for words in reports {
         expect_report(rt, timed, 0, room, words);

@@ -208,7 +208,7 @@ rooms-each c (AddLine ∷ steps) h = let r = rooms-each c steps h in omega arith
 rooms-each c (Close fd ∷ steps) h = let r = rooms-each c steps h in omega arith
 rooms-each c (WithoutMemory ∷ steps) h = let r = rooms-each c steps h in omega arith
 
--- so many waits have room for more than a
+-- this many waits have room for more than a
 below_rooms : (a c w : ℕ) → 0 < c → a / c + 1 ≤ w → a < w * c
 below_rooms a c w some h =
     let fits : a < (a / c + 1) * c = subst (λ n. a < n) (mul_comm c (a / c + 1)) (lt-mul-div-succ a some) in

@@ -76,7 +76,7 @@ stands slots s n a =
       },
     )
 
--- so many are held at most as there are descriptors
+-- at most as many are held as there are descriptors
 
 abbrev descriptors : List (Option Interest) → List ℕ
 descriptors slots = map (λ (i : Interest). i.descriptor) (held slots)

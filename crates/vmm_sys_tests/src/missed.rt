@@ -56,7 +56,7 @@ impl Turns {
         }
     }
 
-    // Waits so many times, and takes back what the other did.
+    // Waits in each round, and takes back what the other did.
     fn take_each_back<R: Host>(&self, rt: &R, epoll: Epoll<R>, ms: i32) {
         let mut epoll = epoll;
         for round in 0..ROUNDS {
