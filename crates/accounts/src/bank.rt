@@ -74,6 +74,8 @@ impl<R: Wait + Clock + Drop> JobSender<Account<R>, ActionOn<Order>, Result<Answe
         }
         let balance = endpoint.call_blocking(ask(self.account, Order::Read), rt)??;
         self.counter.write(25, rt).map_err(Error::EventFd)?;
+        // The run that replies to it may have waited before the write.
+        let _earlier = endpoint.call_blocking(ask(self.account, Order::Read), rt)??;
         let later = endpoint.call_blocking(ask(self.account, Order::Read), rt)??;
         let removed = endpoint.call_blocking(ask(self.removed, Order::Deposit(1)), rt)?;
         Ok(Answers {
