@@ -16,3 +16,4 @@ pub mod Service
 pub mod SlotMarks
 pub mod Slots
 pub mod Walked
+pub mod Writes

@@ -173,17 +173,10 @@ longer_or_same old new k (Err e) more same = (0, omega arith, same ∙ sym (appe
 
 -- what is known of the numbers below stays known
 
-pub below-set : (marks : List Bool) (k n : ℕ) → NoneBelow marks k → NoneBelow (set marks n true) (min k n)
-below-set marks k n none m lt marked =
+pub below-put : (marks : List Bool) (k n : ℕ) (mark : Bool) → NoneBelow marks k → NoneBelow (set marks n mark) (min k n)
+below-put marks k n mark none m lt marked =
     let other : m ≢ n = λ e. let at_most = min-le_right k n in absurd (omega arith) in
-    none m (let at_most = min-le_left k n in omega arith) (sym (slice_get-set_other marks n m true other) ∙ marked)
-
-pub below-clear : (marks : List Bool) (k n : ℕ) → NoneBelow marks k → NoneBelow (set marks n false) k
-below-clear marks k n none m lt marked =
-    elim (cases_eq m n) [
-      | inl same ↦ IsMarked-set_false marks n (subst (IsMarked (set marks n false)) same marked)
-      | inr other ↦ none m lt (sym (slice_get-set_other marks n m false other) ∙ marked)
-    ]
+    none m (let at_most = min-le_left k n in omega arith) (IsMarked-unset_other marks n m mark other marked)
 
 pub below-grown : (old new : List Bool) (j k : ℕ) → new ≡ old ++ replicate j false → NoneBelow old k → NoneBelow new k
 below-grown old new j k more none m lt marked = none m lt (IsMarked-ungrown old j m (subst (λ ms. IsMarked ms m) more marked))

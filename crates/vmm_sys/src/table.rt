@@ -163,7 +163,7 @@ impl Table {
     {
         // It has no interest, so none is marked anew.
         self.sources[number] = source;
-        self.closed.remove(number);
+        self.closed.put(number, false);
     }
 
     fn open_next(&mut self, source: Source) -> Result<RawFd, Errno>
@@ -242,7 +242,7 @@ impl Table {
         ensures { self.new ≡ record self.old { sources = slice_set self.old.sources number Closed } }
     {
         self.sources[number] = Source::Closed;
-        self.closed.insert(number);
+        self.closed.put(number, true);
     }
 
     /// Adds an interest as the last one, changes it in place, or removes it; `Delete` ignores the event. No memory is requested.

@@ -137,11 +137,7 @@ impl Interests {
         if self.ready.contains(slot) == ready {
             return;
         }
-        if ready {
-            self.ready.insert(slot);
-        } else {
-            self.ready.remove(slot);
-        }
+        self.ready.put(slot, ready);
     }
 
     #[inline(always)]
@@ -304,9 +300,9 @@ fn move_mark(ready: &mut NumberSet, from: usize, to: usize)
     ensures unmarked { slice_index_or ready.old from false ≡ false → ready.new ≡ slice_set ready.old to false }
 {
     if ready.contains(from) {
-        ready.remove(from);
-        ready.insert(to);
+        ready.put(from, false);
+        ready.put(to, true);
     } else if ready.contains(to) {
-        ready.remove(to);
+        ready.put(to, false);
     }
 }

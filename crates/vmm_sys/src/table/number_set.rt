@@ -59,36 +59,23 @@ impl NumberSet {
     }
 
     #[inline(always)]
-    pub(super) fn insert(&mut self, number: usize)
+    pub(super) fn put(&mut self, number: usize, mark: bool)
         requires { number < length self.old }
-        ensures { self.new ≡ slice_set self.old number true }
+        ensures { self.new ≡ slice_set self.old number mark }
     {
         self.lowest = self.lowest.min(number);
-        if self.numbers.set(number) {
-            let NumberSet {
-                words,
-                groups,
-                blocks,
-                ..
-            } = self;
-            mark_word(words, groups, blocks, number / WORD);
+        if !self.numbers.put(number, mark) {
+            return;
         }
-    }
-
-    #[inline(always)]
-    pub(super) fn remove(&mut self, number: usize)
-        requires { number < length self.old }
-        ensures { self.new ≡ slice_set self.old number false }
-    {
-        if self.numbers.clear(number) {
-            let NumberSet {
-                words,
-                groups,
-                blocks,
-                ..
-            } = self;
-            clear_word(words, groups, blocks, number / WORD);
+        let word = number / WORD;
+        if !self.words.put(word, mark) {
+            return;
         }
+        let group = word / WORD;
+        if !self.groups.put(group, mark) {
+            return;
+        }
+        self.blocks.put(group / WORD, mark);
     }
 
     /// Later searches begin at the number that it finds.
@@ -135,46 +122,6 @@ impl NumberSet {
         self.words.make_words(groups)?;
         self.numbers.make_words(words)
     }
-}
-
-// The word has its first mark now: marks it, and the groups and blocks that have their first with it.
-#[inline(always)]
-fn mark_word(words: &mut Row, groups: &mut Row, blocks: &mut Row, word: usize)
-    requires word { word < length words.old }
-    requires groups { MarksWords groups.old words.old }
-    requires blocks { MarksWords blocks.old groups.old }
-    ensures words { words.new ≡ slice_set words.old word true }
-    ensures groups { MarksWords groups.new words.new }
-    ensures blocks { MarksWords blocks.new groups.new }
-{
-    if !words.set(word) {
-        return;
-    }
-    let group = word / WORD;
-    if !groups.set(group) {
-        return;
-    }
-    blocks.set(group / WORD);
-}
-
-// The word has lost its last mark: clears its mark, and those of the groups and blocks that have lost their last with it.
-#[inline(always)]
-fn clear_word(words: &mut Row, groups: &mut Row, blocks: &mut Row, word: usize)
-    requires word { word < length words.old }
-    requires groups { MarksWords groups.old words.old }
-    requires blocks { MarksWords blocks.old groups.old }
-    ensures words { words.new ≡ slice_set words.old word false }
-    ensures groups { MarksWords groups.new words.new }
-    ensures blocks { MarksWords blocks.new groups.new }
-{
-    if !words.clear(word) {
-        return;
-    }
-    let group = word / WORD;
-    if !groups.clear(group) {
-        return;
-    }
-    blocks.clear(group / WORD);
 }
 
 #[inline(never)]

@@ -1,7 +1,7 @@
 //! A row of marks, held as bits in words: a mark is set, cleared or read at the cost of one word.
 
-ghost use Rattle.std.specs.Prelude.{◌≡◌, ◌<◌, ◌≤◌, ◌↔◌, ◌*◌, ◌/◌, ◌-◌, ◌^◌, ◌++◌, [], true, false, length, replicate, slice_set, IsTrue, MatchOption, OnOk, OnErr};
-ghost use Rattle.vmm_sys.specs.NumberSet.{IsMarked, IsFirstFrom, NoneFrom, NoneInWordFrom, IsEmptyWord};
+ghost use Rattle.std.specs.Prelude.{◌≡◌, ◌<◌, ◌≤◌, ◌↔◌, ◌*◌, ◌/◌, ◌-◌, ◌^◌, ◌++◌, [], Bool, List, true, false, length, replicate, slice_set, IsTrue, MatchOption, OnOk, OnErr};
+ghost use Rattle.vmm_sys.specs.NumberSet.{IsMarked, IsFirstFrom, NoneFrom, NoneInWordFrom, IsEmptyWord, MarksWords};
 
 use std::alloc::{AllocError, Global};
 use std::marker::Model;
@@ -59,24 +59,22 @@ impl Row {
         (self.words[number / WORD] >> (number % WORD)) & 1 == 1
     }
 
-    pub(super) fn set(&mut self, number: usize) -> bool
+    /// Whether the row above is to be written, too: its word got its first mark, or lost its last.
+    #[inline(always)]
+    pub(super) fn put(&mut self, number: usize, mark: bool) -> bool
         requires { number < length self.old }
-        ensures marks { self.new ≡ slice_set self.old number true }
-        ensures first { IsTrue result ↔ IsEmptyWord self.old (number / 64) }
+        ensures marks { self.new ≡ slice_set self.old number mark }
+        ensures above { IsTrue result → (upper : List Bool) → MarksWords upper self.old → MarksWords (slice_set upper (number / 64) mark) self.new }
+        ensures alone { result ≡ false → (upper : List Bool) → MarksWords upper self.old → MarksWords upper self.new }
     {
         let word = &mut self.words[number / WORD];
-        let was_empty = *word == 0;
-        *word |= 1 << (number % WORD);
-        was_empty
-    }
-
-    pub(super) fn clear(&mut self, number: usize) -> bool
-        requires { number < length self.old }
-        ensures marks { self.new ≡ slice_set self.old number false }
-        ensures last { IsTrue result ↔ IsEmptyWord self.new (number / 64) }
-    {
-        let word = &mut self.words[number / WORD];
-        *word &= !(1 << (number % WORD));
+        let bit = 1 << (number % WORD);
+        if mark {
+            let was_empty = *word == 0;
+            *word |= bit;
+            return was_empty;
+        }
+        *word &= !bit;
         *word == 0
     }
 

@@ -22,6 +22,6 @@ invariant_of-self c =
       fit-none n (is_ready xs) (is_ready (set xs n Closed)) now.marks now.slots c.self.invariant.2 (agree-set xs n Closed) (none-held now.slots n bare),
       reachable-close table n c.self.invariant.3 bare,
       rw length-set c.self.invariant.4,
-      rw (c.insert.ensures, length-set, length-set) room,
-      rw c.insert.ensures (marked-set xs c.self.inside.closed c.self.invariant.6 n Closed true refl within (omega arith)),
+      rw (c.put.ensures, length-set, length-set) room,
+      rw c.put.ensures (marked-set xs c.self.inside.closed c.self.invariant.6 n Closed true refl within (omega arith)),
     )

@@ -26,6 +26,6 @@ invariant_of-self c =
       fit-none n (is_ready xs) (is_ready (set xs n source)) now.marks now.slots c.self.invariant.2 (agree-set xs n source) none,
       reachable-set table n source c.self.invariant.3 c.requires.value c.requires.open,
       rw length-set c.self.invariant.4,
-      rw (c.remove.ensures, length-set, length-set) room,
-      rw c.remove.ensures (marked-set xs c.self.inside.closed c.self.invariant.6 n source false c.requires.open within (omega arith)),
+      rw (c.put.ensures, length-set, length-set) room,
+      rw c.put.ensures (marked-set xs c.self.inside.closed c.self.invariant.6 n source false c.requires.open within (omega arith)),
     )
