@@ -1,14 +1,7 @@
--- What is seen of ends that know their messages.
+-- What is seen of an end that knows its messages.
 use Rattle.std.specs.Prelude.{List}
-use Rattle.channels.specs.declared.sender.Sender.{Sender}
-use Rattle.channels.specs.declared.receiver.Receiver.{Receiver}
 
--- a sender, and what it has sent, in order
-pub record Sent (M C : Type 0) : Type 0 where
-  pub sender : Sender M C
-  pub messages : List M
-
--- a receiver, and what it has returned, in order
-pub record Received (M C : Type 0) : Type 0 where
-  pub receiver : Receiver M C
+-- a sender and what it has sent, or a receiver and what it has returned, in order
+pub record EndWithMessages (E M : Type 0) : Type 0 where
+  pub end : E
   pub messages : List M

@@ -21,4 +21,4 @@ pub use ends::{channel, sync_channel, sync_channel_with_room};
 pub use errors::{CloseError, Refusal, SendError};
 pub use receiver::Receiver;
 pub use sender::Sender;
-pub use tracked::{TrackedReceiver, TrackedSender};
+pub use tracked::{Tracked, TrackedReceiver, TrackedSender};
