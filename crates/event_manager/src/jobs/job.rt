@@ -21,7 +21,7 @@ pub trait Job<S: MutEventSubscriber>: Drop {
     ghost may: { Self → List (LoopStep S) → Self.Reply → Type 0 };
 
     /// What a caller that waits for a reply knows of it.
-    ghost replies: { Self.Reply → Type 0 };
+    ghost replies: { Self.Reply → Type 0 } = { λ reply. Unit {0} };
 
     /// Does the job.
     fn call<P: EventPoller, R: Wait + Clock>(
@@ -42,8 +42,6 @@ impl<S: MutEventSubscriber> Job<S> for NoJob {
     type Reply = ();
 
     ghost may = { λ self steps reply. steps ≡ [] };
-
-    ghost replies = { λ reply. Unit {0} };
 
     fn call<P: EventPoller, R: Wait + Clock>(self, _registry: &mut Registry<S, P>, _rt: &R) {}
 }

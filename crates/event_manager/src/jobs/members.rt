@@ -18,8 +18,6 @@ impl<S: MutEventSubscriber + Drop> Job<S> for AddSubscriber<S> {
 
     ghost may = { λ self steps reply. (step : LoopStep S) × (steps ≡ step ∷ []) × IsJoin self.0 reply step };
 
-    ghost replies = { λ reply. Unit {0} };
-
     fn call<P: EventPoller, R: Wait + Clock>(
         self,
         registry: &mut Registry<S, P>,
@@ -41,8 +39,6 @@ impl<S: MutEventSubscriber + Drop> Job<S> for RemoveSubscriber {
     ghost use Rattle.event_loop.specs.Registry.{LoopStep};
 
     ghost may = { λ self steps reply. (step : LoopStep S) × (steps ≡ step ∷ []) × IsLeave self.0 reply step };
-
-    ghost replies = { λ reply. Unit {0} };
 
     fn call<P: EventPoller, R: Wait + Clock>(
         self,
