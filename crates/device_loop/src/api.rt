@@ -118,8 +118,6 @@ impl<Q: RingName, R: Wait + Drop> Job<Device<Q, R>> for ApiRequest<Q, R> {
     // What it puts in a device's place differs only in the pause; who leaves, and what is asked for, stays open.
     ghost may = { λ self steps reply. All (StepGoesOn IsSameButPaused) steps };
 
-    ghost replies = { λ reply. Unit {0} };
-
     fn call<P: EventPoller, W: Wait + Clock>(
         self,
         registry: &mut Registry<Device<Q, R>, P>,

@@ -65,8 +65,6 @@ impl<Q: RingName, R: Wait + Drop> Job<Device<Q, R>> for SetPaused {
 
     ghost may = { λ self steps reply. All (StepGoesOn IsSameButPaused) steps };
 
-    ghost replies = { λ reply. Unit {0} };
-
     fn call<P: EventPoller, W: Wait + Clock>(
         self,
         registry: &mut Registry<Device<Q, R>, P>,

@@ -176,7 +176,7 @@ impl<'a> Reader<'a> {
                 self.first_bad = self.first_bad.or(Some(number));
                 Ok(())
             }
-            Err(LineError::OutOfMemory) => Err(Fault::OutOfMemory),
+            Err(LineError::OutOfMemory(error)) => Err(error.into()),
         }
     }
 

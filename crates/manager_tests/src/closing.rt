@@ -46,8 +46,6 @@ impl<'a> Job<Noting<'a>> for Noting<'a> {
 
     ghost may = { λ job steps reply. steps ≡ [] };
 
-    ghost replies = { λ reply. Unit {0} };
-
     fn call<P: EventPoller, R: Wait + Clock>(
         self,
         _registry: &mut Registry<Noting<'a>, P>,

@@ -3,7 +3,7 @@
 ghost use Rattle.std.specs.Prelude.{◌≡◌};
 ghost use Rattle.poller_records.specs.declared.fault.RecordFault.TheVariants as fault;
 
-use std::alloc::{AllocError, AllocFailed};
+use std::alloc::AllocError;
 use thiserror::Error;
 
 /// Why a text isn't read as a record.
@@ -22,14 +22,6 @@ impl From<AllocError> for RecordFault {
     ghost from_gives = { λ error result. result ≡ fault.OutOfMemory };
 
     fn from(_error: AllocError) -> RecordFault {
-        RecordFault::OutOfMemory
-    }
-}
-
-impl<T: Drop> From<AllocFailed<T>> for RecordFault {
-    ghost from_gives = { λ error result. result ≡ fault.OutOfMemory };
-
-    fn from(_error: AllocFailed<T>) -> RecordFault {
         RecordFault::OutOfMemory
     }
 }

@@ -123,7 +123,8 @@ pub fn read_record(alloc: Global, text: &str) -> Result<Vec<RecordEntry>, Record
                 fault: LineFault::NoEnd,
             });
         };
-        entries.push(read_line(alloc, number, line)?)?;
+        let read = read_line(alloc, number, line)?;
+        entries.push(read).map_err(AllocError::from)?;
         rest = behind;
     }
     Ok(entries)

@@ -48,8 +48,6 @@ impl<R: Wait + Drop> Job<Device<R>> for Work<R> {
 
     ghost may = { λ self steps reply. Unit {0} };
 
-    ghost replies = { λ reply. Unit {0} };
-
     fn call<P: EventPoller, W: Wait + Clock>(
         self,
         registry: &mut Registry<Device<R>, P>,

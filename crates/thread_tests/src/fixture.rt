@@ -48,8 +48,6 @@ impl<S: MutEventSubscriber> Job<S> for Task {
 
     ghost may = { λ self steps reply. steps ≡ [] };
 
-    ghost replies = { λ reply. Unit {0} };
-
     fn call<P: EventPoller, R: Wait + Clock>(self, _registry: &mut Registry<S, P>, _rt: &R) -> u64 {
         let progress = match self {
             Task::Count(progress) => progress,

@@ -82,8 +82,6 @@ impl<S: MutEventSubscriber, R: Clock + Drop> Job<S> for Task<R> {
 
     ghost may = { λ self steps reply. steps ≡ [] };
 
-    ghost replies = { λ reply. Unit {0} };
-
     fn call<P: EventPoller, W: Wait + Clock>(
         self,
         _registry: &mut Registry<S, P>,

@@ -29,6 +29,9 @@ impl EventSet {
     pub const HANG_UP: EventSet = EventSet(0x10);
     /// The other side writes no more.
     pub const READ_HANG_UP: EventSet = EventSet(0x2000);
+}
+
+impl EventSet {
     /// A mode: one of several waiters is woken.
     pub const EXCLUSIVE: EventSet = EventSet(0x1000_0000);
     /// A mode: the system stays awake while the event is served.

@@ -41,16 +41,16 @@ impl Line {
         Ok(Line { handle })
     }
 
-    /// As [`EventFd::close`](crate::eventfd::EventFd::close).
-    pub fn close<R: Wait>(self, rt: &R) {
-        description::close(self.handle, rt);
-    }
-
     /// Sets the state. The table refuses what is no open line with `EBADF`; the descriptor of a `Line` always is one.
     pub fn set<R: Wait>(&self, set: EventSet, rt: &R) -> Result<(), Errno>
         ensures { AnswersOfSome (λ t. set_line_of t (descriptor_of self.now) set) result }
     {
         self.handle.table.set_line(self.handle.fd, set, rt)
+    }
+
+    /// As [`EventFd::close`](crate::eventfd::EventFd::close).
+    pub fn close<R: Wait>(self, rt: &R) {
+        description::close(self.handle, rt);
     }
 }
 

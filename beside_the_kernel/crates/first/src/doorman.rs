@@ -45,8 +45,6 @@ impl Job<Doorman> for Ask {
 
     ghost may = { λ self steps reply. steps ≡ [] };
 
-    ghost replies = { λ reply. Unit {0} };
-
     fn call<P: EventPoller, R: Wait + Clock>(
         self,
         registry: &mut Registry<Doorman, P>,

@@ -47,8 +47,6 @@ impl Job<Idle> for Number {
 
     ghost may = { λ self steps reply. steps ≡ [] };
 
-    ghost replies = { λ reply. Unit {0} };
-
     fn call<P: EventPoller, R: Wait + Clock>(
         self,
         _registry: &mut Registry<Idle, P>,

@@ -4,7 +4,6 @@ ghost use Rattle.std.specs.Prelude.{◌≡◌, ◌≤◌, ◌<◌, ◌↔◌, Is
 ghost use Rattle.evloop_script.specs.Asked.{IsAddition};
 ghost use Rattle.evloop_script.specs.Item.{before_colon, after_colon, IsOfItem};
 ghost use Rattle.evloop_script.specs.Name.{IsName, IsNameByte};
-ghost use Rattle.evloop_script.specs.declared.script.line.LineError.TheVariants as line_error;
 ghost use Rattle.std.specs.List.{AllZip};
 ghost use Rattle.std.specs.Str.Parse.{digits_value};
 ghost use Rattle.vmm_sys.specs.EpollEvent.{fd_of, high_half};
@@ -14,6 +13,7 @@ use crate::number::{descriptor, errno, payload, priority, signed_descriptor};
 use crate::script::Refusal;
 use event_loop::{Events, Request};
 use std::alloc::{AllocError, AllocFailed, Global};
+use thiserror::Error;
 use vmm_sys::epoll::{ControlOperation, EpollEvent, EventSet, RawFd};
 
 /// The longest name of a subscriber, in characters.
@@ -47,26 +47,17 @@ pub(super) enum Line<'a> {
 }
 
 /// Why a line can't be taken.
-#[derive(Clone, Copy)]
+#[derive(Clone, Copy, Debug, Error)]
 pub(super) enum LineError {
-    /// The grammar does not have it.
+    #[error("the grammar does not have it")]
     Bad,
-    OutOfMemory,
-}
-
-impl From<AllocError> for LineError {
-    ghost from_gives = { λ error result. result ≡ line_error.OutOfMemory };
-
-    fn from(_error: AllocError) -> LineError {
-        LineError::OutOfMemory
-    }
+    #[error("out of memory")]
+    OutOfMemory(#[from] AllocError),
 }
 
 impl<T: Drop> From<AllocFailed<T>> for LineError {
-    ghost from_gives = { λ error result. result ≡ line_error.OutOfMemory };
-
     fn from(_error: AllocFailed<T>) -> LineError {
-        LineError::OutOfMemory
+        LineError::OutOfMemory(AllocError)
     }
 }
 
