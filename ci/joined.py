@@ -14,6 +14,11 @@ TACTIC = re.compile(r"^ *#\[tactic\(.*\)\]\n", re.M)
 MACRO = re.compile(r"^#\[macro_export\]\nmacro_rules! (\w+)", re.M)
 
 
+def module_of(crate):
+    """The module that a crate becomes."""
+    return f"of_{crate}"
+
+
 def rewrite(folder, change):
     """Changes the text of each file below a folder."""
     for at, _, files in os.walk(folder):
@@ -68,7 +73,7 @@ def write_tests(room, modules):
 def tests_of(room, crates):
     """What became of each test of these crates, by crate and path, as all are built at once in an empty folder."""
     lay_below(room, crates)
-    modules = {crate: f"of_{crate}" for crate in crates}
+    modules = {crate: module_of(crate) for crate in crates}
     for crate, module in modules.items():
         lay_module(room, crate, module)
     list_joined(room, [needed for crate in crates for needed in tries.DEPENDENCIES[crate]])

@@ -15,7 +15,7 @@ import tries
 from command import ROOT
 from edits import BadEdit, Edit
 from functions import parts_of
-from joined import JOINED, rewrite, text_of, write
+from joined import JOINED, module_of, rewrite, text_of, write
 
 # How many edits a run has. A run's tests are made in turn, and some of them wait.
 MOST_EDITS = 80
@@ -168,10 +168,6 @@ def as_picked(text):
 def numbered(edits):
     """The edits of a batch by their numbers."""
     return dict(enumerate(edits, FIRST))
-
-
-def module_of(crate):
-    return f"of_{crate}"
 
 
 def lay_crates(room, edits, targets):

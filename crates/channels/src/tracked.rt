@@ -72,7 +72,8 @@ impl<M: Drop, C: Counter + Drop> Tracked<Sender<M, C>, M> {
     pub fn close<R: Wait + Clock>(self, rt: &R) -> Result<(), CloseError<Sender<M, C>>>
         ensures handed_back { IfErr result (λ refused. (refused.sender ≡ self.end) × C.rings (counter_of_sender self.end) (Err refused.errno)) }
     {
-        self.end.close(rt)
+        let Tracked { end: sender, .. } = self;
+        sender.close(rt)
     }
 }
 
