@@ -1,5 +1,9 @@
 //! Errors of sends and closes.
 
+ghost use Rattle.channels.specs.RefusalText.{text_of};
+ghost use Rattle.channels.specs.declared.errors.Refusal.TheVariants as refusal;
+ghost use Rattle.std.specs.Prelude.{Some};
+
 use std::error::Error;
 use std::fmt;
 use vmm_sys::errno::Errno;
@@ -17,11 +21,26 @@ pub enum Refusal {
     EventFd(Errno),
 }
 
-impl fmt::Display for Refusal {
-    ghost use Rattle.channels.specs.RefusalText.{text_of};
-    ghost use Rattle.std.specs.Prelude.{Some};
+/// A message that was refused. It prints why.
+#[derive(Drop, PartialEq, Eq)]
+pub struct SendError<M> {
+    /// Why.
+    pub why: Refusal,
+    /// The message.
+    pub message: M,
+}
 
-    ghost output = { λ refusal. Some (text_of refusal) };
+/// A sender that was not closed. It prints that the counter refuses its ring.
+#[derive(Drop)]
+pub struct CloseError<S> {
+    /// The number with which the counter refused its ring.
+    pub errno: Errno,
+    /// The sender.
+    pub sender: S,
+}
+
+impl fmt::Display for Refusal {
+    ghost output = { λ refused. Some (text_of refused) };
 
     fn fmt<W: fmt::Write>(&self, f: &mut fmt::Formatter<W>) -> fmt::Result {
         match self {
@@ -33,28 +52,7 @@ impl fmt::Display for Refusal {
     }
 }
 
-impl Error for Refusal {}
-
-/// A message that was refused. It prints why.
-#[derive(Drop, PartialEq, Eq)]
-pub struct SendError<M> {
-    /// Why.
-    pub why: Refusal,
-    /// The message.
-    pub message: M,
-}
-
-// Not derived, nor that of `CloseError`: as std's they want nothing of what is handed back.
-impl<M> fmt::Debug for SendError<M> {
-    fn fmt<W: fmt::Write>(&self, f: &mut fmt::Formatter<W>) -> fmt::Result {
-        write!(f, "SendError {{ why: {:?}, .. }}", self.why)
-    }
-}
-
 impl<M> fmt::Display for SendError<M> {
-    ghost use Rattle.channels.specs.RefusalText.{text_of};
-    ghost use Rattle.std.specs.Prelude.{Some};
-
     ghost output = { λ error. Some (text_of error.why) };
 
     fn fmt<W: fmt::Write>(&self, f: &mut fmt::Formatter<W>) -> fmt::Result {
@@ -62,15 +60,19 @@ impl<M> fmt::Display for SendError<M> {
     }
 }
 
-impl<M: Drop> Error for SendError<M> {}
+impl<S> fmt::Display for CloseError<S> {
+    ghost output = { λ error. Some (text_of (refusal.EventFd error.errno)) };
 
-/// A sender that was not closed. It prints that the counter refuses its ring.
-#[derive(Drop)]
-pub struct CloseError<S> {
-    /// The number with which the counter refused its ring.
-    pub errno: Errno,
-    /// The sender.
-    pub sender: S,
+    fn fmt<W: fmt::Write>(&self, f: &mut fmt::Formatter<W>) -> fmt::Result {
+        write!(f, "{}", Refusal::EventFd(self.errno))
+    }
+}
+
+// Not derived: as std's, these want nothing of what is handed back.
+impl<M> fmt::Debug for SendError<M> {
+    fn fmt<W: fmt::Write>(&self, f: &mut fmt::Formatter<W>) -> fmt::Result {
+        write!(f, "SendError {{ why: {:?}, .. }}", self.why)
+    }
 }
 
 impl<S> fmt::Debug for CloseError<S> {
@@ -79,16 +81,8 @@ impl<S> fmt::Debug for CloseError<S> {
     }
 }
 
-impl<S> fmt::Display for CloseError<S> {
-    ghost use Rattle.channels.specs.RefusalText.{text_of};
-    ghost use Rattle.channels.specs.declared.errors.Refusal.TheVariants.{EventFd};
-    ghost use Rattle.std.specs.Prelude.{Some};
+impl Error for Refusal {}
 
-    ghost output = { λ error. Some (text_of (EventFd error.errno)) };
-
-    fn fmt<W: fmt::Write>(&self, f: &mut fmt::Formatter<W>) -> fmt::Result {
-        write!(f, "{}", Refusal::EventFd(self.errno))
-    }
-}
+impl<M: Drop> Error for SendError<M> {}
 
 impl<S: Drop> Error for CloseError<S> {}
