@@ -1,5 +1,5 @@
 -- The owners of the descriptors, as the code keeps them: those of the low descriptors in a vector, by descriptor, those of the others in a map.
-use Rattle.std.specs.Prelude.{◌≡◌, ℕ, ◌+◌, ◌<◌, ◌≤◌, ◌==◌, nat_lt, cond, List, [], ◌∷◌, ◌++◌, map, length, Option, Some, None, option_map, slice_index_or}
+use Rattle.std.specs.Prelude.{◌≡◌, ℕ, ◌+◌, ◌<◌, ◌≤◌, ◌==◌, nat_lt, if◌then◌else◌, List, [], ◌∷◌, ◌++◌, map, length, Option, Some, None, option_map, slice_index_or}
 use Rattle.std.specs.FinMap as finite
 use Rattle.std.specs.Map.{lookup}
 use Rattle.dispatch_tables.specs.Ownership.{Ownership, OwnerMap, class_in}
@@ -57,7 +57,7 @@ pub record AreApart (low : List OwnerSlot) (high : List (ℕ × Owner)) : Type 0
 
 -- another owner, or none, at one descriptor
 abbrev pub HasOwnerAt : List OwnerSlot → ℕ → Option Ownership → List OwnerSlot → Type 0
-HasOwnerAt before at owner after = (fd : ℕ) → ownership_at after fd ≡ cond (at == fd) owner (ownership_at before fd)
+HasOwnerAt before at owner after = (fd : ℕ) → ownership_at after fd ≡ if at == fd then owner else ownership_at before fd
 
 -- each descriptor has the same owner, wherever it is looked for
 abbrev pub HaveSameOwners : (ℕ → Option Ownership) → (ℕ → Option Ownership) → Type 0

@@ -1,6 +1,6 @@
 //! Who owns which descriptor, and at which priority.
 
-ghost use Rattle.std.specs.Prelude.{◌≡◌, ◌<◌, ◌≤◌, ◌==◌, ℕ, cond, length, None, Some, option_map, OnOk, OnErr};
+ghost use Rattle.std.specs.Prelude.{◌≡◌, ◌<◌, ◌≤◌, ◌==◌, ℕ, if◌then◌else◌, length, None, Some, option_map, OnOk, OnErr};
 ghost use Rattle.std.specs.FinMap as map;
 ghost use Rattle.dispatch_tables.specs.Priority.{number_of};
 ghost use Rattle.dispatch_tables.specs.Ownership.{class_in};
@@ -199,7 +199,7 @@ fn put_in(
     fd: u32,
     owner: Owner,
 ) -> std::result::Result<(), AllocError>
-    ensures ok { OnOk result ((q : ℕ) → owner_in high.new.entries q ≡ cond (fd == q) (Some owner) (owner_in high.old.entries q)) }
+    ensures ok { OnOk result ((q : ℕ) → owner_in high.new.entries q ≡ if fd == q then Some owner else owner_in high.old.entries q) }
     ensures err { OnErr result (high.new.entries ≡ high.old.entries) }
 {
     match high.insert(fd, owner) {
@@ -211,7 +211,7 @@ fn put_in(
 #[inline(never)]
 fn take_from(high: &mut HashMap<u32, Owner>, fd: u32) -> Option<Owner>
     ensures value { result ≡ owner_in high.old.entries fd }
-    ensures taken { (q : ℕ) → owner_in high.new.entries q ≡ cond (fd == q) None (owner_in high.old.entries q) }
+    ensures taken { (q : ℕ) → owner_in high.new.entries q ≡ if fd == q then None else owner_in high.old.entries q }
 {
     high.remove(&fd)
 }

@@ -1,5 +1,5 @@
 -- What holds of the owners and the watch lists together.
-use Rattle.std.specs.Prelude.{◌≡◌, ℕ, ◌<◌, ◌^◌, cond, IsSome}
+use Rattle.std.specs.Prelude.{◌≡◌, ℕ, ◌<◌, ◌^◌, if◌then◌else◌, IsSome}
 use Rattle.std.specs.FinMap.{get}
 use Rattle.dispatch_tables.specs.Ownership.{OwnerMap, owner_of}
 use Rattle.dispatch_tables.specs.Owners.{AreCounted}
@@ -13,7 +13,7 @@ AreDescriptors owners = (q : ℕ) → IsSome (get owners q) → q < 2 ^ 31
 
 -- each descriptor stands once in its owner's list, and in no other list
 abbrev pub AreWatched : OwnerMap → WatchLists → Type 0
-AreWatched owners watched = (i fd : ℕ) → times_watched watched i fd ≡ cond (is_id i (owner_of owners fd)) 1 0
+AreWatched owners watched = (i fd : ℕ) → times_watched watched i fd ≡ if is_id i (owner_of owners fd) then 1 else 0
 
 -- `owned` counts the owners, `raised` those at a priority above the lowest
 pub record AreConsistent (owners : OwnerMap) (owned raised : ℕ) (watched : WatchLists) : Type 0 where

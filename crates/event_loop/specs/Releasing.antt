@@ -1,5 +1,5 @@
 -- How the descriptors of an id are freed when it leaves.
-use Rattle.std.specs.Prelude.{◌≡◌, ℕ, cond, List, None, nat_lt}
+use Rattle.std.specs.Prelude.{◌≡◌, ℕ, if◌then◌else◌, List, None, nat_lt}
 use Rattle.std.specs.FinMap as map
 use Rattle.event_loop.specs.PollerCall.{PollerCall, Controls, Waits, Leads}
 use Rattle.event_loop.specs.Registry.{AreOwnedBy, AreDeletes}
@@ -10,7 +10,7 @@ use Rattle.event_loop.specs.declared.epoll.EpollWrapper.{EpollWrapper}
 
 -- no descriptor in the list has an owner any more, and the others have the same
 abbrev pub AreWithout : List ℕ → OwnerMap → OwnerMap → Type 0
-AreWithout fds before after = (q : ℕ) → map.get after q ≡ cond (nat_lt 0 (times_in fds q)) None (map.get before q)
+AreWithout fds before after = (q : ℕ) → map.get after q ≡ if nat_lt 0 (times_in fds q) then None else map.get before q
 
 module _ {P : Type 0} (controls : Controls P) (waits : Waits P) where
   -- the descriptors of id i are free, after one Delete for each, whatever it answered; all else is as before

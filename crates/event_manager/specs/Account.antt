@@ -1,5 +1,5 @@
 -- The account of sends, takes and closes, without a queue.
-use Rattle.std.specs.Prelude.{◌≡◌, ℕ, ◌+◌, Bool, true, false, cond, ltb, List, [], ◌∷◌, ◌++◌, length, take, None, Result, Ok, Err}
+use Rattle.std.specs.Prelude.{◌≡◌, ℕ, ◌+◌, Bool, true, false, nat_lt, if◌then◌else◌, List, [], ◌∷◌, ◌++◌, length, take, None, Result, Ok, Err}
 use Rattle.vmm_sys.specs.declared.errno.Errno.{Errno}
 use Rattle.event_loop.specs.declared.error.Error.{Error}
 use Rattle.event_loop.specs.declared.error.Error.TheVariants.{ChannelSend, EventFd, TicketsUsedUp, OutOfMemory}
@@ -43,7 +43,7 @@ module _ {J : Type 0} where
   -- all before the last take, and nothing where there is none
   abbrev pub before_last_take : List (Step J) → List (Step J)
   before_last_take [] = []
-  before_last_take (step ∷ steps) = cond (has_take steps) (step ∷ before_last_take steps) []
+  before_last_take (step ∷ steps) = if has_take steps then step ∷ before_last_take steps else []
 
   -- the n-th has ticket n
   abbrev pub with_tickets : ℕ → List J → List (ℕ × J)
@@ -59,7 +59,7 @@ module _ {J : Type 0} where
 
   -- what a send answers after these steps, where its bell answers so
   abbrev pub answer : List (Step J) → Result (Unit {0}) Errno → Result ℕ Error
-  answer before bell = cond (has_close before) (Err ChannelSend) (cond (ltb (length (jobs_accepted before)) most) (answer_of_bell (length (jobs_accepted before)) bell) (Err TicketsUsedUp))
+  answer before bell = if has_close before then Err ChannelSend else if nat_lt (length (jobs_accepted before)) most then answer_of_bell (length (jobs_accepted before)) bell else Err TicketsUsedUp
 
   -- what the sends of the second list answer after the steps of the first
   abbrev pub answers_after : List (Step J) → List (Step J) → List (Result ℕ Error)
