@@ -18,7 +18,7 @@ module _ {M S : Type 0} (raises : S → Result (Unit {0}) Errno → S → Type 0
       (is ≡ not (is_full q)) × MatchBool (is_full q) (MatchBool was (lowers before after) (after ≡ before)) (MatchBool was (after ≡ before) (raises before (Ok tt) after))
   IsRoomUpdated q was before (Err errno) is after = (is_full q ≡ false) × (was ≡ false) × (is ≡ false) × raises before (Err errno) after
 
--- a queue with its receiver's counter; whether its senders' counter counts as raised, the value of that one, and what the last telling
+-- a queue with its receiver's counter; whether its senders' counter counts as raised, the value of that one, and what the last update
 -- answered
 pub record QueueWithCounters (M : Type 0) : Type 0 where
   pub queue : QueueWithCounter M
@@ -44,6 +44,6 @@ module _ {M : Type 0} where
   AreStepsAndUpdates before [] after = after ≡ before
   AreStepsAndUpdates before (step ∷ steps) after = (between : QueueWithCounters M) × StepsAndUpdates step before between × AreStepsAndUpdates between steps after
 
-  -- the senders' counter isn't 0 while it counts as raised; and where the last telling wasn't refused it is 0 only while the queue is full
+  -- the senders' counter isn't 0 while it counts as raised; and where the last update wasn't refused it is 0 only while the queue is full
   abbrev pub NoRoomIsMissed : QueueWithCounters M → Type 0
   NoRoomIsMissed q = (q.is_raised ≡ true → 0 < q.room) × (q.answer ≡ Ok tt → q.room ≡ 0 → is_full q.queue.messages ≡ true)
