@@ -1,14 +1,16 @@
 -- The positions of a buffer.
-use Rattle.std.proofs.Common.{◌≡◌, ℕ, suc, ◌+◌, ◌<◌, ◌≤◌, ◌==◌, ◌||◌, refl, sym, ap, subst, ◌∙◌, List, [], ◌∷◌, Bool, false, length, get_or, take, drop, add-one, arith, length-take, get_or-take, drop-cons, map, ℤ, Ok}
+use Rattle.std.proofs.Common.{◌≡◌, ℕ, suc, ◌+◌, ◌<◌, ◌≤◌, ◌==◌, ◌||◌, refl, sym, ap, subst, ◌∙◌, List, [], ◌∷◌, Bool, false, length, get_or, take, drop, add-one, arith, length-take, get_or-take, drop-cons, map, ℤ, Result, Ok, Err, IfOk}
 use Rattle.std.proofs.lemmas.List.{length-take-le}
 use Rattle.dispatch_tables.specs.Event.{Event, event_of_entry}
 use Rattle.dispatch_tables.specs.Cancelled.{HasEntered}
 use base.Stored.{Gv}
 use Rattle.vmm_sys.specs.declared.poller.Poller.{Ghosts}
+use Rattle.vmm_sys.specs.Poller.{reported}
 use Rattle.event_loop.specs.PollerRelations.{waits}
 use Rattle.event_loop.specs.RegistrationState.{all_pending, cancel_on}
 use Rattle.vmm_sys.specs.declared.entries.EpollEvent.{EpollEvent}
-use Rattle.event_loop.specs.ReadyList.{is_cancelled, ready_of}
+use Rattle.vmm_sys.specs.declared.errno.Errno.{Errno}
+use Rattle.event_loop.specs.ReadyList.{is_cancelled, ready_of, report_of}
 
 -- one more position: the entry with its mark, and then the others
 pub ready_more : (buffer : List EpollEvent) (cancelled : List ℕ) (i n : ℕ) (e : EpollEvent) → i < n → n ≤ length buffer → e ≡ get_or buffer i e → ready_of buffer cancelled i n ≡ (event_of_entry e, is_cancelled cancelled e) ∷ ready_of buffer cancelled (i + 1) n
@@ -46,6 +48,8 @@ pub length_events : (buffer : List EpollEvent) (n : ℕ) → n ≤ length buffer
 length_events buffer n fits = same_length (take n buffer) ∙ length-take-le n buffer fits
 
 module _ {P : Type 0} (poller : Ghosts P) where
-  pub waits_ok : (before after : Gv) (ms : ℤ) (capacity : ℕ) (buffer : List EpollEvent) (n : ℕ) → n ≤ length buffer → poller.may_wait before ms capacity (Ok n) (take n buffer) after
-      → waits poller before ms capacity (Ok (map event_of_entry (take n buffer))) after
-  waits_ok before after ms capacity buffer n fits h = (take n buffer, refl, subst (λ k. poller.may_wait before ms capacity (Ok k) (take n buffer) after) (sym (length-take-le n buffer fits)) h)
+  -- what a poller answers to a wait, as a loop sees it
+  pub waits_by : (before after : Gv) (ms : ℤ) (capacity : ℕ) (buffer : List EpollEvent) (r : Result ℕ Errno) → IfOk r (λ n. n ≤ length buffer) → poller.may_wait before ms capacity r (reported r buffer) after
+      → waits poller before ms capacity (report_of r buffer) after
+  waits_by before after ms capacity buffer (Ok n) fits h = (take n buffer, refl, subst (λ k. poller.may_wait before ms capacity (Ok k) (take n buffer) after) (sym (length-take-le n buffer fits)) h)
+  waits_by before after ms capacity buffer (Err errno) fits h = h

@@ -108,10 +108,8 @@ impl<S: MutEventSubscriber, P: EventPoller> EventLoop<S, P> {
     pub fn run_with_timeout(&mut self, ms: i32) -> Result<usize>
         ensures { IsLoopIteration S.begins S.serves no_job P.controls P.waits (seen_of self.old) ms result (seen_of self.new) }
     {
-        match self.registry.run_with_timeout(ms) {
-            Ok(batch) => Ok(batch.count),
-            Err(error) => Err(error),
-        }
+        let batch = self.registry.run_with_timeout(ms)?;
+        Ok(batch.count)
     }
 }
 

@@ -55,10 +55,7 @@ impl EventPoller for BoxedPoller {
     }
 
     fn poll(&mut self, ms: i32, buffer: &mut [EpollEvent]) -> Result<usize, Errno> {
-        match self.0.wait(ms, buffer) {
-            Ok(count) => Ok(count),
-            Err(errno) => Err(errno),
-        }
+        self.0.wait(ms, buffer)
     }
 }
 
@@ -72,9 +69,6 @@ impl<T: Poller> EventPoller for T {
     }
 
     fn poll(&mut self, ms: i32, buffer: &mut [EpollEvent]) -> Result<usize, Errno> {
-        match self.wait(ms, buffer) {
-            Ok(count) => Ok(count),
-            Err(errno) => Err(errno),
-        }
+        self.wait(ms, buffer)
     }
 }

@@ -130,13 +130,9 @@ impl ReadyList {
         self.at = 0;
         self.count = 0;
         self.cancelled.clear();
-        match poller.poll(ms, &mut self.buffer) {
-            Ok(count) => {
-                owners.order(&mut self.buffer, count, &mut self.classed);
-                self.count = count;
-                Ok(count)
-            }
-            Err(errno) => Err(errno),
-        }
+        let count = poller.poll(ms, &mut self.buffer)?;
+        owners.order(&mut self.buffer, count, &mut self.classed);
+        self.count = count;
+        Ok(count)
     }
 }

@@ -58,10 +58,8 @@ impl<S: MutEventSubscriber, J: Job<S>, N: NamedCounter, P: EventPoller> TrackedM
         P: Drop,
         ensures { IsMade P.controls poller (endpoint_of N.descriptor counter) capacity (λ t. t) result }
     {
-        match EventManager::new_with_capacity(alloc, poller, counter, capacity, ledgers) {
-            Ok(manager) => Ok(TrackedManager { manager }),
-            Err(error) => Err(error),
-        }
+        let manager = EventManager::new_with_capacity(alloc, poller, counter, capacity, ledgers)?;
+        Ok(TrackedManager { manager })
     }
 
     /// As [`EventManager::poller`].

@@ -124,7 +124,8 @@ pub fn read_record(alloc: Global, text: &str) -> Result<Vec<RecordEntry>, Record
             });
         };
         let read = read_line(alloc, number, line)?;
-        entries.push(read).map_err(AllocError::from)?;
+        entries.reserve(1)?;
+        entries.push_reserved(read);
         rest = behind;
     }
     Ok(entries)

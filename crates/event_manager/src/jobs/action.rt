@@ -46,9 +46,7 @@ impl<S: MutEventSubscriber + Drop, A: Action<S>> Job<S> for ActionOn<A> {
         registry: &mut Registry<S, P>,
         rt: &R,
     ) -> Result<A::Reply> {
-        match registry.subscriber_mut(self.subscriber) {
-            Ok(subscriber) => Ok(self.action.act(subscriber, rt)),
-            Err(error) => Err(error),
-        }
+        let subscriber = registry.subscriber_mut(self.subscriber)?;
+        Ok(self.action.act(subscriber, rt))
     }
 }

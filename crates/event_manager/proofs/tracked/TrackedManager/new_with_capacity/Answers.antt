@@ -7,6 +7,6 @@ use Rattle.event_manager.proofs.tracked.TrackedManager.new_with_capacity.Goals a
 -- a new manager
 pub invariant_of-result : goal.invariant_of-result
 invariant_of-result g c =
-    let made = rw c.in-Ok.is at c.new_with_capacity.ensures in
+    let made = rw c.in_ok-manager.was at c.new_with_capacity.ensures in
     subst (λ (s : LoopState g.row.S.Denot g.row.P.Denot). IsReached g.S.MutEventSubscriber.begins g.S.MutEventSubscriber.serves g.J.Job.may (contents_of s)) (sym made.3)
     (new_is_reached g.S.MutEventSubscriber.begins g.S.MutEventSubscriber.serves g.J.Job.may _)
