@@ -81,8 +81,8 @@ pub fn sync_channel_with_room<M: Drop, C: Counter + Drop, R: Wait + Clock>(
     ensures room { IfOk result (λ ends. room_of_sender ends.0 ≡ Some room) }
     ensures refused { IfErr result (λ errno. (errno ≡ ENOMEM) ⊎ C.rings room (Err errno)) }
 {
-    let queue = MessageQueue::with_room(alloc, most).map_err(|_refused| Errno::ENOMEM)?;
-    let ends = ends_of(queue, counter, Some(room), alloc).map_err(|_refused| Errno::ENOMEM)?;
+    let queue = MessageQueue::with_room(alloc, most)?;
+    let ends = ends_of(queue, counter, Some(room), alloc)?;
     let shared = &*ends.0.shared;
     shared.update_room(&mut shared.state.lock(rt), rt)?;
     Ok(ends)

@@ -202,10 +202,8 @@ fn put_in(
     ensures ok { OnOk result ((q : ℕ) → owner_in high.new.entries q ≡ if fd == q then Some owner else owner_in high.old.entries q) }
     ensures err { OnErr result (high.new.entries ≡ high.old.entries) }
 {
-    match high.insert(fd, owner) {
-        Ok(_) => Ok(()),
-        Err(_) => Err(AllocError),
-    }
+    high.insert(fd, owner)?;
+    Ok(())
 }
 
 #[inline(never)]

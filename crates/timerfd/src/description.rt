@@ -1,12 +1,10 @@
 //! What the handles of a timer share; the timer is closed with the last of them.
 
-ghost use Rattle.std.specs.Prelude.{◌≡◌, ◌<◌, ◌-◌, ◌≤ℤ◌, ◌^◌, pos, IfOk, IfErr};
-ghost use Rattle.std.specs.Arc.{arc_value};
+ghost use Rattle.std.specs.Prelude.{◌≡◌, ◌<◌, ◌-◌, ◌≤ℤ◌, ◌^◌, pos};
 
 use crate::shared::Shared;
 use std::sync::{Arc, Wait};
 use vmm_sys::epoll::RawFd;
-use vmm_sys::errno::Errno;
 
 #[derive(Drop)]
 pub(crate) struct Description<C> {
@@ -16,14 +14,6 @@ pub(crate) struct Description<C> {
 }
 
 pub(crate) type Handle<C> = Arc<Description<C>>;
-
-/// One more owner of the same. `ENOMEM`: the `Arc` refused a copy.
-pub(crate) fn another_owner<T>(owner: &Arc<T>) -> Result<Arc<T>, Errno>
-    ensures same { IfOk result (λ other. arc_value other ≡ arc_value owner.now) }
-    ensures errors { IfErr result (λ e. e ≡ Errno.ENOMEM) }
-{
-    Arc::try_clone(owner).map_err(|_| Errno::ENOMEM)
-}
 
 pub(crate) fn close<C: Drop, R: Wait>(handle: Handle<C>, rt: &R) {
     if let Some(last) = Arc::into_inner(handle) {

@@ -3,7 +3,7 @@
 ghost use Rattle.std.specs.Prelude.{◌≡◌, ◌<◌, Ok, IfOk, IfErr};
 
 use crate::clock;
-use crate::description::{self, Description, Handle, another_owner};
+use crate::description::{self, Description, Handle};
 use crate::shared::Shared;
 use crate::timed_poller::TimedPoller;
 use std::sync::{Arc, Wait};
@@ -45,7 +45,7 @@ impl<C: Counter + Drop> TimerFd<C> {
     fn open<R: Wait>(timers: &Arc<Shared<C>>, rt: &R) -> Result<TimerFd<C>, Errno>
         ensures { IfErr result IsOpeningError }
     {
-        let timers = another_owner(timers)?;
+        let timers = Arc::try_clone(timers)?;
         let alloc = timers.alloc;
         let index = timers.state.lock(rt).timers.add()?;
         match Arc::new(alloc, Description::new(timers, index)) {
@@ -62,7 +62,7 @@ impl<C: Counter + Drop> TimerFd<C> {
         ensures same_descriptor { IfOk result (λ other. descriptor_of other ≡ descriptor_of self.now) }
         ensures errors { IfErr result (λ e. e ≡ Errno.ENOMEM) }
     {
-        let handle = another_owner(&self.handle)?;
+        let handle = Arc::try_clone(&self.handle)?;
         Ok(TimerFd { handle })
     }
 

@@ -11,9 +11,9 @@ use crate::errno::Errno;
 pub use crate::event_set::EventSet;
 pub use crate::fd::Fd;
 use crate::poller::Poller;
-use crate::shared_table::{TableOwner, another_owner, new_table};
+use crate::shared_table::{TableOwner, new_table};
 use std::alloc::Global;
-use std::sync::Wait;
+use std::sync::{Arc, Wait};
 use std::time::{Clock, Duration};
 
 /// A poller over a [`Table`](crate::table::Table) that others share: other `Epoll`s, [`EventFd`](crate::eventfd::EventFd)s and
@@ -38,11 +38,9 @@ impl<R: Wait + Clock + Clone + Send + Drop> Epoll<R> {
     pub fn try_clone(&self) -> Result<Epoll<R>, Errno>
         ensures { IsOkUnless result Errno.ENOMEM }
     {
-        let table = another_owner(&self.table)?;
-        match self.rt.clone() {
-            Ok(rt) => Ok(Epoll { table, rt }),
-            Err(_) => Err(Errno::ENOMEM),
-        }
+        let table = Arc::try_clone(&self.table)?;
+        let rt = self.rt.clone()?;
+        Ok(Epoll { table, rt })
     }
 }
 

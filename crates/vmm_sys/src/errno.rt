@@ -1,8 +1,9 @@
 //! Error numbers of Linux.
 
-ghost use Rattle.std.specs.Prelude.{Some, codes, ◌++◌};
+ghost use Rattle.std.specs.Prelude.{◌≡◌, Some, codes, ◌++◌};
 ghost use Rattle.std.specs.Fmt.{signed_decimal};
 
+use std::alloc::AllocError;
 use std::fmt;
 
 /// An error number of Linux. Prints as `os error N`, N in decimal, with a `-` below 0. A caller's own poller may return any number.
@@ -48,3 +49,14 @@ impl fmt::Display for Errno {
 }
 
 impl std::error::Error for Errno {}
+
+/// `ENOMEM`.
+impl From<AllocError> for Errno {
+    ghost use Rattle.vmm_sys.specs.declared.errno.TheConstants.Errno.{ENOMEM};
+
+    ghost from_gives = { λ _ result. result ≡ ENOMEM };
+
+    fn from(_error: AllocError) -> Errno {
+        Errno::ENOMEM
+    }
+}

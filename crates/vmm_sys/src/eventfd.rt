@@ -6,8 +6,7 @@ use crate::description::{self, Handle, first_handle};
 use crate::descriptors::{AsRawFd, RawFd};
 use crate::epoll::Epoll;
 use crate::errno::Errno;
-use crate::shared_table::another_owner;
-use std::sync::Wait;
+use std::sync::{Arc, Wait};
 
 /// A counter in the table of an [`Epoll`], with values from 0 to 18446744073709551614. It stands in for Linux's `eventfd`, and
 /// never waits for its value. Each call is one step of the table, under its lock.
@@ -33,7 +32,7 @@ impl EventFd {
         ensures too_high { value ≡ 18446744073709551615 → IsErr result }
         ensures errors { IfErr result (IsOpeningError value) }
     {
-        let table = another_owner(&epoll.table)?;
+        let table = Arc::try_clone(&epoll.table)?;
         let fd = table.add_counter(value, rt)?;
         let handle = first_handle(table, fd, rt)?;
         Ok(EventFd { handle })
@@ -44,7 +43,7 @@ impl EventFd {
         ensures same_descriptor { IfOk result (λ other. descriptor_of other ≡ descriptor_of self.now) }
         ensures errors { IfErr result (λ e. e ≡ Errno.ENOMEM) }
     {
-        let handle = another_owner(&self.handle)?;
+        let handle = Arc::try_clone(&self.handle)?;
         Ok(EventFd { handle })
     }
 

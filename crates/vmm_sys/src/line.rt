@@ -7,8 +7,7 @@ use crate::descriptors::{AsRawFd, RawFd};
 use crate::epoll::Epoll;
 use crate::errno::Errno;
 use crate::event_set::EventSet;
-use crate::shared_table::another_owner;
-use std::sync::Wait;
+use std::sync::{Arc, Wait};
 
 /// A descriptor in the table of an [`Epoll`] whose state is set; it stands in for a socket or a pipe. Each call is one step of the
 /// table, under its lock. Its descriptor, its close and its drop are as those of an [`EventFd`](crate::eventfd::EventFd).
@@ -26,7 +25,7 @@ impl Line {
     pub fn new<R: Wait>(epoll: &Epoll<R>, rt: &R) -> Result<Line, Errno>
         ensures { IfErr result IsOpeningError }
     {
-        let table = another_owner(&epoll.table)?;
+        let table = Arc::try_clone(&epoll.table)?;
         let fd = table.add_line(rt)?;
         let handle = first_handle(table, fd, rt)?;
         Ok(Line { handle })
@@ -37,7 +36,7 @@ impl Line {
         ensures same_descriptor { IfOk result (λ other. descriptor_of other ≡ descriptor_of self.now) }
         ensures errors { IfErr result (λ e. e ≡ Errno.ENOMEM) }
     {
-        let handle = another_owner(&self.handle)?;
+        let handle = Arc::try_clone(&self.handle)?;
         Ok(Line { handle })
     }
 

@@ -53,10 +53,9 @@ impl ScriptPoller {
         ensures pushed { OnOk result (self.new ≡ with_answer self.old (scripted_answer answer)) }
         ensures unchanged { OnErr result (self.new ≡ self.old) }
     {
-        match self.answers.push_back(answer) {
-            Ok(()) => Ok(()),
-            Err(_) => Err(Errno::ENOMEM),
-        }
+        self.answers
+            .push_back(answer)
+            .map_err(|_refused| Errno::ENOMEM)
     }
 
     /// Appends a report, of any length, to the answers of later waits. `ENOMEM`: memory was refused, and the report is dropped.
@@ -88,10 +87,9 @@ impl ScriptPoller {
         ensures pushed { OnOk result (self.new ≡ with_refusal self.old op fd errno) }
         ensures unchanged { OnErr result (self.new ≡ self.old) }
     {
-        match self.refusals.push(Refusal { op, fd, errno }) {
-            Ok(()) => Ok(()),
-            Err(_) => Err(Errno::ENOMEM),
-        }
+        self.refusals
+            .push(Refusal { op, fd, errno })
+            .map_err(|_refused| Errno::ENOMEM)
     }
 
     fn place_of_refusal(&self, op: ControlOperation, fd: RawFd) -> Option<usize>

@@ -1,7 +1,6 @@
 //! A table that threads share: each call is one step under its lock.
 
 ghost use Rattle.std.specs.Prelude.{◌≡◌, ◌≤◌, ◌<◌, ◌≤ℤ◌, pos, length, IfOk, IsOkUnless};
-ghost use Rattle.std.specs.Arc.{arc_value};
 ghost use Rattle.vmm_sys.specs.Poller.{reported};
 ghost use Rattle.vmm_sys.specs.Table.{write_of, read_of, set_line_of, add_counter_of, add_line_of, close_of};
 ghost use Rattle.vmm_sys.specs.SharedTable.{AnswersOfSome, AnswersOfSomeWithMemory, Changed, Waited};
@@ -42,20 +41,7 @@ pub(crate) fn new_table(alloc: Global) -> Result<TableOwner, Errno>
         changed: Condvar::new(),
         alloc,
     };
-    match Arc::new(alloc, shared) {
-        Ok(owner) => Ok(owner),
-        Err(_) => Err(Errno::ENOMEM),
-    }
-}
-
-pub(crate) fn another_owner<T>(owner: &Arc<T, Global>) -> Result<Arc<T, Global>, Errno>
-    ensures same { IfOk result (λ other. arc_value other ≡ arc_value owner.now) }
-    ensures errors { IsOkUnless result Errno.ENOMEM }
-{
-    match Arc::try_clone(owner) {
-        Ok(copy) => Ok(copy),
-        Err(_) => Err(Errno::ENOMEM),
-    }
+    Arc::new(alloc, shared).map_err(|_refused| Errno::ENOMEM)
 }
 
 impl SharedTable {

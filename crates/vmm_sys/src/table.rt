@@ -177,15 +177,9 @@ impl Table {
             return Err(Errno::EMFILE);
         }
         // With the room for its interest an `Add` takes no memory, and with that for its mark a close takes none.
-        if self.sources.reserve(1).is_err() {
-            return Err(Errno::ENOMEM);
-        }
-        if self.closed.make_room(number + 1).is_err() {
-            return Err(Errno::ENOMEM);
-        }
-        if self.interests.make_room().is_err() {
-            return Err(Errno::ENOMEM);
-        }
+        self.sources.reserve(1)?;
+        self.closed.make_room(number + 1)?;
+        self.interests.make_room()?;
         self.sources.push_reserved(source);
         Ok(number as RawFd)
     }

@@ -30,8 +30,8 @@ invariant_of-self-2 c =
       rw (grown, more_marks.1) (marked-push xs closed c.self.invariant.6 c.args.source (closed ++ replicate more_marks.0 false) c.requires.open (same-marks closed more_marks.0)),
     )
 
-pub invariant_of-self-then-is_err-3 : goal.invariant_of-self-then-is_err-3
-invariant_of-self-then-is_err-3 c =
+pub invariant_of-self-in_err-make_room-2 : goal.invariant_of-self-in_err-make_room-2
+invariant_of-self-in_err-make_room-2 c =
     let xs = c.self.inside.sources.items in
     let old = c.self.inside.interests in
     let closed = c.self.inside.closed in
