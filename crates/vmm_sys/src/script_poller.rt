@@ -53,9 +53,7 @@ impl ScriptPoller {
         ensures pushed { OnOk result (self.new ≡ with_answer self.old (scripted_answer answer)) }
         ensures unchanged { OnErr result (self.new ≡ self.old) }
     {
-        self.answers
-            .push_back(answer)
-            .map_err(|_refused| Errno::ENOMEM)
+        self.answers.push_back(answer).map_err(|_| Errno::ENOMEM)
     }
 
     /// Appends a report, of any length, to the answers of later waits. `ENOMEM`: memory was refused, and the report is dropped.
@@ -87,9 +85,8 @@ impl ScriptPoller {
         ensures pushed { OnOk result (self.new ≡ with_refusal self.old op fd errno) }
         ensures unchanged { OnErr result (self.new ≡ self.old) }
     {
-        self.refusals
-            .push(Refusal { op, fd, errno })
-            .map_err(|_refused| Errno::ENOMEM)
+        let refusal = Refusal { op, fd, errno };
+        self.refusals.push(refusal).map_err(|_| Errno::ENOMEM)
     }
 
     fn place_of_refusal(&self, op: ControlOperation, fd: RawFd) -> Option<usize>

@@ -41,7 +41,7 @@ pub(crate) fn new_table(alloc: Global) -> Result<TableOwner, Errno>
         changed: Condvar::new(),
         alloc,
     };
-    Arc::new(alloc, shared).map_err(|_refused| Errno::ENOMEM)
+    Arc::new(alloc, shared).map_err(|_| Errno::ENOMEM)
 }
 
 impl SharedTable {
