@@ -249,10 +249,7 @@ impl<S: MutEventSubscriber + Drop, P: EventPoller> SubscriberOps for Registry<S,
     }
 
     fn subscriber(&self, id: SubscriberId) -> Result<&S> {
-        match self.subscribers.get(id.number()) {
-            Some(subscriber) => Ok(subscriber),
-            None => Err(Error::InvalidId),
-        }
+        self.subscribers.get(id.number()).ok_or(Error::InvalidId)
     }
 
     fn subscriber_mut(&mut self, id: SubscriberId) -> Result<&mut S> {

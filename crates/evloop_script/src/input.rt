@@ -20,8 +20,5 @@ pub fn read_text<I: Read>(alloc: Global, input: &mut I) -> Result<String, Fault>
         Err(error) if error.kind() == ErrorKind::OutOfMemory => return Err(Fault::OutOfMemory),
         Err(_) => return Err(Fault::CannotRead),
     }
-    match String::from_utf8(bytes) {
-        Ok(text) => Ok(text),
-        Err(_) => Err(Fault::CannotRead),
-    }
+    String::from_utf8(bytes).map_err(|_| Fault::CannotRead)
 }

@@ -98,10 +98,7 @@ impl<'a> Reader<'a> {
 
     // The place of a name that joined on an earlier line.
     fn place(&self, name: &'a str) -> Result<usize, LineError> {
-        match self.joins.get(&name) {
-            Some(place) => Ok(*place),
-            None => Err(LineError::Bad),
-        }
+        self.joins.get(&name).copied().ok_or(LineError::Bad)
     }
 
     // A name joins once.

@@ -80,10 +80,7 @@ fn is_stopped<N: NamedCounter, P: EventPoller>(
     manager: &TrackedManager<Stoppable, ActionOn<Change>, N, P>,
     id: SubscriberId,
 ) -> Result<bool> {
-    match manager.subscriber(id) {
-        Ok(subscriber) => Ok(subscriber.0.1),
-        Err(error) => Err(error),
-    }
+    Ok(manager.subscriber(id)?.0.1)
 }
 
 impl<R: Looping> LoopWithSenders<Stoppable, ActionOn<Change>, Caller, R> for Called {

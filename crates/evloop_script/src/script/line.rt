@@ -75,22 +75,19 @@ pub(super) fn read<'a>(alloc: Global, line: &'a str) -> Result<Line<'a>, LineErr
             name,
             requests: requests(alloc, rest)?,
         }),
-        ["on", name, fd, rest @ ..] if is_name(name) && !rest.is_empty() => match descriptor(fd) {
-            Some(fd) => Ok(Line::On {
-                name,
-                fd,
-                requests: requests(alloc, rest)?,
-            }),
-            None => Err(LineError::Bad),
-        },
+        ["on", name, fd, rest @ ..] if is_name(name) && !rest.is_empty() => Ok(Line::On {
+            name,
+            fd: descriptor(fd).ok_or(LineError::Bad)?,
+            requests: requests(alloc, rest)?,
+        }),
         ["drop", name] if is_name(name) => Ok(Line::Leave { name }),
         ["run"] => Ok(Line::Run),
         ["batch", items @ ..] => Ok(Line::Batch(events(alloc, items)?)),
         ["intr"] => Ok(Line::Interrupt),
-        ["refuse", operation, fd, errno] => match refusal(operation, fd, errno) {
-            Some(refusal) => Ok(Line::Refuse(refusal)),
-            None => Err(LineError::Bad),
-        },
+        ["refuse", operation, fd, errno] => {
+            let refusal = refusal(operation, fd, errno).ok_or(LineError::Bad)?;
+            Ok(Line::Refuse(refusal))
+        }
         _ => Err(LineError::Bad),
     }
 }
@@ -148,9 +145,7 @@ fn requests(alloc: Global, words: &[&str]) -> Result<Vec<Request>, LineError> {
     let mut requests = Vec::new(alloc);
     let mut at = 0;
     while at < words.len() {
-        let Some((request, count)) = leading_request(&words[at..]) else {
-            return Err(LineError::Bad);
-        };
+        let (request, count) = leading_request(&words[at..]).ok_or(LineError::Bad)?;
         requests.push(request)?;
         at += count;
     }
