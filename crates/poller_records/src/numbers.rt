@@ -16,21 +16,30 @@ pub(crate) fn natural(field: &str) -> Result<u64, LineFault>
     if field.starts_with('0') && field.len() > 1 {
         return Err(LineFault::BadNumber);
     }
-    field.parse().map_err(|_| LineFault::BadNumber)
+    match field.parse() {
+        Ok(number) => Ok(number),
+        Err(_) => Err(LineFault::BadNumber),
+    }
 }
 
 pub(crate) fn natural_32(field: &str) -> Result<u32, LineFault>
     ensures read { IfOk result (λ number. field.now ≡ decimal number) }
     ensures written { (number : ℕ) → number < 2 ^ 32 → field.now ≡ decimal number → result ≡ Ok number }
 {
-    u32::try_from(natural(field)?).map_err(|_| LineFault::BadNumber)
+    match u32::try_from(natural(field)?) {
+        Ok(number) => Ok(number),
+        Err(_) => Err(LineFault::BadNumber),
+    }
 }
 
 fn nonnegative(field: &str) -> Result<i32, LineFault>
     ensures read { IfOk result (λ number. field.now ≡ signed_decimal number) }
     ensures written { (number : ℕ) → number < 2 ^ 31 → field.now ≡ decimal number → result ≡ Ok (pos number) }
 {
-    i32::try_from(natural(field)?).map_err(|_| LineFault::BadNumber)
+    match i32::try_from(natural(field)?) {
+        Ok(number) => Ok(number),
+        Err(_) => Err(LineFault::BadNumber),
+    }
 }
 
 /// The number below 0 that has these digits behind its `-`.
