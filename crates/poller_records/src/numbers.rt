@@ -26,20 +26,14 @@ pub(crate) fn natural_32(field: &str) -> Result<u32, LineFault>
     ensures read { IfOk result (λ number. field.now ≡ decimal number) }
     ensures written { (number : ℕ) → number < 2 ^ 32 → field.now ≡ decimal number → result ≡ Ok number }
 {
-    match u32::try_from(natural(field)?) {
-        Ok(number) => Ok(number),
-        Err(_) => Err(LineFault::BadNumber),
-    }
+    u32::try_from(natural(field)?).map_err(|_| LineFault::BadNumber)
 }
 
 fn nonnegative(field: &str) -> Result<i32, LineFault>
     ensures read { IfOk result (λ number. field.now ≡ signed_decimal number) }
     ensures written { (number : ℕ) → number < 2 ^ 31 → field.now ≡ decimal number → result ≡ Ok (pos number) }
 {
-    match i32::try_from(natural(field)?) {
-        Ok(number) => Ok(number),
-        Err(_) => Err(LineFault::BadNumber),
-    }
+    i32::try_from(natural(field)?).map_err(|_| LineFault::BadNumber)
 }
 
 /// The number below 0 that has these digits behind its `-`.
