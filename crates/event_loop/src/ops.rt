@@ -28,9 +28,17 @@ pub struct EventOps<P> {
 fn answered_at(index: usize, answer: Result<()>) -> std::result::Result<(), RefusedRequest>
     ensures { result ≡ specified.answered_at index answer }
 {
-    match answer {
-        Ok(()) => Ok(()),
-        Err(error) => Err(RefusedRequest { index, error }),
+    answer.map_err(|error| RefusedRequest { index, error })
+}
+
+impl<P> EventOps<P> {
+    /// What is asked from now on, this subscriber asks.
+    #[inline(always)]
+    pub(crate) fn turn_to(&mut self, id: u64, place: usize)
+        ensures { self.new ≡ record self.old { id = id; place = place } }
+    {
+        self.id = id;
+        self.place = place;
     }
 }
 
@@ -52,17 +60,10 @@ impl<P: EventPoller> EventOps<P> {
         ensures { (calls : List PollerCall) × AreMadeThrough P.controls P.waits self.old self.new ((Request.AddWithPriority events priority, result) ∷ []) calls }
     {
         let epoll = &mut self.epoll;
-        match epoll.registrations.check_vacant(events) {
-            Ok(()) => {}
-            Err(e) => return Err(e),
-        }
-        match epoll
+        epoll.registrations.check_vacant(events)?;
+        epoll
             .registrations
-            .register(events, self.id, self.place, priority)
-        {
-            Ok(()) => {}
-            Err(e) => return Err(e),
-        }
+            .register(events, self.id, self.place, priority)?;
         match epoll.ctl(ControlOperation::Add, events) {
             Ok(()) => Ok(()),
             Err(e) => {

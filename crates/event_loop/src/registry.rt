@@ -119,8 +119,7 @@ impl<S: MutEventSubscriber, P: EventPoller> Registry<S, P> {
         let Some(subscriber) = self.subscribers.get_mut_at(owner.place, owner.id) else {
             return Some(ready_entry.is_endpoint);
         };
-        self.ops.id = owner.id;
-        self.ops.place = owner.place;
+        self.ops.turn_to(owner.id, owner.place);
         subscriber.process(Events::of_entry(&ready_entry.entry), &mut self.ops);
         Some(ready_entry.is_endpoint)
     }
@@ -203,8 +202,7 @@ impl<S: MutEventSubscriber, P: EventPoller> Registry<S, P> {
         let Some(held) = self.subscribers.get_mut_at(place, id) else {
             unreachable!()
         };
-        self.ops.id = id;
-        self.ops.place = place;
+        self.ops.turn_to(id, place);
         held.init(&mut self.ops);
         Ok(SubscriberId { number: id })
     }
@@ -262,8 +260,7 @@ impl<S: MutEventSubscriber + Drop, P: EventPoller> SubscriberOps for Registry<S,
     fn event_ops(&mut self, id: SubscriberId) -> Result<&mut EventOps<P>> {
         let id = id.number();
         if let Some(place) = self.subscribers.place_of(id) {
-            self.ops.id = id;
-            self.ops.place = place;
+            self.ops.turn_to(id, place);
             return Ok(&mut self.ops);
         }
         Err(Error::InvalidId)

@@ -22,6 +22,6 @@ returns-in_default-get_mut_at g c =
 pub returns : goal.returns
 returns g c =
     let ready_entry = c.in-Some.ensures in
-    let called = c.process.ensures in
+    let called = rw c.turn_to.ensures at c.process.ensures in
     served_position _ c.args.self.now _ _ _ ready_entry.0 c.next_ready.new.self c.in-Some-owner.owner.id c.in-Some-get_mut_at.subscriber.now c.process.new.self called.0 called.1
     (rw c.if-ready_entry.false at ready_entry.1) ready_entry.2 (ap owner_id (sym c.owner.ensures.value) ∙ ap found_id c.in-Some-owner.is) (sym c.in-Some-get_mut_at.ensures.value) (rw c.of_entry.ensures at called.2) called.3.made refl ready_entry.3

@@ -31,7 +31,7 @@ unreachable-requires g c =
 pub returns : goal.returns
 returns g c =
     let given = c.next_id-id.ensures.next in
-    let called = rw (c.in_ok-open.ensures, given) at c.init.ensures in
+    let called = rw (c.turn_to.ensures, c.in_ok-open.ensures, given) at c.init.ensures in
     let id = c.args.self.now.subscribers.next in
     let first = c.in_ok-place.ensures.ok in
     let found = rw given at c.in-Some.ensures.value in

@@ -10,7 +10,8 @@ some_of (Some x) e = (x, refl)
 
 pub returns-in-Some : goal.returns-in-Some
 returns-in-Some g c =
-    let held = some_of _ (rw c.number-id.ensures at c.in-Some.ensures) in (
+    let held = some_of _ (rw c.number-id.ensures at c.in-Some.ensures) in
+    rw c.turn_to.ensures (
       (refl, (λ w e. refl), tt),
       record {
         lent = tt;
