@@ -1,7 +1,7 @@
 use Rattle.vmm_sys.proofs.Prelude.{◌∙◌, ap, sym, arith, drop, set, map, ◌++◌, take_all, held}
 use Rattle.vmm_sys.specs.Table.{entry_of}
 use Rattle.vmm_sys.proofs.InPlace.{written, length_last}
-use Rattle.vmm_sys.proofs.table.report_from.Goals as goal
+use Rattle.vmm_sys.proofs.table.readiness.report_from.Goals as goal
 
 pub loop-at-preserved : goal.loop-at-preserved
 loop-at-preserved c =

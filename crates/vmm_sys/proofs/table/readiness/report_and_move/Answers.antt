@@ -2,7 +2,7 @@ use Rattle.vmm_sys.proofs.Prelude.{◌≡◌, ◌∙◌, ◌++◌, ap, sym, subs
 use Rattle.vmm_sys.specs.Table.{is_ready, entry_of, first_ready, first_ready_last}
 use Rattle.vmm_sys.proofs.Picks.{IsDone, done_by_room}
 use Rattle.vmm_sys.proofs.Walked.{Walked-start, Walked-more, picked, stays_in_use, done_by_marks, done_by_all}
-use Rattle.vmm_sys.proofs.table.report_and_move.Goals as goal
+use Rattle.vmm_sys.proofs.table.readiness.report_and_move.Goals as goal
 
 pub loop-count-init : goal.loop-count-init
 loop-count-init c = Walked-start (is_ready c.args.sources.now) (entry_of c.args.sources.now) c.leave_unused.new.self c.args.buffer.now (c.leave_unused.ensures.marks (is_ready c.args.sources.now) c.requires)

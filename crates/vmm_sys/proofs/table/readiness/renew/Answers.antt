@@ -1,7 +1,7 @@
 use Rattle.vmm_sys.proofs.Prelude.{◌≡◌, ◌∙◌, sym, Some, slot_at}
 use Rattle.vmm_sys.specs.Table.{is_ready}
 use Rattle.vmm_sys.proofs.SlotMarks.{fit-renew, fit-none}
-use Rattle.vmm_sys.proofs.table.renew.Goals as goal
+use Rattle.vmm_sys.proofs.table.readiness.renew.Goals as goal
 
 pub returns-in_default-clause-marks : goal.returns-in_default-clause-marks
 returns-in_default-clause-marks c = λ p h e. fit-none c.args.descriptor p (is_ready c.args.sources.now) c.args.interests.now.marks c.args.interests.now.slots h e c.in_default.ensures

@@ -1,7 +1,7 @@
 use Rattle.vmm_sys.proofs.Prelude.{◌≡◌, ℕ, ◌<◌, ◌≤◌, ◌+◌, ◌-◌, ◌∙◌, ◌++◌, ap, sym, subst, refl, length, drop, map, held, InterestsState, IsMarked}
 use Rattle.vmm_sys.specs.Table.{is_ready, entry_of, first_ready}
 use Rattle.vmm_sys.proofs.InPlace.{StandLast, done_in_place}
-use Rattle.vmm_sys.proofs.table.report.Goals as goal
+use Rattle.vmm_sys.proofs.table.readiness.report.Goals as goal
 
 stand-last : (c : goal.After-buffer-1) → StandLast (is_ready c.args.sources.now) c.args.interests.now c.in-Some.first
 stand-last c = record {
