@@ -10,8 +10,8 @@ use Rattle.std.proofs.lemmas.Grind.{common_steps}
 use Rattle.vmm_sys.specs.declared.errno.Errno.{Errno}
 use Rattle.vmm_sys.specs.declared.errno.TheConstants.Errno.{EMFILE}
 use Rattle.vmm_sys.specs.declared.event_set.EventSet.{EventSet}
-use Rattle.vmm_sys.specs.declared.table.Source.{Source}
-use Rattle.vmm_sys.specs.declared.table.Source.TheVariants.{Counter, Line, Closed}
+use Rattle.vmm_sys.specs.declared.table.source.Source.{Source}
+use Rattle.vmm_sys.specs.declared.table.source.Source.TheVariants.{Counter, Line, Closed}
 use Rattle.vmm_sys.specs.EventSet.{with_bits}
 use Rattle.vmm_sys.specs.Table.{TableState, Answers, AnswersWithMemory, is_open, first_closed, open_at, add_line_of, close_at, close_of, set_at, set_line_of}
 use Rattle.timerfd.specs.declared.timer.Timer.{Timer}

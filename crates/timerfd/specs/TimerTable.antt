@@ -4,8 +4,8 @@ use Rattle.std.specs.List.{All}
 use Rattle.vmm_sys.specs.declared.errno.Errno.{Errno}
 use Rattle.vmm_sys.specs.declared.errno.TheConstants.Errno.{EMFILE, ENOMEM}
 use Rattle.vmm_sys.specs.declared.event_set.EventSet.{EventSet}
-use Rattle.vmm_sys.specs.declared.table.Source.{Source}
-use Rattle.vmm_sys.specs.declared.table.Source.TheVariants.{Line, Closed}
+use Rattle.vmm_sys.specs.declared.table.source.Source.{Source}
+use Rattle.vmm_sys.specs.declared.table.source.Source.TheVariants.{Line, Closed}
 use Rattle.vmm_sys.specs.declared.table.interests.Interest.{Interest}
 use Rattle.vmm_sys.specs.EventSet.{with_bits}
 use Rattle.vmm_sys.specs.Table.{TableState, IsReachable, is_open, first_closed, moved_back}

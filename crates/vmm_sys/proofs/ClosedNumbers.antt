@@ -1,7 +1,7 @@
 -- What opens and closes do to the sources and to the marks of closed numbers; and the lowest of these.
 use Rattle.vmm_sys.proofs.Prelude.{◌≡◌, ◌≢◌, ℕ, zero, suc, ◌<◌, ◌≤◌, Bool, true, false, not, inl, inr, List, [], ◌∷◌, ◌++◌, length, get_or, set, replicate, refl, ap, ◌∙◌, sym, subst, arith, Option, Some, None, MatchOption, position, cases_eq, cases_Bool, eq-eqb, eqb-true, false≢true, none-some, get_or-set_same, get_or-set_other, slice_get, get_or_from_slice_get, NoneFrom, IsFirstFrom, IsMarked}
 use Rattle.std.proofs.lemmas.Option.{slice_get_past}
-use Rattle.vmm_sys.specs.declared.table.Source.{Source}
+use Rattle.vmm_sys.specs.declared.table.source.Source.{Source}
 use Rattle.vmm_sys.specs.declared.table.interests.Interest.{Interest}
 use Rattle.vmm_sys.specs.Table.{IsOpen, is_open, is_closed, is_of}
 use Rattle.vmm_sys.specs.ClosedNumbers.{was_closed, AreMarkedClosed}

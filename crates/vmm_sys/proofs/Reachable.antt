@@ -6,8 +6,8 @@ use Rattle.std.proofs.lemmas.List.Elements.{All-push, All-set, All-weaker, All-t
 use Rattle.std.proofs.lemmas.List.Sorted.{IsPermutation-refl, IsPermutation-sym, IsPermutation-cons, IsPermutation-trans, IsPermutation-middle, IsPermutation-remove, All-permutation, sum_by-IsPermutation}
 use Rattle.std.proofs.lemmas.List.Sums.{sum_by-cons, sum_by-append, sum_by-set, sum_by-remove}
 use Rattle.vmm_sys.specs.declared.entries.ControlOperation.TheVariants.{Add}
-use Rattle.vmm_sys.specs.declared.table.Source.{Source}
-use Rattle.vmm_sys.specs.declared.table.Source.TheVariants.{Closed}
+use Rattle.vmm_sys.specs.declared.table.source.Source.{Source}
+use Rattle.vmm_sys.specs.declared.table.source.Source.TheVariants.{Closed}
 use Rattle.vmm_sys.specs.declared.table.interests.Interest.{Interest}
 use Rattle.vmm_sys.specs.Table.{TableState, IsReachable, HasAllowedValue, IsOpen, is_open, is_closed, is_of, is_ready, has_mode, place_of, moved_back}
 use Rattle.vmm_sys.proofs.Places.{At, At-from_position, position-from_At, at-passes}

@@ -1,7 +1,7 @@
 -- Whether an interest is ready depends on the state of its descriptor alone.
 use Rattle.vmm_sys.proofs.Prelude.{◌≡◌, ◌≢◌, ℕ, zero, suc, List, [], ◌∷◌, ◌++◌, length, set, inl, inr, refl, ap, ◌∙◌, sym, Some, slice_get, not, ◌==◌, cases_eq, AgreeBut}
 use Rattle.std.specs.Int.RustNames.{bit_and, bit_or}
-use Rattle.vmm_sys.specs.declared.table.Source.{Source}
+use Rattle.vmm_sys.specs.declared.table.source.Source.{Source}
 use Rattle.vmm_sys.specs.declared.table.interests.Interest.{Interest}
 use Rattle.vmm_sys.specs.EventSet.{bits_of}
 use Rattle.vmm_sys.specs.EpollEvent.{set_of}

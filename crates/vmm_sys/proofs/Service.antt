@@ -7,8 +7,8 @@ use Rattle.vmm_sys.specs.declared.entries.ControlOperation.{ControlOperation}
 use Rattle.vmm_sys.specs.declared.entries.ControlOperation.TheVariants.{Add, Modify, Delete}
 use Rattle.vmm_sys.specs.declared.event_set.EventSet.{EventSet}
 use Rattle.vmm_sys.specs.declared.errno.Errno.{Errno}
-use Rattle.vmm_sys.specs.declared.table.Source.{Source}
-use Rattle.vmm_sys.specs.declared.table.Source.TheVariants.{Counter, Line, Closed}
+use Rattle.vmm_sys.specs.declared.table.source.Source.{Source}
+use Rattle.vmm_sys.specs.declared.table.source.Source.TheVariants.{Counter, Line, Closed}
 use Rattle.vmm_sys.specs.declared.table.interests.Interest.{Interest}
 use Rattle.vmm_sys.specs.EventSet.{with_bits}
 use Rattle.vmm_sys.specs.EpollEvent.{event}

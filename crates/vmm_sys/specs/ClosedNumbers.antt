@@ -1,6 +1,6 @@
 -- The numbers that were closed, in a row of marks.
 use Rattle.std.specs.Prelude.{ℕ, ◌≡◌, Bool, false, List, Option, Some, None, slice_get, slice_index_or}
-use Rattle.vmm_sys.specs.declared.table.Source.{Source}
+use Rattle.vmm_sys.specs.declared.table.source.Source.{Source}
 use Rattle.vmm_sys.specs.Table.{is_closed}
 
 -- whether what is found at a number was closed

@@ -8,8 +8,8 @@ use Rattle.vmm_sys.specs.declared.entries.ControlOperation.TheVariants.{Add, Mod
 use Rattle.vmm_sys.specs.declared.event_set.EventSet.{EventSet}
 use Rattle.vmm_sys.specs.declared.errno.Errno.{Errno}
 use Rattle.vmm_sys.specs.declared.errno.TheConstants.Errno.{EBADF, EINVAL, EEXIST, ENOENT, EAGAIN, EMFILE, ENOMEM}
-use Rattle.vmm_sys.specs.declared.table.Source.{Source}
-use Rattle.vmm_sys.specs.declared.table.Source.TheVariants.{Counter, Line, Closed}
+use Rattle.vmm_sys.specs.declared.table.source.Source.{Source}
+use Rattle.vmm_sys.specs.declared.table.source.Source.TheVariants.{Counter, Line, Closed}
 use Rattle.vmm_sys.specs.declared.table.interests.Interest.{Interest}
 use Rattle.vmm_sys.specs.EventSet.{bits_of, with_bits}
 use Rattle.vmm_sys.specs.EpollEvent.{event, set_of, word_of}

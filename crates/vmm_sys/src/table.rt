@@ -2,17 +2,17 @@
 
 ghost use Rattle.std.specs.Prelude.{false, true, not, ◌≡◌, ◌<◌, ◌≤◌, ◌+◌, ◌-◌, ◌^◌, List, length, ◌++◌, drop, find, map, slice_set, Some, None, IsSome, IfSome, is_some};
 ghost use Rattle.std.specs.List.{All};
-ghost use Rattle.vmm_sys.specs.EventSet.{bits_of};
-ghost use Rattle.vmm_sys.specs.Table.{new_table, state_of, is_ready, entry_of as entry_in, opened, source_of as source_in, with_source, place_of as place_in, changed, has_mode, Answers, AnswersWithMemory, IsReachable, HasAllowedValue, IsOpen, is_open, is_closed, first_closed, without, close_of, ctl_of, wait_of, write_of, read_of, set_line_of, open_of, add_counter_of, add_line_of, filled, counted, chosen, moved_back};
+ghost use Rattle.vmm_sys.specs.Table.{new_table, is_ready, entry_of as entry_in, opened, source_of as source_in, with_source, place_of as place_in, changed, has_mode, Answers, AnswersWithMemory, IsReachable, HasAllowedValue, IsOpen, is_open, is_closed, first_closed, without, close_of, ctl_of, wait_of, write_of, read_of, set_line_of, open_of, add_counter_of, add_line_of, filled, counted, chosen, moved_back};
 ghost use Rattle.vmm_sys.specs.Lists.{held};
 ghost use Rattle.vmm_sys.specs.Interests.{AreMarked};
-ghost use Rattle.vmm_sys.specs.declared.table.Source.TheVariants.{Closed};
+ghost use Rattle.vmm_sys.specs.declared.table.source.Source.TheVariants.{Closed};
 ghost use Rattle.vmm_sys.specs.ServiceBound.{Ctl, Wait, Close, MovesForward, EachStepMovesForward, ReportedWithinRooms, ReportedWithinWaits};
 ghost use Rattle.vmm_sys.specs.TablePoller.{table_code, MayCtl, MayWait};
 
 mod interests;
 mod number_set;
 mod readiness;
+mod source;
 
 use crate::descriptors::RawFd;
 use crate::entries::{ControlOperation, EpollEvent};
@@ -23,59 +23,13 @@ pub use interests::Interest;
 use interests::Interests;
 use number_set::NumberSet;
 use readiness::{is_ready, modify, renew, report};
+use source::HIGHEST;
+pub use source::Source;
 use std::alloc::Global;
 use std::marker::Model;
 
-/// The highest value of a counter.
-const HIGHEST: u64 = 18446744073709551614;
-
 /// The most descriptors of a table, numbered by an `i32` from 0 up.
 const DESCRIPTORS: usize = 2147483648;
-
-/// What a descriptor of a [`Table`] stands for; the contracts of the table speak of it.
-#[derive(Clone, Copy)]
-pub enum Source {
-    /// A number from 0 to 18446744073709551614 that is written to and read.
-    Counter(u64),
-    /// A set of events, which [`Table::set_line`] sets.
-    Line(EventSet),
-    /// Nothing: the number was closed.
-    Closed,
-}
-
-impl Source {
-    fn state(&self) -> EventSet
-        ensures { bits_of result ≡ state_of self.now }
-    {
-        match *self {
-            Source::Counter(value) => {
-                let read = if value > 0 {
-                    EventSet::IN
-                } else {
-                    EventSet::empty()
-                };
-                let write = if value < HIGHEST {
-                    EventSet::OUT
-                } else {
-                    EventSet::empty()
-                };
-                read.union(write)
-            }
-            Source::Line(set) => set,
-            Source::Closed => EventSet::empty(),
-        }
-    }
-
-    fn is_open(&self) -> bool
-        ensures { result ≡ not (is_closed self.now) }
-    {
-        match self {
-            Source::Counter(_) => true,
-            Source::Line(_) => true,
-            Source::Closed => false,
-        }
-    }
-}
 
 /// Descriptors, each a counter or a line, and a list of interests in them; it stands in for Linux's `epoll`.
 ///

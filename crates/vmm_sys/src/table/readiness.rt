@@ -6,8 +6,8 @@ ghost use Rattle.vmm_sys.specs.Table.{state_at, is_ready, entry_of as entry_in, 
 ghost use Rattle.vmm_sys.specs.Lists.{held};
 ghost use Rattle.vmm_sys.specs.Interests.{slot_at, Holds, AreMarked, AgreeBut};
 
-use super::Source;
 use super::interests::{Interest, Interests};
+use super::source::Source;
 use crate::entries::EpollEvent;
 use crate::event_set::EventSet;
 

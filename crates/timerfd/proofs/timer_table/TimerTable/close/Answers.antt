@@ -1,6 +1,6 @@
 use Rattle.std.proofs.lemmas.Int.{to_z-of_z}
 use Rattle.std.proofs.Common.{refl}
-use Rattle.vmm_sys.specs.declared.table.Source.TheVariants.{Closed}
+use Rattle.vmm_sys.specs.declared.table.source.Source.TheVariants.{Closed}
 use Rattle.timerfd.specs.Timer.{closed}
 use Rattle.timerfd.proofs.Lines.{line_closed, tied_set}
 use Rattle.timerfd.proofs.timer_table.TimerTable.close.Goals as goal

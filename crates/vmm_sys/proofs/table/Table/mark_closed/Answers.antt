@@ -1,5 +1,5 @@
 use Rattle.vmm_sys.proofs.Prelude.{◌≡◌, ◌<◌, arith, true, length, set, length-set, None, held, refl, sym, subst}
-use Rattle.vmm_sys.specs.declared.table.Source.TheVariants.{Closed}
+use Rattle.vmm_sys.specs.declared.table.source.Source.TheVariants.{Closed}
 use Rattle.vmm_sys.specs.Table.{TableState, IsOpen, is_ready, place_of}
 use Rattle.vmm_sys.proofs.ClosedNumbers.{open-within, marked-set}
 use Rattle.vmm_sys.proofs.Reachable.{reachable-close}
